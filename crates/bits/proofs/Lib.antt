@@ -1,0 +1,7 @@
+pub mod Values
+pub mod Fields
+pub mod Bytes
+pub mod Answers
+pub mod Cuts
+pub mod Ilogs
+pub mod Signeds

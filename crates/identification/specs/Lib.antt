@@ -1,0 +1,3 @@
+pub mod Identification
+pub mod Answers
+pub mod Sound

@@ -1,0 +1,39 @@
+-- Laws of outcomes: one value or one refusal, never both. Assumes nothing.
+use Prim.Native.Nat.{ℕ}
+use mathlib.Core.Bool.{Bool, true, false}
+use mathlib.Core.List.{List}
+use mathlib.Core.Path.{_≡_, refl, _∙_}
+use native.Mathlib.Omega.{arith}
+use Rattle.reading.specs.Outcome.{Refusal, refusal, Outcome, ok, bad, then, need}
+use Rattle.reading.specs.Reader.{Reader, judged}
+
+module _ {A : Type 0} where
+  pub same-ok : (o : Outcome A) {a b : A} → o ≡ ok a → o ≡ ok b → a ≡ b
+  same-ok o p q = cc
+
+  pub same-bad : (o : Outcome A) {y z : Refusal} → o ≡ bad y → o ≡ bad z → y ≡ z
+  same-bad o p q = cc
+
+  pub not-both : (o : Outcome A) {a : A} {z : Refusal} → o ≡ ok a → o ≡ bad z → ⊥
+  not-both o p q = let e : _≡_ {A = ℕ} 0 1 = cc in omega arith
+
+-- a chain that came to a value: each of its steps did
+pub then-ok : {A B : Type 0} (o : Outcome A) (f : A → Outcome B) {b : B} → then o f ≡ ok b → (a : A) × (o ≡ ok a) × (f a ≡ ok b)
+then-ok (ok a) f e = (a, refl, e)
+then-ok (bad z) f e = let x : _≡_ {A = ℕ} 0 1 = cc in absurd (omega arith)
+
+pub need-ok : {A : Type 0} (t : Bool) (z : Refusal) (o : Outcome A) {a : A} → need t z o ≡ ok a → (t ≡ true) × (o ≡ ok a)
+need-ok true z o e = (refl, e)
+need-ok false z o e = let x : _≡_ {A = ℕ} 0 1 = cc in absurd (omega arith)
+
+-- a judged number that was accepted: it was read, and it passed
+pub judged-ok : (test : ℕ → Bool) (number : ℕ) (r : Reader ℕ) (p : List ℕ) (k : ℕ) {x : ℕ × ℕ} → judged test number r p k ≡ ok x
+    → (r p k ≡ ok x) × (test (x .0) ≡ true)
+judged-ok test number r p k {x} e = go (r p k) refl e
+  where
+    go : (o : Outcome (ℕ × ℕ)) → r p k ≡ o → then o (λ y. need (test (y .0)) (refusal number k) (ok y)) ≡ ok x → (r p k ≡ ok x) × (test (x .0) ≡ true)
+    go (ok y) q f =
+        let n = need-ok (test (y .0)) (refusal number k) (ok y) f in
+        let same : y ≡ x = cc in
+        (q ∙ n .1, rw same at (n .0))
+    go (bad z) q f = let c : _≡_ {A = ℕ} 0 1 = cc in absurd (omega arith)

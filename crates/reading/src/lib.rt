@@ -1,0 +1,1 @@
+// The library for readers of content: definitions in specs/, laws in proofs/.
