@@ -1,3 +1,5 @@
 pub mod Outcome
 pub mod Reader
 pub mod Pad
+pub mod Least
+pub mod Tabulate

@@ -1,1 +1,2 @@
-// The library for readers of content: definitions in specs/, laws in proofs/.
+// What every reader of content shares. The definitions are in specs/, their laws in proofs/.
+pub mod buffers; // total functions on lent buffers: clear, put, get
