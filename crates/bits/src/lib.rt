@@ -31,6 +31,13 @@ pub enum Field {
     Refused(Refusal),
 }
 
+// What reading comes to where the values go elsewhere: into lent buffers, or beside it in a struct.
+pub enum Step {
+    // The position to go on from.
+    Next(Cursor),
+    Refused(Refusal),
+}
+
 impl Cursor {
     // The first bit of a packet.
     pub fn start() -> Self

@@ -5,3 +5,4 @@ pub mod Count
 pub mod Least
 pub mod Lent
 pub mod Tabulate
+pub mod Tables

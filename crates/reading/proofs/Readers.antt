@@ -52,3 +52,18 @@ module _ {A : Type 0} where
   unfolding many
   many-long r zero p k = refl
   many-long r (suc n) p k = long-then n (r p k) (λ j. many r n p j) (λ j. many-long r n p j)
+
+-- what is known of a reading whose value went through f
+module _ {A B : Type 0} (f : A → B) where
+  pub mapped-bad : (o : Outcome (A × ℕ)) {z : Refusal} → mapped f o ≡ bad z → o ≡ bad z
+  unfolding mapped
+  mapped-bad (ok x) e = let n : _≡_ {A = ℕ} 0 1 = cc in absurd (omega arith)
+  mapped-bad (bad y) e = cc
+
+  pub mapped-ok : (o : Outcome (A × ℕ)) {b : B} {k : ℕ} → mapped f o ≡ ok (b, k) → (a : A) × (o ≡ ok (a, k)) × (f a ≡ b)
+  unfolding mapped
+  mapped-ok (ok x) {b} {k} e =
+      let p : _≡_ {A = B × ℕ} (f (x .0), x .1) (b, k) = cc in
+      let q : x .1 ≡ k = ap (λ (y : B × ℕ). y .1) p in
+      (x .0, (λ j. ok (x .0, q j)), ap (λ (y : B × ℕ). y .0) p)
+  mapped-ok (bad y) e = let n : _≡_ {A = ℕ} 0 1 = cc in absurd (omega arith)

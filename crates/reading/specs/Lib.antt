@@ -3,3 +3,5 @@ pub mod Reader
 pub mod Pad
 pub mod Least
 pub mod Tabulate
+pub mod Lists
+pub mod Table

@@ -1,0 +1,45 @@
+-- Laws of filling a buffer row by row. Assumes nothing.
+use Prim.Native.Nat.{ℕ, zero, suc, _+_, _-_, _≤_, _<_}
+use native.Mathlib.Nat.{add-zero, add-suc, zero-add}
+use native.Mathlib.Numerals.{add-one}
+use native.Mathlib.Omega.{arith}
+use mathlib.Core.List.{List, [], _∷_, _++_, append-nil, append-assoc}
+use mathlib.Core.Path.{_≡_, refl, sym, ap, _∙_}
+use lib.ListN.{length, set, replicate, length-append}
+use lib.Seq.{sets}
+use Rattle.reading.specs.Pad.{pad}
+use Rattle.reading.specs.Reader.{puts}
+use Rattle.reading.specs.Lists.{rows}
+use Rattle.reading.specs.Table.{Table, table, putRow}
+use Rattle.reading.proofs.Pads.{pad-set, pad-nil}
+
+-- one run of stores and then another
+pub sets-append : (xs ys l : List ℕ) (i : ℕ) → sets l i (xs ++ ys) ≡ sets (sets l i xs) (i + length xs) ys
+sets-append [] ys l i = rw add-zero
+sets-append (x ∷ xs) ys l i = let e : i + suc (length xs) ≡ suc i + length xs = omega arith in rw e (sets-append xs ys (set l i x) (suc i))
+
+-- one store more at the end of a run
+pub sets-more : (xs l : List ℕ) (i v : ℕ) → set (sets l i xs) (i + length xs) v ≡ sets l i (xs ++ (v ∷ []))
+sets-more xs l i v = sym (sets-append xs (v ∷ []) l i)
+
+-- a run stored behind what is there appends
+pub sets-pad : (n : ℕ) (ys xs : List ℕ) (i : ℕ) → i ≡ length xs → sets (pad n xs) i ys ≡ pad n (xs ++ ys)
+sets-pad n [] xs i e = rw append-nil
+sets-pad n (y ∷ ys) xs i e =
+    ap (λ (l : List ℕ). sets l (suc i) ys) (pad-set n xs i y e)
+    ∙ sets-pad n ys (xs ++ (y ∷ [])) (suc i) (simp length-append (omega arith))
+    ∙ ap (pad n) (append-assoc xs (y ∷ []) ys)
+
+-- a run stored from the front of a cleared buffer
+pub sets-cleared : (n : ℕ) (ys : List ℕ) → sets (replicate n 0) 0 ys ≡ pad n ys
+sets-cleared n ys = ap (λ (l : List ℕ). sets l 0 ys) (sym (pad-nil n)) ∙ sets-pad n ys [] 0 refl
+
+-- the rows of many items, put one after the other, are one run
+module _ {A : Type 0} (row : A → List ℕ) where
+  pub puts-rows : (items : List A) (l : List ℕ) (i : ℕ) → puts (putRow row) items (table l i) ≡ table (sets l i (rows row items)) (i + length (rows row items))
+  unfolding puts putRow rows
+  puts-rows [] l i = rw add-zero
+  puts-rows (a ∷ items) l i =
+      let e : i + length (row a) + length (rows row items) ≡ i + length (row a ++ rows row items) = simp length-append (omega arith) in
+      puts-rows items (sets l i (row a)) (i + length (row a))
+      ∙ (λ j. table (sym (sets-append (row a) (rows row items) l i) j) (e j))
