@@ -1,0 +1,77 @@
+use Prim.Native.Nat.{_<_, _-_}
+use lib.ListN.{length}
+use borrow.Author.Needs.{needs}
+use Rattle.reading.proofs.Tables.{Writing, writing}
+use Rattle.reading.proofs.buffers.write_u32.Statement.{statement}
+use Rattle.reading.proofs.buffers.write_u32.Tie as tie
+use Rattle.reading.proofs.buffers.write_u32.Reads as reads
+use Rattle.reading.proofs.buffers.write_u32.Lts as lts
+use Rattle.reading.proofs.buffers.put_u32.Reads as put-u32-reads
+
+abbrev Inv-loop : tie.InvT-loop
+Inv-loop buffer₀ at values i₀ buffer i = (at < length buffer₀) × Writing buffer₀ at values buffer i
+
+abbrev μ-loop : tie.MeasureT-loop
+μ-loop buffer₀ at values i₀ buffer i = length values - i
+
+-- src/buffers.rt:145:9
+returns : tie.Need-returns Inv-loop μ-loop
+returns c = search writing
+
+-- src/buffers.rt:148:5
+loop-holds : tie.Need-loop-holds Inv-loop μ-loop
+loop-holds c = search writing
+
+-- src/buffers.rt:149:25
+add-put-u32 : tie.Need-add-put-u32 Inv-loop μ-loop
+add-put-u32 c = search needs
+
+-- src/buffers.rt:149:33
+mul-put-u32 : tie.Need-mul-put-u32 Inv-loop μ-loop
+mul-put-u32 c = search needs
+
+-- src/buffers.rt:149:33
+shared-slice-read-put-u32 : tie.Need-shared-slice-read-put-u32 Inv-loop μ-loop
+shared-slice-read-put-u32 c = search needs
+
+-- src/buffers.rt:149:9
+put-u32-requires : tie.Need-put-u32-requires Inv-loop μ-loop
+put-u32-requires c κs = search needs
+
+-- src/buffers.rt:150:9
+add-i : tie.Need-add-i Inv-loop μ-loop
+add-i c = search needs
+
+-- src/buffers.rt:148:5
+loop-less : tie.Need-loop-less Inv-loop μ-loop
+loop-less c = search needs
+
+-- src/buffers.rt:148:5
+loop-again : tie.Need-loop-again Inv-loop μ-loop
+loop-again c = search writing
+
+-- src/buffers.rt:141:1
+same-length : tie.Need-same-length Inv-loop μ-loop
+same-length c = search writing
+
+-- src/buffers.rt:141:1
+returns-2 : tie.Need-returns-2 Inv-loop μ-loop
+returns-2 c = search writing
+
+pub write-u32-spec : {M : Type 1} → statement M
+write-u32-spec =
+    tie.close
+    (tie.spec
+    Inv-loop
+    μ-loop
+    returns
+    loop-holds
+    add-put-u32
+    mul-put-u32
+    shared-slice-read-put-u32
+    put-u32-requires
+    add-i
+    loop-less
+    loop-again
+    same-length
+    returns-2)
