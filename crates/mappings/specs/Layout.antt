@@ -1,0 +1,22 @@
+-- A mapping's row in the table of mappings: 804 numbers of 8 bits. docs/TABLES.md draws it.
+-- The number of coupling steps, 0 to 256, takes two places. A multiplex number stands plus one, so that 0 is none and one content has one
+-- row; the channels themselves are not in it.
+use Prim.Native.Nat.{ℕ, suc, _/_, _%_}
+use mathlib.Core.List.{List, [], _∷_, _++_, map}
+use lib.ListN.{length}
+use Rattle.reading.specs.Pad.{pad}
+use Rattle.reading.specs.Lists.{rows}
+use Rattle.mappings.specs.Content.{Coupling, Submap, Mapping}
+
+unfoldable pub couplingRow : Coupling → List ℕ
+couplingRow c = c .magnitude ∷ c .angle ∷ []
+
+unfoldable pub submapRow : Submap → List ℕ
+submapRow m = m .floor ∷ m .residue ∷ []
+
+-- 4 counts (the last is a place of zero, so that a row is 804 wide and its parts begin at even places), 512 places for coupling steps,
+-- 256 for the multiplex, 32 for submaps
+unfoldable pub mappingRow : Mapping → List ℕ
+mappingRow m =
+    (length (m .couplings) % 256 ∷ length (m .couplings) / 256 ∷ length (m .submaps) ∷ 0 ∷ [])
+    ++ (pad 512 (rows couplingRow (m .couplings)) ++ (pad 256 (map suc (m .multiplex)) ++ pad 32 (rows submapRow (m .submaps))))

@@ -1,0 +1,7 @@
+-- A mode's row in the table of modes: 2 numbers. docs/TABLES.md draws it.
+use Prim.Native.Nat.{ℕ}
+use mathlib.Core.List.{List, [], _∷_}
+use Rattle.modes.specs.Content.{Mode}
+
+unfoldable pub modeRow : Mode → List ℕ
+modeRow m = m .blockflag ∷ m .mapping ∷ []

@@ -1,0 +1,1 @@
+// Modes in a setup packet: what one is, its rules, its row in the tables, reading it.
