@@ -4,11 +4,12 @@ use Prim.Native.Nat.{ℕ, _+_, _-_, _≤_, _<_}
 use native.Mathlib.Nat.{sub-zero}
 use native.Mathlib.Omega.{arith}
 use mathlib.Core.List.{List}
+use lib.ListN.{length, getD, drop}
 use mathlib.Core.Path.{_≡_, refl, sym, ap, _∙_}
 use Rattle.reading.specs.Outcome.{Outcome, ok, bad, then}
 use Rattle.reading.specs.Outcome as O
-use Rattle.reading.specs.Reader.{Reader, many, mapped, into, into1}
-use Rattle.reading.proofs.Readers.{many-done, many-bad, many-next, mapped-bad, mapped-ok}
+use Rattle.reading.specs.Reader.{Reader, many, each, mapped, into, into1}
+use Rattle.reading.proofs.Readers.{many-done, many-bad, many-next, each-done, each-bad, each-next, mapped-bad, mapped-ok}
 use Rattle.bits.specs.declared.Cursor.{Cursor}
 use Rattle.bits.specs.declared.Refusal.{Refusal}
 use Rattle.bits.specs.declared.Step.{Step}
@@ -80,3 +81,29 @@ module _ {A T : Type 0} (w : A → T → T) (r : Reader A) (s : List ℕ) (n : �
   pub loop-start : (c : Cursor) (t : T) → W ≡ into w (many r n s (position c)) t → Rest 0 c t
   unfolding Rest
   loop-start c t e = rw sub-zero (sym e)
+
+-- the same for a loop over a list, of which i items are done. d stands for an item past its end
+module _ {A B T : Type 0} (d : B) (w : A → T → T) (r : B → Reader A) (s : List ℕ) (l : List B) (W : Outcome (T × ℕ)) where
+  unfoldable pub EachRest : ℕ → Cursor → T → Type 0
+  EachRest i c t = into w (each r (drop i l) s (position c)) t ≡ W
+
+  module _ (i : ℕ) (c : Cursor) (t : T) (rest : EachRest i c t) where
+    pub each-loop-done : length l ≤ i → Wrote W (Next c) t
+    unfolding EachRest
+    each-loop-done h = wrote-next (sym rest ∙ each-done d w r l i s (position c) t h)
+
+    module _ (h : i < length l) {st : Step} {t′ : T} (one : Wrote (into1 w (r (getD l i d) s (position c)) t) st t′) where
+      pub each-loop-refused : {z : Refusal} → st ≡ Refused z → (u : T) → Wrote W (Refused z) u
+      unfolding EachRest into1
+      each-loop-refused {z} q u =
+          wrote-refused u (sym rest ∙ each-bad d w r l i s (position c) t h (refusalOf z) (mapped-bad (λ a. w a t) (r (getD l i d) s (position c)) (wrote-bad one q)))
+
+      pub each-loop-next : {c′ : Cursor} → st ≡ Next c′ → EachRest (i + 1) c′ t′
+      unfolding EachRest into1
+      each-loop-next {c′} q =
+          let m = mapped-ok (λ a. w a t) (r (getD l i d) s (position c)) (wrote-ok one q) in
+          rw (← m .2) (sym (each-next d w r l i s (position c) t h (m .0, position c′) (m .1)) ∙ rest)
+
+  pub each-loop-start : (c : Cursor) (t : T) → W ≡ into w (each r l s (position c)) t → EachRest 0 c t
+  unfolding EachRest
+  each-loop-start c t e = sym e

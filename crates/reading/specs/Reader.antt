@@ -19,6 +19,11 @@ module _ {A : Type 0} where
   many r (suc n) p k = then (r p k) (λ x. then (many r n p (x .1)) (λ y. ok (x .0 ∷ y .0, y .1)))
 
 module _ {A B : Type 0} where
+  -- for each item of a list what r reads with it, one after the other
+  unfoldable pub each : (B → Reader A) → List B → Reader (List A)
+  each r [] p k = ok ([], k)
+  each r (b ∷ l) p k = then (r b p k) (λ x. then (each r l p (x .1)) (λ y. ok (x .0 ∷ y .0, y .1)))
+
   -- what was read, under f; the position stays
   unfoldable pub mapped : (A → B) → Outcome (A × ℕ) → Outcome (B × ℕ)
   mapped f (ok x) = ok (f (x .0), x .1)

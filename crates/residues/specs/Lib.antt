@@ -1,0 +1,5 @@
+pub mod Content
+pub mod Reading
+pub mod Layout
+pub mod Valid
+pub mod FromTable
