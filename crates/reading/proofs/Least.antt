@@ -93,3 +93,9 @@ lowest-some f n v e = rw e at (lowest-ok f n)
 
 pub lowest-fails : (f : ℕ → Bool) (n : ℕ) → lowest f n ≡ none → (u : ℕ) → u < n → f u ≡ false
 lowest-fails f n e = rw e at (lowest-ok f n)
+
+-- tests that agree below n have the same least
+pub lowest-same : (f g : ℕ → Bool) (n : ℕ) → ((u : ℕ) → u < n → f u ≡ g u) → lowest f n ≡ lowest g n
+unfolding lowest
+lowest-same f g zero h = refl
+lowest-same f g (suc n) h = rw (lowest-same f g n (λ u l. h u (omega arith)), h n (omega arith))

@@ -1,0 +1,30 @@
+-- The four tables of books while they are filled: a row for each book, the lengths and codewords of all entries, all multiplicands.
+-- docs/TABLES.md draws them.
+use Prim.Native.Nat.{ℕ, _+_, _*_}
+use mathlib.Core.List.{List}
+use lib.ListN.{length}
+use lib.Seq.{sets}
+use Rattle.codespace.specs.Book.{codewords}
+use Rattle.book.specs.Content.{Book}
+use Rattle.book.specs.Layout.{bookRow}
+use Rattle.books.specs.Reading.{Before, andThis}
+
+pub record Tables : Type 0 where
+  pub books : List ℕ
+  pub lengths : List ℕ
+  pub codewords : List ℕ
+  pub multiplicands : List ℕ
+  -- how many books, entries and multiplicands are in them
+  pub count : ℕ
+  pub before : Before
+
+unfoldable pub putBook : Book → Tables → Tables
+putBook b t =
+    record {
+      books = sets (t .books) (10 * t .count) (bookRow (t .before .entries) (t .before .values) b);
+      lengths = sets (t .lengths) (t .before .entries) (b .lengths);
+      codewords = sets (t .codewords) (t .before .entries) (codewords (b .lengths));
+      multiplicands = sets (t .multiplicands) (t .before .values) (b .multiplicands);
+      count = t .count + 1;
+      before = andThis (t .before) b
+    }

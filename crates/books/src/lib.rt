@@ -1,0 +1,1 @@
+// Codebooks in a setup packet: their rules, their tables, reading them.

@@ -1,0 +1,252 @@
+-- The turns and ends of the functions of src/book.rt. Assumes nothing.
+use mathlib.Core.Bool.{Bool, true, false, cond, not, _&&_, _||_, or-true}
+use mathlib.Core.List.{List, [], _∷_, _++_}
+use mathlib.Core.Option.{Option, none, some}
+use mathlib.Core.Path.{_≡_, refl, sym, ap, _∙_}
+use mathlib.Core.Logic.{_⊎_, inl, inr, ⊎-elim}
+use Prim.Native.Nat.{ℕ, zero, suc, _+_, _-_, _^_, _≤_, _<_}
+use native.Mathlib.Numerals.{add-one}
+use native.Mathlib.Omega.{arith}
+use lib.Dec.{eqb, leb}
+use lib.ListN.{length, getD, set, take, drop, replicate, length-set, drop-of-length-le}
+use lib.Seq.{take-suc, take-all, drop-cons, drop-length}
+use borrow.Author.Tests.{eq-eqb, ne-eqb, eqb-true, le-leb, lt-leb}
+use Rattle.reading.specs.Least.{lowest}
+use Rattle.reading.specs.Tabulate.{tabulate}
+use Rattle.reading.proofs.Least.{true-or-false, true-not-false, lt-or-le, lowest-is, lowest-none, below-suc}
+use Rattle.reading.proofs.Tabulate.{tabulate-store, tabulate-all}
+use Rattle.codespace.specs.Ledger.{Codeword, share, freeStrings, isLength, IsLength, answer, after}
+use Rattle.codespace.specs.Blocks.{vacant, enterAnswer, enterBlocks, emptyBlocks, runBlocks, Reached, blockFor}
+use Rattle.codespace.specs.Answers.{number, isNone}
+use Rattle.codespace.specs.Book.{used, isUsed, handedOutBefore, entryAnswer, orZero, isRefused, firstRefused, codewordOf, codewords, freeAfter, isLone, refusedOr, verdict, assigned, written, Decodable, NextUsed}
+use Rattle.codespace.specs.declared.book.Assigned.{Assigned}
+use Rattle.codespace.specs.declared.book.Assigned.the-variants.{Accepted, Overspecified, Underspecified, Mismatched}
+use Rattle.codespace.proofs.Whole.{answer-are, refused-is}
+use Rattle.codespace.proofs.Claimed.{reached-start, next-reached}
+use Rattle.codespace.proofs.Places.{Small, enter-small, run-length}
+use Rattle.codespace.proofs.Steps.{outside-blocks}
+use Rattle.codespace.proofs.Laws.{after-used, handed-before, used-cons, used-skip, decodable}
+
+-- an entry's answer, by the space that the entries before it have come to
+entry-model : (ls bs : List ℕ) (e : ℕ) → Reached (take e ls) bs → entryAnswer ls e ≡ enterAnswer bs (getD ls e 0)
+unfolding entryAnswer
+entry-model ls bs e r = rw (r .blocks, answer-are (take e ls) (getD ls e 0), handed-before ls e)
+
+-- what an entry's number says, t where it is unused
+number-word : (t : Bool) (o : Option ℕ) (v : ℕ) → v ≡ cond t 0 (number o) → v < vacant → v ≡ cond (not t) (orZero o) 0
+number-word true o v e h = e
+number-word false none v e h = absurd (omega arith)
+number-word false (some u) v e h = e
+
+number-kept : (t : Bool) (o : Option ℕ) (v : ℕ) → v ≡ cond t 0 (number o) → v < vacant → (not t && isNone o) ≡ false
+number-kept true o v e h = refl
+number-kept false none v e h = absurd (omega arith)
+number-kept false (some u) v e h = refl
+
+number-full : (t : Bool) (o : Option ℕ) (v : ℕ) → Small o → v ≡ cond t 0 (number o) → vacant ≤ v → (not t && isNone o) ≡ true
+number-full true o v p e h = absurd (omega arith)
+number-full false none v p e h = refl
+number-full false (some u) v p e h = absurd (omega arith)
+
+-- where a turn of `hand_out` begins: the entries before i are entered, none was refused, and their places are written
+pub record Assigning (ls words₀ words bs : List ℕ) (i : ℕ) : Type 0 where
+  pub within : i ≤ length ls
+  pub long : length words ≡ length words₀
+  pub reached : Reached (take i ls) bs
+  pub places : take i words ≡ tabulate (codewordOf ls) i
+  pub kept : (u : ℕ) → u < i → isRefused ls u ≡ false
+
+pub assigning-start : (ls words bs : List ℕ) → Reached [] bs → Assigning ls words words bs 0
+assigning-start ls words bs r =
+    record { within = omega arith; long = refl; reached = r; places = unfold tabulate in refl; kept = λ u h. absurd (omega arith) }
+
+empty-length : length emptyBlocks ≡ 33
+unfolding emptyBlocks
+empty-length = refl
+
+pub reached-length : (ls bs : List ℕ) → Reached ls bs → length bs ≡ 33
+reached-length ls bs r = ap length (r .blocks) ∙ run-length ls emptyBlocks ∙ empty-length
+
+module _ (ls words₀ words bs : List ℕ) (i v : ℕ) (h : i < length ls) (w : Assigning ls words₀ words bs i)
+    (e : v ≡ cond (eqb (getD ls i 0) 0) 0 (number (enterAnswer bs (getD ls i 0)))) where
+  word-is : v < vacant → v ≡ codewordOf ls i
+  unfolding codewordOf isUsed
+  word-is l = rw (entry-model ls bs i (w .reached)) (number-word (eqb (getD ls i 0) 0) (enterAnswer bs (getD ls i 0)) v e l)
+
+  kept-is : v < vacant → isRefused ls i ≡ false
+  unfolding isRefused isUsed
+  kept-is l = rw (entry-model ls bs i (w .reached)) (number-kept (eqb (getD ls i 0) 0) (enterAnswer bs (getD ls i 0)) v e l)
+
+  full-is : vacant ≤ v → isRefused ls i ≡ true
+  unfolding isRefused isUsed
+  full-is l =
+      rw (entry-model ls bs i (w .reached))
+      (number-full (eqb (getD ls i 0) 0) (enterAnswer bs (getD ls i 0)) v (enter-small bs (getD ls i 0)) e l)
+
+  pub assigning-turn : (bs′ : List ℕ) → length ls ≡ length words₀ → bs′ ≡ enterBlocks bs (getD ls i 0) → v < vacant
+      → Assigning ls words₀ (set words i v) bs′ (i + 1)
+  assigning-turn bs′ n q l =
+      let m = w .long in
+      let r = next-reached (take i ls) (getD ls i 0) bs (w .reached) in
+      record {
+        within = omega arith;
+        long = simp length-set (w .long);
+        reached = rw (q, add-one, take-suc ls i 0 h) r;
+        places = tabulate-store (codewordOf ls) words i v (omega arith) (word-is l) (w .places);
+        kept = λ u k. ⊎-elim (λ (j : u < i). w .kept u j) (λ (j : u ≡ i). rw j (kept-is l)) (below-suc (rw add-one at k));
+      }
+
+  pub overspecified : vacant ≤ v → Overspecified i ≡ verdict ls
+  unfolding verdict firstRefused
+  overspecified l = rw (lowest-is (isRefused ls) (length ls) i h (full-is l) (w .kept))
+
+-- the end of the loop
+module _ (ls words₀ words bs : List ℕ) (i : ℕ) (h : length ls ≤ i) (w : Assigning ls words₀ words bs i) where
+  all : i ≡ length ls
+  all = let m = w .within in omega arith
+
+  none-refused : firstRefused ls ≡ none
+  unfolding firstRefused
+  none-refused = lowest-none (isRefused ls) (length ls) (λ u l. w .kept u (omega arith))
+
+  pub all-written : length ls ≡ length words₀ → words ≡ codewords ls
+  unfolding codewords
+  all-written n = let m = w .long in tabulate-all (codewordOf ls) words i (length ls) (omega arith) (w .within) h (w .places)
+
+  -- a length of 32 is refused exactly where nothing is left
+  full-test : isNone (enterAnswer bs 32) ≡ eqb (freeAfter ls) 0
+  full-test =
+      let k : IsLength 32 = record { low = omega arith; high = omega arith } in
+      let a : enterAnswer bs 32 ≡ answer (after [] ls) 32
+      = rw (w .reached .blocks) (answer-are (take i ls) 32 ∙ ap (λ (t : List ℕ). answer (after [] t) 32) (take-all i ls h)) in
+      let r = refused-is ls 32 k in
+      let f : freeAfter ls ≡ freeStrings (after [] ls) = unfold freeAfter in ap freeStrings (after-used ls []) in
+      rw (a, f) (go (answer (after [] ls) 32) (freeStrings (after [] ls)) (r .0) (r .1))
+    where
+      go : (o : Option ℕ) (n : ℕ) → (o ≡ none → n < 1) → (n < 1 → o ≡ none) → isNone o ≡ eqb n 0
+      go none n p q = sym (eq-eqb n 0 (let l = p refl in omega arith))
+      go (some v) n p q = sym (ne-eqb n 0 (λ z. let l = q (omega arith) in let z : _≡_ {A = ℕ} 0 1 = cc in omega arith))
+
+  pub full-accepted : (r : Bool) → r ≡ isNone (enterAnswer bs 32) → r ≡ true → Accepted ≡ verdict ls
+  unfolding verdict
+  full-accepted r e t = rw (none-refused, sym full-test ∙ sym e ∙ t)
+
+  pub lone-accepted : (r : Bool) → r ≡ isLone (used ls) → r ≡ true → Accepted ≡ verdict ls
+  unfolding verdict
+  lone-accepted r e t = rw (none-refused, sym e ∙ t, or-true)
+
+  pub underspecified : (r q : Bool) → r ≡ isNone (enterAnswer bs 32) → r ≡ false → q ≡ isLone (used ls) → q ≡ false → Underspecified ≡ verdict ls
+  unfolding verdict
+  underspecified r q e t f s = rw (none-refused, sym full-test ∙ sym e ∙ t, sym f ∙ s)
+
+-- `entry_codeword`: an unused entry takes nothing
+module _ (bs : List ℕ) (len : ℕ) where
+  pub unused-number : len ≡ 0 → 0 ≡ cond (eqb len 0) 0 (number (enterAnswer bs len))
+  unused-number z = rw (eq-eqb len 0 z)
+
+  pub unused-blocks : len ≡ 0 → bs ≡ enterBlocks bs len
+  unused-blocks z = outside-blocks bs len (λ k. let l = k .low in omega arith)
+
+  pub used-number : (v : ℕ) → (len ≡ 0 → ⊥) → v ≡ number (enterAnswer bs len) → v ≡ cond (eqb len 0) 0 (number (enterAnswer bs len))
+  used-number v n e = rw (ne-eqb len 0 n) e
+
+-- `next_used`: an unused entry is passed
+pub passed : (ls : List ℕ) (from e : ℕ) → e < length ls → getD ls e 0 ≡ 0 → used (drop from ls) ≡ used (drop e ls)
+    → used (drop from ls) ≡ used (drop (e + 1) ls)
+passed ls from e h z q = q ∙ rw (drop-cons ls e 0 h, z, add-one) (used-skip (drop (suc e) ls))
+
+-- `is_lone`
+module _ (ls : List ℕ) (r : ℕ) (n : NextUsed ls 0 r) where
+  from-first : used ls ≡ used (drop r ls)
+  from-first = n .same
+
+  at-first : r < length ls → used ls ≡ getD ls r 0 ∷ used (drop (r + 1) ls)
+  at-first h = from-first ∙ rw (drop-cons ls r 0 h, add-one) (used-cons (getD ls r 0) (drop (suc r) ls) (n .isUsed h))
+
+  nothing : (from : ℕ) → length ls ≤ from → used (drop from ls) ≡ []
+  unfolding used
+  nothing from h = rw (drop-of-length-le ls {i = from} h)
+
+  pub lone-none : length ls ≤ r → false ≡ isLone (used ls)
+  unfolding isLone
+  lone-none h = rw (from-first, nothing r h)
+
+  other : (l : ℕ) (ks : List ℕ) → (l ≡ 1 → ⊥) → false ≡ isLone (l ∷ ks)
+  unfolding isLone
+  other l [] m = sym (ne-eqb l 1 m)
+  other l (k ∷ ks) m = refl
+
+  pub lone-other : r < length ls → (getD ls r 0 ≡ 1 → ⊥) → false ≡ isLone (used ls)
+  lone-other h m = rw (at-first h) (other (getD ls r 0) (used (drop (r + 1) ls)) m)
+
+  pub lone-one : (q : ℕ) → r < length ls → getD ls r 0 ≡ 1 → NextUsed ls (r + 1) q → leb (length ls) q ≡ isLone (used ls)
+  unfolding isLone
+  lone-one q h o m =
+      ⊎-elim
+      (λ (l : q < length ls).
+      let e : used (drop (r + 1) ls) ≡ getD ls q 0 ∷ used (drop (suc q) ls)
+      = m .same ∙ rw (drop-cons ls q 0 l) (used-cons (getD ls q 0) (drop (suc q) ls) (m .isUsed l)) in
+      rw (at-first h, e, lt-leb (length ls) q l))
+      (λ (l : length ls ≤ q). rw (at-first h, m .same ∙ nothing q l, o, le-leb (length ls) q l))
+      (lt-or-le q (length ls))
+
+-- `assign_codewords`
+module _ (ls : List ℕ) (places : ℕ) where
+  mismatched : (length ls ≡ places → ⊥) → Mismatched ≡ assigned ls places
+  unfolding assigned
+  mismatched n = rw (ne-eqb (length ls) places n)
+
+  assigned-is : (a : Assigned) → length ls ≡ places → a ≡ verdict ls → a ≡ assigned ls places
+  unfolding assigned
+  assigned-is a n e = rw (eq-eqb (length ls) places n) e
+
+either : (ls : List ℕ) (a b : Bool) → eqb (freeAfter ls) 0 ≡ a → isLone (used ls) ≡ b → Accepted ≡ cond (a || b) Accepted Underspecified
+    → (freeAfter ls ≡ 0) ⊎ (isLone (used ls) ≡ true)
+either ls true b x y t = inl (eqb-true (freeAfter ls) 0 x)
+either ls false true x y t = inr y
+either ls false false x y t = let z : _≡_ {A = ℕ} 0 1 = cc in absurd (omega arith)
+
+accepted-by : (ls : List ℕ) (o : Option ℕ) → firstRefused ls ≡ o
+    → Accepted ≡ refusedOr o (cond (eqb (freeAfter ls) 0 || isLone (used ls)) Accepted Underspecified) → Decodable ls (codewords ls)
+accepted-by ls (some i) q t = let z : _≡_ {A = ℕ} 0 1 = cc in absurd (omega arith)
+accepted-by ls none q t = decodable ls q (either ls (eqb (freeAfter ls) 0) (isLone (used ls)) refl refl t)
+
+accepted-decodable : (ls words : List ℕ) → Accepted ≡ verdict ls → words ≡ codewords ls → Decodable ls words
+unfolding verdict
+accepted-decodable ls words e w = rw w (accepted-by ls (firstRefused ls) refl e)
+
+-- a refusal is not accepted
+pub over-accepted : (e : ℕ) → Overspecified e ≡ Accepted → ⊥
+over-accepted e q = let z : _≡_ {A = ℕ} 0 1 = cc in omega arith
+
+pub under-accepted : Underspecified ≡ Accepted → ⊥
+under-accepted q = let z : _≡_ {A = ℕ} 0 1 = cc in omega arith
+
+mismatch-accepted : Mismatched ≡ Accepted → ⊥
+mismatch-accepted q = let z : _≡_ {A = ℕ} 0 1 = cc in omega arith
+
+-- what `assign_codewords` promises of its answer and of what it leaves
+abbrev pub Promised : List ℕ → List ℕ → Assigned → List ℕ → Type 0
+Promised ls words₀ a out = ((a ≡ assigned ls (length words₀)) × (out ≡ written a ls (length words₀))) × (a ≡ Accepted → Decodable ls out)
+
+module _ (ls words₀ : List ℕ) where
+  pub promised-mismatched : (out : List ℕ) → (length ls ≡ length words₀ → ⊥) → out ≡ replicate (length words₀) 0 → Promised ls words₀ Mismatched out
+  promised-mismatched out n e = ((mismatched ls (length words₀) n, e), λ q. absurd (mismatch-accepted q))
+
+  module _ (r : Assigned) (n : length ls ≡ length words₀) (e : r ≡ verdict ls) where
+    pub promised-accepted : (out : List ℕ) → (r ≡ Accepted → out ≡ codewords ls) → r ≡ Accepted → Promised ls words₀ Accepted out
+    promised-accepted out w q =
+        ((assigned-is ls (length words₀) Accepted n (sym q ∙ e), w q), λ z. accepted-decodable ls out (sym q ∙ e) (w q))
+
+    module _ (words out : List ℕ) (long : length words ≡ length words₀) (w : out ≡ replicate (length words) 0) where
+      zeros : out ≡ replicate (length words₀) 0
+      zeros = w ∙ ap (λ (k : ℕ). replicate k 0) long
+
+      pub promised-over : (entry : ℕ) → r ≡ Overspecified entry → Promised ls words₀ (Overspecified entry) out
+      promised-over entry q = ((assigned-is ls (length words₀) (Overspecified entry) n (sym q ∙ e), zeros), λ z. absurd (over-accepted entry z))
+
+      pub promised-under : r ≡ Underspecified → Promised ls words₀ Underspecified out
+      promised-under q = ((assigned-is ls (length words₀) Underspecified n (sym q ∙ e), zeros), λ z. absurd (under-accepted z))
+
+      pub promised-mismatch : r ≡ Mismatched → Promised ls words₀ Mismatched out
+      promised-mismatch q = ((assigned-is ls (length words₀) Mismatched n (sym q ∙ e), zeros), λ z. absurd (mismatch-accepted z))

@@ -1,0 +1,20 @@
+-- `codespace::book::entry_codeword` meets its contract: a length of 0 takes nothing, as the model says. Assumes nothing.
+use borrow.Author.Needs.{needs}
+use Rattle.codespace.proofs.Assigning.{unused-number, unused-blocks, used-number}
+use Rattle.codespace.proofs.book.entry_codeword.Statement.{statement}
+use Rattle.codespace.proofs.book.entry_codeword.Tie as tie
+use Rattle.codespace.proofs.book.entry_codeword.Reads as reads
+use Rattle.codespace.proofs.book.entry_codeword.Lts as lts
+use Rattle.codespace.proofs.space.take_codeword.Reads as take-codeword-reads
+
+returns : tie.Need-returns
+returns c = (unused-number _ _ (c .if1 .taken), unused-blocks _ _ (c .if1 .taken))
+
+take-codeword-requires : tie.Need-take-codeword-requires
+take-codeword-requires c κs = search needs
+
+returns-2 : tie.Need-returns-2
+returns-2 c = (used-number _ _ _ (c .before .before .if1 .left) (c .take-codeword .ensures .0), c .take-codeword .ensures .1)
+
+pub entry-codeword-spec : {M : Type 1} → statement M
+entry-codeword-spec = tie.close (tie.spec returns take-codeword-requires returns-2)

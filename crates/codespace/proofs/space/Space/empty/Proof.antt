@@ -1,0 +1,19 @@
+-- `codespace::space::Space::empty` meets its contract: 32 vacant places, and one block of height 32. Assumes nothing.
+use mathlib.Core.Path.{refl}
+use borrow.Author.Needs.{needs}
+use Rattle.codespace.specs.Blocks.{emptyBlocks}
+use Rattle.codespace.proofs.Claimed.{reached-start}
+use Rattle.codespace.proofs.space.Space.empty.Statement.{statement}
+use Rattle.codespace.proofs.space.Space.empty.Tie as tie
+use Rattle.codespace.proofs.space.Space.empty.Reads as reads
+use Rattle.codespace.proofs.space.Space.empty.Lts as lts
+
+array-write-blocks : tie.Need-array-write-blocks
+array-write-blocks c = search needs
+
+returns : tie.Need-returns
+unfolding emptyBlocks
+returns c = (refl, reached-start)
+
+pub empty-spec : {M : Type 1} → statement M
+empty-spec = tie.close (tie.spec array-write-blocks returns)

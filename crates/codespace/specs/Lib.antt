@@ -1,0 +1,8 @@
+pub mod Ledger
+pub mod Claims
+pub mod Blocks
+pub mod Steps
+pub mod Answers
+pub mod Entering
+pub mod Book
+pub mod Figures

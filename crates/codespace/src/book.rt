@@ -1,0 +1,115 @@
+// The codewords of a book (01, "Bits and books"; refusals 7 and 8): the lengths of its used entries, entered in entry order into an empty space of
+// their own. specs/Book.antt says by the ledger what each entry gets and when the lengths are accepted.
+use reading::buffers::clear_u32;
+use crate::space::{is_full, take_codeword, Space, VACANT};
+ghost use mathlib.Core.Path.{_≡_};
+ghost use mathlib.Core.Bool.{cond};
+ghost use Prim.Native.Nat.{_≤_};
+ghost use lib.Dec.{eqb};
+ghost use lib.ListN.{length};
+ghost use Rattle.codespace.specs.Blocks.{enterAnswer, enterBlocks};
+ghost use Rattle.codespace.specs.Answers.{number};
+ghost use Rattle.codespace.specs.Book.{used, isLone, verdict, assigned, written, codewords, Decodable, NextUsed};
+
+pub enum Assigned {
+    // Each used entry has its codeword, and no space is left over; or the only used entry has length 1.
+    Accepted,
+    // Refusal 7, with the entry: its share exceeds the free space.
+    Overspecified(usize),
+    // Refusal 8: space is left over.
+    Underspecified,
+    // The lent list has not just a place for each entry.
+    Mismatched,
+}
+
+// Assigns each used entry its codeword, and 0 to the unused ones. On any refusal the lent list is all zeros.
+pub fn assign_codewords(lengths: &[u8], words: &mut [u32]) -> Assigned
+    ensures { λ r. ⌜ (r ≡ assigned (now (lengths .entry)) (length (now (words .entry)))) × (now (words .exit) ≡ written r (now (lengths .entry)) (length (now (words .entry)))) ⌝ }
+    ensures { λ r. ⌜ (r ≡ Assigned.Accepted → Decodable (now (lengths .entry)) (now (words .exit))) ⌝ }
+{
+    if lengths.len() != words.len() {
+        clear_u32(words);
+        return Assigned::Mismatched;
+    }
+    let answer = hand_out(lengths, words);
+    match answer {
+        Assigned::Accepted => Assigned::Accepted,
+        Assigned::Overspecified(entry) => {
+            clear_u32(words);
+            Assigned::Overspecified(entry)
+        }
+        Assigned::Underspecified => {
+            clear_u32(words);
+            Assigned::Underspecified
+        }
+        Assigned::Mismatched => {
+            clear_u32(words);
+            Assigned::Mismatched
+        }
+    }
+}
+
+// The verdict, and the codewords where it accepts.
+fn hand_out(lengths: &[u8], words: &mut [u32]) -> Assigned
+    requires { ⌜ length (now lengths) ≡ length (now words) ⌝ }
+    ensures { λ r. ⌜ (r ≡ verdict (now (lengths .entry))) × (r ≡ Assigned.Accepted → now (words .exit) ≡ codewords (now (lengths .entry))) ⌝ }
+{
+    let space = Space::empty();
+    let mut blocks = space.blocks;
+    let mut entry = 0;
+    while entry < lengths.len() {
+        let value = entry_codeword(&mut blocks, lengths[entry]);
+        if VACANT <= value {
+            return Assigned::Overspecified(entry);
+        }
+        words[entry] = value as u32;
+        entry += 1;
+    }
+    if is_full(&blocks) {
+        return Assigned::Accepted;
+    }
+    if is_lone(lengths) {
+        return Assigned::Accepted;
+    }
+    Assigned::Underspecified
+}
+
+// What an entry's place holds: 0 for an unused entry, which takes nothing; else the codeword taken, or VACANT.
+fn entry_codeword(blocks: &mut [u64; 33], length: u8) -> u64
+    requires { ⌜ lib.ListN.length (now blocks) ≡ 33 ⌝ }
+    ensures { λ r. ⌜ (r ≡ cond (eqb length 0) 0 (number (enterAnswer (now (blocks .entry)) length))) × (now (blocks .exit) ≡ enterBlocks (now (blocks .entry)) length) ⌝ }
+{
+    if length == 0 {
+        return 0;
+    }
+    take_codeword(blocks, length)
+}
+
+// The only used entry has length 1.
+fn is_lone(lengths: &[u8]) -> bool
+    ensures { λ r. ⌜ r ≡ isLone (used (now (lengths .entry))) ⌝ }
+{
+    let first = next_used(lengths, 0);
+    if lengths.len() <= first {
+        return false;
+    }
+    if lengths[first] != 1 {
+        return false;
+    }
+    lengths.len() <= next_used(lengths, first + 1)
+}
+
+// The first used entry from `from` on, or the number of entries.
+fn next_used(lengths: &[u8], from: usize) -> usize
+    requires { ⌜ from ≤ length (now lengths) ⌝ }
+    ensures { λ r. ⌜ NextUsed (now (lengths .entry)) from r ⌝ }
+{
+    let mut entry = from;
+    while entry < lengths.len() {
+        if lengths[entry] != 0 {
+            return entry;
+        }
+        entry += 1;
+    }
+    entry
+}
