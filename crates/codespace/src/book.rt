@@ -86,7 +86,7 @@ fn entry_codeword(blocks: &mut [u64; 33], length: u8) -> u64
 }
 
 // The only used entry has length 1.
-fn is_lone(lengths: &[u8]) -> bool
+pub fn is_lone(lengths: &[u8]) -> bool
     ensures { λ r. ⌜ r ≡ isLone (used (now (lengths .entry))) ⌝ }
 {
     let first = next_used(lengths, 0);

@@ -1,0 +1,60 @@
+use Prim.Native.Nat.{ℕ, _≤_, _<_, _-_}
+use mathlib.Core.Bool.{false}
+use mathlib.Core.Path.{_≡_, sym}
+use native.Mathlib.Omega.{arith}
+use lib.ListN.{length}
+use borrow.Author.Needs.{needs}
+use Rattle.codespace.specs.Book.{isUsed}
+use Rattle.codebook.proofs.Lone.{used-passed, lone-there, first-is}
+use Rattle.codebook.proofs.first_used.Statement.{statement}
+use Rattle.codebook.proofs.first_used.Tie as tie
+use Rattle.codebook.proofs.first_used.Reads as reads
+use Rattle.codebook.proofs.first_used.Lts as lts
+
+abbrev Inv-loop : tie.InvT-loop
+Inv-loop lengths entry₀ entry = (entry ≤ length lengths) × ((u : ℕ) → u < entry → isUsed lengths u ≡ false)
+
+abbrev μ-loop : tie.MeasureT-loop
+μ-loop lengths entry₀ entry = length lengths - entry
+
+-- src/lib.rt:46:5
+loop-holds : tie.Need-loop-holds Inv-loop μ-loop
+loop-holds c = (omega arith, λ u h. absurd (omega arith))
+
+-- src/lib.rt:47:12
+shared-slice-read-if1 : tie.Need-shared-slice-read-if1 Inv-loop μ-loop
+shared-slice-read-if1 c = search needs
+
+-- src/lib.rt:48:13
+returns : tie.Need-returns Inv-loop μ-loop
+returns c = (sym (first-is _ (c .before .before .before .before .pre) _ (c .before .before .before .loop .inv .1) (c .if1 .taken) (omega arith)), omega arith)
+
+-- src/lib.rt:50:17
+add-entry : tie.Need-add-entry Inv-loop μ-loop
+add-entry c = search needs
+
+-- src/lib.rt:46:5
+loop-less : tie.Need-loop-less Inv-loop μ-loop
+loop-less c = search needs
+
+-- src/lib.rt:46:5
+loop-again : tie.Need-loop-again Inv-loop μ-loop
+loop-again c = (omega arith, used-passed _ _ (c .before .before .before .loop .inv .1) (c .if1 .left))
+
+-- src/lib.rt:41:1
+returns-2 : tie.Need-returns-2 Inv-loop μ-loop
+returns-2 c = absurd (lone-there _ (c .before .before .pre) _ (c .before .loop .inv .1) (omega arith))
+
+pub first-used-spec : {M : Type 1} → statement M
+first-used-spec =
+    tie.close
+    (tie.spec
+    Inv-loop
+    μ-loop
+    loop-holds
+    shared-slice-read-if1
+    returns
+    add-entry
+    loop-less
+    loop-again
+    returns-2)

@@ -1,0 +1,20 @@
+-- What reading a codeword promises, stated without the program (demand 3's half about reading).
+use Prim.Native.Nat.{ℕ, _+_, _*_, _≤_, _<_}
+use mathlib.Core.Bool.{true, false}
+use mathlib.Core.List.{List}
+use mathlib.Core.Path.{_≡_}
+use lib.ListN.{length, getD}
+use Rattle.reading.specs.Outcome.{ok}
+use Rattle.codespace.specs.Book.{used, isLone, codewords, Begins}
+use Rattle.codebook.specs.Codeword.{bitsAt, codeword, firstUsed}
+
+pub record Settled (lengths : List ℕ) : Type 0 where
+  -- whatever 32 bits come next, reading gives the one entry whose codeword they start with, and takes just its codeword's bits
+  pub whole : isLone (used lengths) ≡ false → (s : List ℕ) (k : ℕ) → k + 32 ≤ 8 * length s
+      → (e : ℕ) × Begins lengths (codewords lengths) (bitsAt s k 32) e
+      × ((f : ℕ) → Begins lengths (codewords lengths) (bitsAt s k 32) f → f ≡ e)
+      × (codeword lengths s k ≡ ok (e, k + getD lengths e 0))
+  -- a lone entry is given for every string and takes none of its bits, at the very end of the packet too
+  pub lone : isLone (used lengths) ≡ true → (s : List ℕ) (k : ℕ) → k ≤ 8 * length s → codeword lengths s k ≡ ok (firstUsed lengths, k)
+  -- the entry that is read is used
+  pub used : (s : List ℕ) (k e n : ℕ) → codeword lengths s k ≡ ok (e, n) → (e < length lengths) × (0 < getD lengths e 0)

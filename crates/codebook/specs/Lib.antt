@@ -1,0 +1,3 @@
+pub mod Codeword
+pub mod Book
+pub mod Claims
