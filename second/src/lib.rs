@@ -30,9 +30,9 @@
 pub mod audio;
 pub mod bits;
 pub mod book;
-//pub mod check;
+pub mod check;
 pub mod floor;
-//pub mod generate;
+pub mod generate;
 pub mod identification;
 pub mod ledger;
 pub mod limits;
@@ -44,4 +44,4 @@ pub mod refusal;
 pub mod residue;
 pub mod setup;
 pub mod space;
-//pub mod write;
+pub mod write;
