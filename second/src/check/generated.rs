@@ -96,7 +96,10 @@ impl Check {
         let whole = &stream.setup.bytes;
         let read = setup(&stream.identity, whole, limits);
         self.seen.packets.add(&read);
-        claim(read.as_ref() == Ok(&stream.content), || format!("setup {} read as {read:?}", hex(whole)))?;
+        claim(read.as_ref() == Ok(&stream.content), || {
+            let answer = read.as_ref().map(|_| "other content");
+            format!("setup read as {answer:?}: {}", hex(whole))
+        })?;
         for packet in spoilt(&stream.setup, random) {
             let read = setup(&stream.identity, &packet, limits);
             self.seen.packets.add(&read);

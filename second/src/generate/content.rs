@@ -10,8 +10,11 @@ use crate::setup::Setup;
 
 /// A sound identity; small blocks come more often than large ones.
 pub fn identity(random: &mut Random) -> Identity {
-    let greatest = if random.one_in(6) { *BLOCK_EXPONENTS.end() } else { 9 };
-    let long = random.between(*BLOCK_EXPONENTS.start(), greatest);
+    let long = match random.below(12) {
+        0 => *BLOCK_EXPONENTS.end(),
+        1 => random.between(*BLOCK_EXPONENTS.start(), *BLOCK_EXPONENTS.end()),
+        _ => random.between(*BLOCK_EXPONENTS.start(), 9),
+    };
     let short = random.between(*BLOCK_EXPONENTS.start(), long);
     Identity {
         channels: if random.one_in(3) { random.between(1, 8) } else { random.between(1, 2) } as u8,
@@ -25,7 +28,8 @@ pub fn identity(random: &mut Random) -> Identity {
 
 /// A setup for a sound identity.
 pub fn setup(random: &mut Random, identity: &Identity) -> Setup {
-    let books = books(random);
+    let largest_blocks = identity.block_sizes[1] == 1 << BLOCK_EXPONENTS.end();
+    let books = if largest_blocks && random.one_in(2) { lone_books(random) } else { books(random) };
     let floors: Vec<Floor> = few(random, 8).map(|_| floor(random, books.len())).collect();
     let half = identity.block_sizes[1] / 2;
     let residues: Vec<Residue> = few(random, 8).map(|_| residue(random, &books, half)).collect();
@@ -47,10 +51,16 @@ fn few(random: &mut Random, most: u32) -> std::ops::Range<u32> {
 fn books(random: &mut Random) -> Vec<Book> {
     match random.below(60) {
         0 => vec![large_book(random, 0), large_book(random, 1)],
-        1 => vec![large_book(random, 2), lone_book(random)],
+        1 => vec![large_book(random, 2), make_book(random, 1, vec![1], 0)],
         2 => (0..256).map(|_| lone_book(random)).collect(),
+        3 => lone_books(random),
         _ => (0..random.between(1, 9)).map(|_| book(random)).collect(),
     }
+}
+
+/// Books that are read without bits: with large blocks, words without end.
+fn lone_books(random: &mut Random) -> Vec<Book> {
+    (0..random.between(1, 4)).map(|_| lone_book(random)).collect()
 }
 
 /// A book of 8,192 entries, the most there may be; with lookup type 2 it has the
