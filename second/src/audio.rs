@@ -60,7 +60,7 @@ pub struct Answer {
 /// The lent places for residue codewords: twice the entry number, plus 1 where it
 /// names a vector and not a class word. Words past the last place are counted.
 #[derive(Debug)]
-pub struct Words<'a> {
+pub(crate) struct Words<'a> {
     places: &'a mut [u32],
     count: u64,
 }
@@ -184,7 +184,13 @@ fn window(short: u32, start: &Start) -> Window {
 }
 
 /// Each channel's floor in order; from a cut on, floors are unused.
-fn read_floors(setup: &Setup, mapping: &Mapping, cursor: &mut Cursor, curves: &mut [u8], half: usize) -> Vec<bool> {
+fn read_floors(
+    setup: &Setup,
+    mapping: &Mapping,
+    cursor: &mut Cursor,
+    curves: &mut [u8],
+    half: usize,
+) -> Vec<bool> {
     let mut used = Vec::new();
     for (channel, curve) in curves.chunks_exact_mut(half).enumerate() {
         let submap = mapping.submaps[mapping.submap_of(channel)];

@@ -63,14 +63,7 @@ pub fn identification_within(packet: &[u8], limits: &Limits) -> Result<Identity,
     let block_sizes = block_sizes(cursor)?;
     let place = cursor.position();
     require(cursor.flag()?, 5, place)?;
-    Ok(Identity {
-        channels,
-        rate,
-        bitrate_maximum,
-        bitrate_nominal,
-        bitrate_minimum,
-        block_sizes,
-    })
+    Ok(Identity { channels, rate, bitrate_maximum, bitrate_nominal, bitrate_minimum, block_sizes })
 }
 
 /// The type byte and the name, judged byte by byte (01; 003, "Common header decode").

@@ -25,7 +25,7 @@
 //! | writing packets, random streams | [`write`](mod@write), [`generate`] |
 //! | the program's own checks | [`check`] |
 
-#![forbid(unsafe_code)]
+#![deny(unsafe_code)]
 
 pub mod audio;
 pub mod bits;

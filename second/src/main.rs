@@ -104,6 +104,9 @@ fn bench(records: &str, times: &str) -> Outcome {
             }
         }
     }
-    println!("bench: packets {}, times {times}, words {words}, outputs cleared for each packet", packets.len());
+    println!(
+        "bench: packets {}, times {times}, words {words}, outputs cleared for each packet",
+        packets.len()
+    );
     Ok(())
 }

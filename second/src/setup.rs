@@ -41,9 +41,8 @@ pub fn setup(identity: &Identity, packet: &[u8], limits: &Limits) -> Result<Setu
     read_time_values(cursor)?;
     let floors = read_list(cursor, |cursor| floor::read(cursor, books.len()))?;
     let residues = read_list(cursor, |cursor| residue::read(cursor, &books))?;
-    let mappings = read_list(cursor, |cursor| {
-        read_mapping(cursor, identity.channels, floors.len(), residues.len())
-    })?;
+    let mappings =
+        read_list(cursor, |cursor| read_mapping(cursor, identity.channels, floors.len(), residues.len()))?;
     let modes = read_list(cursor, |cursor| read_mode(cursor, mappings.len()))?;
     let place = cursor.position();
     require(cursor.flag()?, 5, place)?;

@@ -29,14 +29,18 @@ fn read(packet: &[u8]) -> Read {
 
 /// The base setup for one channel: one submap, no coupling.
 fn mono(fields: Fields) -> Setup {
-    let fields = fields.replacing("submap flag", "submap residue 1", &[
-        ("submap flag", 0, 1),
-        ("coupling flag", 0, 1),
-        ("reserved", 0, 2),
-        ("discarded", 0, 8),
-        ("floor", 0, 8),
-        ("residue", 0, 8),
-    ]);
+    let fields = fields.replacing(
+        "submap flag",
+        "submap residue 1",
+        &[
+            ("submap flag", 0, 1),
+            ("coupling flag", 0, 1),
+            ("reserved", 0, 2),
+            ("discarded", 0, 8),
+            ("floor", 0, 8),
+            ("residue", 0, 8),
+        ],
+    );
     setup(&MONO, &fields.pack(), &Limits::BASE).expect("accepted")
 }
 
@@ -142,7 +146,9 @@ fn no_residue_after_a_cut_floor_even_of_lone_entries() {
         .replacing("sparse 0", "length 0 1", &lone)
         .read()
         .expect("accepted");
-    let words = |packet: &[u8]| read_with(&IDENTITY, &setup, Tally::default(), packet).answer.map(|answer| answer.words);
+    let words = |packet: &[u8]| {
+        read_with(&IDENTITY, &setup, Tally::default(), packet).answer.map(|answer| answer.words)
+    };
     let whole = pack(&[(0, 1), (0, 2), (1, 1), (0, 16), (0, 1), (0, 1)]);
     assert_eq!(words(&whole), Ok(6), "three class words for the live channels 0 and 1");
     assert_eq!(words(&whole[..2]), Ok(0), "cut in the first floor");
@@ -227,7 +233,10 @@ fn type_2_counts_all_channels_of_the_submap() {
 fn samples_are_0_for_the_first_and_quarters_after() {
     let setup = base().read().expect("accepted");
     let first = read_with(&IDENTITY, &setup, Tally::default(), &[0]);
-    assert_eq!((first.answer.map(|answer| answer.samples), first.tally), (Ok(0), Tally { block_size: 64, samples: 0 }));
+    assert_eq!(
+        (first.answer.map(|answer| answer.samples), first.tally),
+        (Ok(0), Tally { block_size: 64, samples: 0 })
+    );
     let second = read_with(&IDENTITY, &setup, first.tally, &[0]);
     assert_eq!(second.tally, Tally { block_size: 64, samples: 32 });
     let refused = read_with(&IDENTITY, &setup, second.tally, &[1]);
@@ -239,7 +248,8 @@ fn samples_are_0_for_the_first_and_quarters_after() {
 fn lone_entries_fill_the_room_without_bits() {
     let identity = Identity { channels: 8, block_sizes: [8_192, 8_192], ..IDENTITY };
     let lone = [("sparse 0", 1, 1), ("used", 1, 1), ("length", 0, 5), ("used", 0, 1)];
-    let values = [("lookup 0", 2, 4), ("minimum", 0, 32), ("delta", 0, 32), ("width", 0, 4), ("sequence", 0, 1)];
+    let values =
+        [("lookup 0", 2, 4), ("minimum", 0, 32), ("delta", 0, 32), ("width", 0, 4), ("sequence", 0, 1)];
     let multiplicands = [("multiplicand", 0, 1), ("multiplicand", 1, 1)];
     let plan = [("cascade 0", 7, 3), ("cascade flag 0", 1, 1), ("high", 31, 5)];
     let numbers: Vec<Field> = vec![("plan", 0, 8); 8];
@@ -252,29 +262,33 @@ fn lone_entries_fill_the_room_without_bits() {
         .replacing("partition class", "subclass book 1", &[])
         .replacing("x 2", "x 3", &[])
         .replacing("cascade 0", "plan 0 0", &[&plan[..], &numbers].concat());
-    let fields = fields.replacing("submap flag", "submap residue 1", &[
-        ("submap flag", 0, 1),
-        ("coupling flag", 1, 1),
-        ("steps", 6, 8),
-        ("magnitude 1", 0, 3),
-        ("angle 1", 1, 3),
-        ("magnitude 2", 0, 3),
-        ("angle 2", 2, 3),
-        ("magnitude 3", 0, 3),
-        ("angle 3", 3, 3),
-        ("magnitude 4", 0, 3),
-        ("angle 4", 4, 3),
-        ("magnitude 5", 0, 3),
-        ("angle 5", 5, 3),
-        ("magnitude 6", 0, 3),
-        ("angle 6", 6, 3),
-        ("magnitude 7", 0, 3),
-        ("angle 7", 7, 3),
-        ("reserved", 0, 2),
-        ("discarded", 0, 8),
-        ("floor", 0, 8),
-        ("residue", 0, 8),
-    ]);
+    let fields = fields.replacing(
+        "submap flag",
+        "submap residue 1",
+        &[
+            ("submap flag", 0, 1),
+            ("coupling flag", 1, 1),
+            ("steps", 6, 8),
+            ("magnitude 1", 0, 3),
+            ("angle 1", 1, 3),
+            ("magnitude 2", 0, 3),
+            ("angle 2", 2, 3),
+            ("magnitude 3", 0, 3),
+            ("angle 3", 3, 3),
+            ("magnitude 4", 0, 3),
+            ("angle 4", 4, 3),
+            ("magnitude 5", 0, 3),
+            ("angle 5", 5, 3),
+            ("magnitude 6", 0, 3),
+            ("angle 6", 6, 3),
+            ("magnitude 7", 0, 3),
+            ("angle 7", 7, 3),
+            ("reserved", 0, 2),
+            ("discarded", 0, 8),
+            ("floor", 0, 8),
+            ("residue", 0, 8),
+        ],
+    );
     let setup = setup(&identity, &fields.pack(), &Limits::BASE).expect("accepted");
     let packet = pack(&[(0, 1), (0, 2), (1, 1), (0, 16), (0, 7), (0, 5)]);
     assert_eq!(packet.len(), 4);

@@ -223,7 +223,11 @@ fn both_sides_of_16384_entries_in_all() {
     let first = base().with(&[("entries 0", 8_192)]).replacing("length 0 0", "length 0 1", &dense);
     let second = |entries| {
         let run = [("first length 1", 12, 5), ("run 1", 8_192, 14)];
-        first.clone().with(&[("entries 1", entries), ("lookup 1", 0)]).replacing("first length 1", "run 1", &run)
+        first.clone().with(&[("entries 1", entries), ("lookup 1", 0)]).replacing(
+            "first length 1",
+            "run 1",
+            &run,
+        )
     };
     let cut = |fields: support::Fields| fields.replacing("minimum 1", "multiplicand 1 1", &[]);
     assert_eq!(cut(second(8_192)).number(), 13, "the plan's book has no values");

@@ -65,7 +65,10 @@ fn rule_6_pattern_dimensions_entries_lookup_type() {
 
 #[test]
 fn rule_6_the_pattern_is_one_field() {
-    assert_eq!(base().with(&[("pattern 0", 0)]).replacing("pattern 0", "framing", &[("half", 0, 16)]).number(), 1);
+    assert_eq!(
+        base().with(&[("pattern 0", 0)]).replacing("pattern 0", "framing", &[("half", 0, 16)]).number(),
+        1
+    );
 }
 
 #[test]

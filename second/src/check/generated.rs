@@ -125,7 +125,8 @@ impl Check {
         if book.entries() <= PLAIN_LEDGER_ENTRIES || random.one_in(4) {
             compare_with_ledger(lengths, &codewords)?;
         }
-        let used: Vec<_> = (0..).zip(&codewords).filter_map(|(entry, word)| Some((entry, (*word)?))).collect();
+        let used: Vec<_> =
+            (0..).zip(&codewords).filter_map(|(entry, word)| Some((entry, (*word)?))).collect();
         for _ in 0..used.len().min(20) {
             let &(entry, codeword) = random.pick(&used);
             let lead = random.below(20);
@@ -191,8 +192,8 @@ impl Check {
             Ok(answer) => (answer.floor_used.len() * answer.block_size as usize / 2, answer.words as usize),
             Err(_) => (0, 0),
         };
-        let rest_is_zero =
-            curves[curve_bytes..].iter().all(|&byte| byte == 0) && lent[words..].iter().all(|&word| word == 0);
+        let rest_is_zero = curves[curve_bytes..].iter().all(|&byte| byte == 0)
+            && lent[words..].iter().all(|&word| word == 0);
         claim(rest_is_zero, || format!("outputs not zero: {}", hex(packet)))?;
         claim(answer.is_ok() || *tally == before, || format!("tally changed: {}", hex(packet)))?;
         Ok(answer)
@@ -208,7 +209,9 @@ impl Check {
         for (channel, values) in packet.floors.iter().enumerate() {
             let expected = expected_curve(&stream.content, mode.mapping, channel, values.as_deref(), half);
             let drawn = &self.curves[channel * half..][..half];
-            claim(answer.floor_used[channel] == values.is_some(), || format!("floor use of channel {channel}"))?;
+            claim(answer.floor_used[channel] == values.is_some(), || {
+                format!("floor use of channel {channel}")
+            })?;
             claim(drawn == expected, || format!("curve of channel {channel}"))?;
         }
         let words = &self.words[..answer.words as usize];
@@ -220,7 +223,9 @@ impl Check {
     /// the same, later ones unused, and its words begin the whole packet's (01).
     fn compare_cut(&self, whole: &Whole, answer: &Result<Answer, Refusal>) -> Result<(), String> {
         let answer = match answer {
-            Err(refusal) => return claim(refusal.number == 1, || format!("cut packet refused {}", refusal.number)),
+            Err(refusal) => {
+                return claim(refusal.number == 1, || format!("cut packet refused {}", refusal.number))
+            }
             Ok(answer) => answer,
         };
         let half = (answer.block_size / 2) as usize;
@@ -252,10 +257,17 @@ impl Check {
     }
 
     /// Samples up to 2^64 - 1 are good, one more is 19; an unsound tally is 18.
-    fn tallies(&mut self, stream: &Stream, packet: &[u8], before: &Tally, answer: &Answer) -> Result<(), String> {
+    fn tallies(
+        &mut self,
+        stream: &Stream,
+        packet: &[u8],
+        before: &Tally,
+        answer: &Answer,
+    ) -> Result<(), String> {
         let block_size = stream.identity.block_sizes[1];
         let finished = u64::from(block_size / 4 + answer.block_size / 4);
-        let expected = if before.block_size == 0 { 0 } else { u64::from(before.block_size / 4 + answer.block_size / 4) };
+        let expected =
+            if before.block_size == 0 { 0 } else { u64::from(before.block_size / 4 + answer.block_size / 4) };
         claim(answer.samples == expected, || format!("samples {}", answer.samples))?;
         let cases = [
             (Tally { block_size, samples: u64::MAX - finished }, None),
@@ -281,7 +293,13 @@ struct Whole {
     words: Vec<u32>,
 }
 
-fn expected_curve(content: &Setup, mapping: u8, channel: usize, values: Option<&[u32]>, half: usize) -> Vec<u8> {
+fn expected_curve(
+    content: &Setup,
+    mapping: u8,
+    channel: usize,
+    values: Option<&[u32]>,
+    half: usize,
+) -> Vec<u8> {
     let Some(values) = values else {
         return vec![0; half];
     };
@@ -293,7 +311,8 @@ fn expected_curve(content: &Setup, mapping: u8, channel: usize, values: Option<&
 }
 
 fn compare_with_ledger(lengths: &[u8], codewords: &[Option<ledger::Codeword>]) -> Result<(), String> {
-    let used: Vec<u32> = lengths.iter().filter(|&&length| length != 0).map(|&length| u32::from(length)).collect();
+    let used: Vec<u32> =
+        lengths.iter().filter(|&&length| length != 0).map(|&length| u32::from(length)).collect();
     let (answers, free) = ledger::answers(&used);
     let expected: Vec<_> = codewords.iter().filter(|codeword| codeword.is_some()).copied().collect();
     claim(answers == expected, || format!("ledger answers {answers:?} for {lengths:?}"))?;

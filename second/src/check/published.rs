@@ -60,10 +60,12 @@ pub fn check_stream(file: &[u8], refusal: Option<u8>, seen: &mut Seen) -> Result
 }
 
 /// Compares samples with the granule positions of pages. The first page may start
-/// the count elsewhere than at 0, the last may cut the end off.
+/// the count elsewhere than at 0, the last may cut off what it finishes.
 #[derive(Debug, Default)]
 struct Granules {
     offset: Option<i64>,
+    /// The granule position of the page before.
+    before: i64,
 }
 
 impl Granules {
@@ -74,9 +76,11 @@ impl Granules {
         let samples = samples as i64;
         let fault = || format!("granule position {granule}, samples {samples}");
         if packet.on_last_page {
-            return claim(granule <= samples + self.offset.unwrap_or(0), fault);
+            let finished = self.before..=samples + self.offset.unwrap_or(0);
+            return claim(finished.contains(&granule), fault);
         }
         let offset = *self.offset.get_or_insert(granule - samples);
+        self.before = granule;
         claim(granule == samples + offset, fault)
     }
 }

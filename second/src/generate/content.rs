@@ -18,7 +18,11 @@ pub fn identity(random: &mut Random) -> Identity {
     let short = random.between(*BLOCK_EXPONENTS.start(), long);
     Identity {
         channels: if random.one_in(3) { random.between(1, 8) } else { random.between(1, 2) } as u8,
-        rate: if random.one_in(4) { random.next() as u32 | 1 } else { *random.pick(&[8_000, 16_000, 44_100]) },
+        rate: if random.one_in(4) {
+            random.next() as u32 | 1
+        } else {
+            *random.pick(&[8_000, 16_000, 44_100])
+        },
         bitrate_maximum: random.next() as i32,
         bitrate_nominal: random.next() as i32,
         bitrate_minimum: random.next() as i32,
@@ -33,9 +37,8 @@ pub fn setup(random: &mut Random, identity: &Identity) -> Setup {
     let floors: Vec<Floor> = few(random, 8).map(|_| floor(random, books.len())).collect();
     let half = identity.block_sizes[1] / 2;
     let residues: Vec<Residue> = few(random, 8).map(|_| residue(random, &books, half)).collect();
-    let mappings: Vec<Mapping> = few(random, 6)
-        .map(|_| mapping(random, identity.channels, floors.len(), residues.len()))
-        .collect();
+    let mappings: Vec<Mapping> =
+        few(random, 6).map(|_| mapping(random, identity.channels, floors.len(), residues.len())).collect();
     let modes = few(random, 64)
         .map(|_| Mode { long_block: random.one_in(2), mapping: random.place(mappings.len()) as u8 })
         .collect();
@@ -154,7 +157,8 @@ fn floor(random: &mut Random, books: usize) -> Floor {
     let many = random.one_in(5);
     let greatest_class = random.below(if many { 16 } else { 3 });
     let partitions = if many { 31 } else { random.below(6) };
-    let mut partition_classes: Vec<u8> = (0..partitions).map(|_| random.between(0, greatest_class) as u8).collect();
+    let mut partition_classes: Vec<u8> =
+        (0..partitions).map(|_| random.between(0, greatest_class) as u8).collect();
     let class_count = partition_classes.iter().max().map_or(0, |&class| class + 1);
     let classes: Vec<Class> = (0..class_count).map(|_| class(random, books)).collect();
     let room = GREATEST_X_COUNT - 2;
@@ -191,8 +195,9 @@ fn class(random: &mut Random, books: usize) -> Class {
         dimensions: if random.one_in(4) { random.between(1, 8) } else { random.between(1, 3) },
         subclass_bits,
         master_book: (subclass_bits != 0).then(|| book_number(random, books)),
+        // The field is the number plus one, so that book 255 cannot be named.
         subclass_books: (0..1 << subclass_bits)
-            .map(|_| (!random.one_in(4)).then(|| book_number(random, books)))
+            .map(|_| (!random.one_in(4)).then(|| book_number(random, books.min(255))))
             .collect(),
     }
 }

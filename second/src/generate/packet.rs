@@ -51,7 +51,8 @@ impl<'a> AudioWriter<'a> {
     pub fn packet(&self, random: &mut Random) -> AudioPacket {
         let mode = random.place(self.setup.modes.len());
         let long_block = self.setup.modes[mode].long_block;
-        let mut run = Run { writer: BitWriter::default(), words: Vec::new(), uniform: !random.one_in(4), random };
+        let mut run =
+            Run { writer: BitWriter::default(), words: Vec::new(), uniform: !random.one_in(4), random };
         run.writer.flag(false);
         run.writer.field(mode as u32, ilog(self.setup.modes.len() as u32 - 1));
         let flags = [run.random.one_in(2), run.random.one_in(2)].map(|flag| flag && long_block);
@@ -95,7 +96,8 @@ impl<'a> AudioWriter<'a> {
         }
         for &number in floor.partition_classes() {
             let class = &floor.classes()[usize::from(number)];
-            let mut subclasses = class.master_book.map_or(0, |book| run.entry(&self.codes[usize::from(book)]));
+            let mut subclasses =
+                class.master_book.map_or(0, |book| run.entry(&self.codes[usize::from(book)]));
             for _ in 0..class.dimensions {
                 let subclass = subclasses % (1 << class.subclass_bits);
                 subclasses /= 1 << class.subclass_bits;
@@ -107,7 +109,13 @@ impl<'a> AudioWriter<'a> {
     }
 
     /// `None` where the packet became too long on the way.
-    fn write_residues(&self, run: &mut Run, mapping: &Mapping, floors: &[Option<Vec<u32>>], half: u32) -> Option<()> {
+    fn write_residues(
+        &self,
+        run: &mut Run,
+        mapping: &Mapping,
+        floors: &[Option<Vec<u32>>],
+        half: u32,
+    ) -> Option<()> {
         let used: Vec<bool> = floors.iter().map(Option::is_some).collect();
         let live = live_channels(&used, &mapping.couplings);
         for (number, submap) in mapping.submaps.iter().enumerate() {
@@ -126,7 +134,8 @@ impl<'a> AudioWriter<'a> {
         };
         let channels = if residue.residue_type == 2 { live.len() as u32 } else { 1 };
         let size = half * channels;
-        let partitions = ((residue.end.min(size) - residue.begin.min(size)) / residue.partition_size) as usize;
+        let partitions =
+            ((residue.end.min(size) - residue.begin.min(size)) / residue.partition_size) as usize;
         let class_codes = &self.codes[usize::from(residue.class_book)];
         let group = self.setup.books[usize::from(residue.class_book)].dimensions() as usize;
         let mut classes = vec![Vec::new(); vectors];
