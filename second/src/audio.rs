@@ -55,6 +55,9 @@ pub struct Answer {
     pub samples: u64,
     /// Codewords read in the residues.
     pub words: u64,
+    /// Bits behind the last needed one, `None` where a floor or codeword was cut.
+    /// No part of 01's answer: it tells whether a published packet was read in step.
+    pub bits_left: Option<usize>,
 }
 
 /// The lent places for residue codewords: twice the entry number, plus 1 where it
@@ -138,6 +141,7 @@ fn read(
         floor_used,
         samples,
         words: words.count,
+        bits_left: (!cursor.has_ended()).then(|| cursor.bits_left()),
     })
 }
 

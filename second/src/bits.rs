@@ -96,9 +96,16 @@ impl<'a> Cursor<'a> {
         Ok(self.field(1)? == 1)
     }
 
+    /// How many bits are left, at most what a `usize` holds; none after a cut.
+    pub fn bits_left(&self) -> usize {
+        if self.ended {
+            return 0;
+        }
+        (self.packet.len() - self.byte).saturating_mul(8) - self.bit as usize
+    }
+
     fn holds(&self, width: u32) -> bool {
-        let left = (self.packet.len() - self.byte).saturating_mul(8) - self.bit as usize;
-        !self.ended && width as usize <= left
+        !self.ended && width as usize <= self.bits_left()
     }
 
     /// The next bit, which is there.

@@ -71,8 +71,13 @@ pub fn read_record(input: &mut impl Read) -> io::Result<Option<Record>> {
 
 /// Writes one packet as a record.
 pub fn write_record(output: &mut impl Write, kind: Kind, body: &[u8]) -> io::Result<()> {
+    write_record_of(output, kind.number(), body)
+}
+
+/// Writes a record of any kind's number.
+pub fn write_record_of(output: &mut impl Write, kind: u16, body: &[u8]) -> io::Result<()> {
     let length = u32::try_from(body.len()).map_err(|_| io::ErrorKind::InvalidInput)?;
     output.write_all(&length.to_le_bytes())?;
-    output.write_all(&kind.number().to_le_bytes())?;
+    output.write_all(&kind.to_le_bytes())?;
     output.write_all(body)
 }

@@ -175,5 +175,6 @@ fn meets_rule_13(residue: &Residue, books: &[Book]) -> bool {
     let mut vector_books = residue.plan.iter().flatten().flatten().map(|&number| &books[usize::from(number)]);
     residue.begin <= residue.end
         && power_is_at_most(residue.classifications(), class_book.dimensions(), class_book.entries())
-        && vector_books.all(|book| book.values().is_some() && residue.partition_size % book.dimensions() == 0)
+        && vector_books
+            .all(|book| book.values().is_some() && residue.partition_size.is_multiple_of(book.dimensions()))
 }

@@ -81,7 +81,7 @@ impl BitWriter {
     }
 
     fn bit(&mut self, bit: u32) {
-        if self.bits % 8 == 0 {
+        if self.bits.is_multiple_of(8) {
             self.written.bytes.push(0);
         }
         self.written.bytes[self.bits / 8] |= (bit as u8) << (self.bits % 8);

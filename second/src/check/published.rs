@@ -1,5 +1,9 @@
 //! Published streams: all packets are accepted but for refusals that the list
-//! names, and samples agree with the granule positions (000, appendix A).
+//! names, each is read to its last byte, and samples agree with the granule
+//! positions (000, appendix A).
+//!
+//! Any bits are codewords of some book, so that a reader out of step is accepted
+//! too. It shows itself by a cut, or by whole bytes left over.
 
 use super::{claim, Counts};
 use crate::lines::{line, Accepted, Tool};
@@ -27,11 +31,15 @@ pub fn check_list(list: &str, folder: &Path, seen: &mut Seen) -> Result<(), Stri
         let (_, rest) = line.split_once(' ').ok_or(format!("no columns: {line}"))?;
         let (refusal, path) = rest.trim_start().split_once(' ').ok_or(format!("no path: {line}"))?;
         let path = path.trim_start();
+        let refusal = match refusal {
+            "-" => None,
+            number => Some(number.parse().map_err(|_| format!("no refusal number: {line}"))?),
+        };
         let Ok(file) = fs::read(folder.join(path)) else {
             seen.absent += 1;
             continue;
         };
-        check_stream(&file, refusal.parse().ok(), seen).map_err(|fault| format!("{path}: {fault}"))?;
+        check_stream(&file, refusal, seen).map_err(|fault| format!("{path}: {fault}"))?;
     }
     Ok(())
 }
@@ -53,6 +61,8 @@ pub fn check_stream(file: &[u8], refusal: Option<u8>, seen: &mut Seen) -> Result
         if let Ok(Accepted::Audio(answer)) = &answer {
             seen.words += answer.words;
             seen.samples += answer.samples;
+            let in_step = answer.bits_left.is_some_and(|bits| bits < 8);
+            claim(in_step, || format!("packet {number}: bits left {:?}", answer.bits_left))?;
             granules.check(packet, tool.samples()).map_err(|fault| format!("packet {number}: {fault}"))?;
         }
     }

@@ -19,13 +19,13 @@ pub fn identity(random: &mut Random) -> Identity {
     Identity {
         channels: if random.one_in(3) { random.between(1, 8) } else { random.between(1, 2) } as u8,
         rate: if random.one_in(4) {
-            random.next() as u32 | 1
+            random.next_u64() as u32 | 1
         } else {
             *random.pick(&[8_000, 16_000, 44_100])
         },
-        bitrate_maximum: random.next() as i32,
-        bitrate_nominal: random.next() as i32,
-        bitrate_minimum: random.next() as i32,
+        bitrate_maximum: random.next_u64() as i32,
+        bitrate_nominal: random.next_u64() as i32,
+        bitrate_minimum: random.next_u64() as i32,
         block_sizes: [1 << short, 1 << long],
     }
 }
@@ -109,8 +109,8 @@ fn make_book(random: &mut Random, dimensions: u32, lengths: Vec<u8>, lookup_type
         let count = multiplicand_count(lookup_type, entries, dimensions);
         Values {
             lookup_type,
-            minimum: random.next() as u32,
-            delta: random.next() as u32,
+            minimum: random.next_u64() as u32,
+            delta: random.next_u64() as u32,
             width,
             sequence: random.one_in(2),
             multiplicands: (0..count).map(|_| random.below(1 << width) as u16).collect(),

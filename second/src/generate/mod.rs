@@ -5,7 +5,7 @@ pub mod packet;
 pub mod random;
 
 use crate::identification::Identity;
-use crate::records::{write_record, Kind};
+use crate::records::{write_record, write_record_of, Kind, GREATEST_BODY};
 use crate::setup::Setup;
 use crate::write::{write_identification, write_setup, Written};
 use packet::{AudioPacket, AudioWriter};
@@ -102,7 +102,7 @@ pub fn with_changed_field(written: &Written, random: &mut Random) -> Vec<u8> {
         2 => value.wrapping_add(1),
         3 => value.wrapping_sub(1),
         4 => 8_193,
-        _ => random.next() as u32,
+        _ => random.next_u64() as u32,
     };
     written.with_field(field, changed)
 }
@@ -123,12 +123,24 @@ pub fn write_streams(seed: u64, count: u64, output: &mut impl Write) -> io::Resu
     let (mut records, mut streams) = (0, 0);
     while records < count {
         let seed = seed.wrapping_add(streams);
-        let packets = Stream::new(seed).packets(&mut Random::new(!seed));
+        let random = &mut Random::new(!seed);
+        let packets = Stream::new(seed).packets(random);
         for (kind, body) in &packets {
             write_record(output, *kind, body)?;
         }
-        records += packets.len() as u64;
+        write_odd_record(random, output)?;
+        records += packets.len() as u64 + 1;
         streams += 1;
     }
     Ok((records, streams))
+}
+
+/// A record of an unknown kind or, now and then, one that is too long.
+fn write_odd_record(random: &mut Random, output: &mut impl Write) -> io::Result<()> {
+    if random.one_in(20) {
+        let kind = random.below(6) as u16;
+        return write_record_of(output, kind, &vec![0; GREATEST_BODY as usize + 1]);
+    }
+    let kind = *random.pick(&[0, 4, 0x0100, u16::MAX]);
+    write_record_of(output, kind, &random_bytes(random))
 }
