@@ -14,8 +14,8 @@ const USAGE: &str = "\
 second lines < RECORDS                    the tool's lines
 second ogg2records FILE.ogg > RECORDS     an Ogg file's packets without comments
 second generate SEED COUNT > RECORDS      random streams, COUNT records or more
-second check SEED COUNT                   own checks on COUNT generated packets
-second streams LIST FOLDER                own checks on the streams of a list
+second check generated SEED COUNT         own checks on COUNT generated packets or more
+second check streams LIST FOLDER          own checks on the published streams of a list
 second bench RECORDS TIMES                reads the packets so many times";
 
 type Outcome = Result<(), Box<dyn Error>>;
@@ -27,8 +27,8 @@ fn main() -> ExitCode {
         ["lines"] => lines(),
         ["ogg2records", file] => ogg2records(file),
         ["generate", seed, count] => generate(seed, count),
-        ["check", seed, count] => check(seed, count),
-        ["streams", list, folder] => streams(list, folder),
+        ["check", "generated", seed, count] => check_generated(seed, count),
+        ["check", "streams", list, folder] => check_streams(list, folder),
         ["bench", records, times] => bench(records, times),
         _ => Err(USAGE.into()),
     };
@@ -65,7 +65,7 @@ fn generate(seed: &str, count: &str) -> Outcome {
     Ok(())
 }
 
-fn check(seed: &str, count: &str) -> Outcome {
+fn check_generated(seed: &str, count: &str) -> Outcome {
     let (seed, count) = (seed.parse()?, count.parse()?);
     let seen = generated::check_seeds(seed, count)?;
     println!("generated: seed {seed}, streams {}, {}", seen.streams, seen.packets);
@@ -76,7 +76,7 @@ fn check(seed: &str, count: &str) -> Outcome {
     }
 }
 
-fn streams(list: &str, folder: &str) -> Outcome {
+fn check_streams(list: &str, folder: &str) -> Outcome {
     let mut seen = published::Seen::default();
     published::check_list(&fs::read_to_string(list)?, Path::new(folder), &mut seen)?;
     println!(
