@@ -142,16 +142,22 @@ fn draw(order: &Order, x_list: &[u32], final_y: &[u32], flags: &[bool], multipli
 }
 
 impl Floor {
-    /// A floor of this content; its X list has 0 and 2^range_bits in front.
+    /// A floor of this content, where its X list has 0 and 2^range_bits in front and
+    /// different values between them.
     pub fn new(
         partition_classes: Vec<u8>,
         classes: Vec<Class>,
         multiplier: u32,
         range_bits: u32,
         x_list: Vec<u32>,
-    ) -> Floor {
+    ) -> Option<Floor> {
+        let end = 1u32.checked_shl(range_bits)?;
+        let enclosed = x_list.starts_with(&[0, end]) && x_list[2..].iter().all(|&x| x < end);
+        if !enclosed || !all_different(&x_list) {
+            return None;
+        }
         let order = Order::of(&x_list);
-        Floor { partition_classes, classes, multiplier, range_bits, x_list, order }
+        Some(Floor { partition_classes, classes, multiplier, range_bits, x_list, order })
     }
 
     pub fn partition_classes(&self) -> &[u8] {
@@ -236,7 +242,7 @@ pub(crate) fn read(cursor: &mut Cursor, books: usize) -> Result<Floor, Refusal> 
     let range_bits = cursor.field(4)?;
     let dimensions = partition_classes.iter().map(|&class| classes[usize::from(class)].dimensions);
     let x_list = read_x_list(cursor, range_bits, dimensions.sum(), start)?;
-    Ok(Floor::new(partition_classes, classes, multiplier, range_bits, x_list))
+    Floor::new(partition_classes, classes, multiplier, range_bits, x_list).ok_or(Refusal::at(12, start))
 }
 
 fn read_class(cursor: &mut Cursor, books: usize) -> Result<Class, Refusal> {
@@ -269,14 +275,14 @@ fn read_subclass_book(cursor: &mut Cursor, books: usize) -> Result<Option<u8>, R
     Ok(field.checked_sub(1).map(|number| number as u8))
 }
 
-/// The X list, its count judged before each X, its values when complete (01).
+/// The X list, its count judged before each X; its values are judged when it is
+/// complete (01).
 fn read_x_list(cursor: &mut Cursor, range_bits: u32, explicit: u32, start: u64) -> Result<Vec<u32>, Refusal> {
     let mut x_list = vec![0, 1 << range_bits];
     for _ in 0..explicit {
         require(x_list.len() < GREATEST_X_COUNT, 12, start)?;
         x_list.push(cursor.field(range_bits)?);
     }
-    require(all_different(&x_list), 12, start)?;
     Ok(x_list)
 }
 

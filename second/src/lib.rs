@@ -18,7 +18,7 @@
 //! | floor 1 | [`floor`] |
 //! | residues | [`residue`] |
 //! | mappings and modes | [`mapping`] |
-//! | setup packet | [`setup`] |
+//! | setup packet, its content's rules | [`setup`], [`rules`] |
 //! | audio packet, tally | [`audio`] |
 //! | record files, the tool's lines | [`records`], [`lines`] |
 //! | Ogg pages | [`ogg`] |
@@ -42,6 +42,7 @@ pub mod ogg;
 pub mod records;
 pub mod refusal;
 pub mod residue;
+pub mod rules;
 pub mod setup;
 pub mod space;
 pub mod write;

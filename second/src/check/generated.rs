@@ -14,8 +14,9 @@ use crate::ledger;
 use crate::limits::Limits;
 use crate::lines::{CURVE_BYTES, WORD_PLACES};
 use crate::refusal::Refusal;
+use crate::rules::meets_every_rule;
 use crate::setup::{setup, Setup};
-use crate::write::BitWriter;
+use crate::write::{write_setup, BitWriter};
 
 /// Books above this size are compared with the plain ledger only now and then.
 const PLAIN_LEDGER_ENTRIES: u32 = 600;
@@ -104,6 +105,13 @@ impl Check {
             let read = setup(&stream.identity, &packet, limits);
             self.seen.packets.add(&read);
             check_place(&packet, &read)?;
+            if let Ok(content) = &read {
+                let good = meets_every_rule(content, &stream.identity, limits);
+                claim(good, || format!("setup accepted against the rules: {}", hex(&packet)))?;
+                let rewritten = write_setup(content, stream.identity.channels, random);
+                let again = setup(&stream.identity, &rewritten.bytes, limits);
+                claim(again == read, || format!("setup rewritten as another: {}", hex(&packet)))?;
+            }
             let cut = whole.starts_with(&packet) && packet.len() < whole.len();
             claim(!cut || read.is_err_and(|refusal| refusal.number == 1), || {
                 format!("setup cut to {} bytes is not refused with 1", packet.len())

@@ -175,6 +175,7 @@ fn floor(random: &mut Random, books: usize) -> Floor {
     let multiplier = random.between(1, 4);
     let x_list = x_list(random, range_bits, count);
     Floor::new(partition_classes, classes[..named].to_vec(), multiplier, range_bits, x_list)
+        .expect("different X between the first two")
 }
 
 /// 0 and 2^range_bits, then different values between them.
