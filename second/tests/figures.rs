@@ -189,6 +189,23 @@ fn y_is_clamped_after_the_last_value() {
 }
 
 #[test]
+fn a_value_past_the_range_predicts_unclamped() {
+    // 300 at X 32: halfway from 10 is 155. -45 at X 32: halfway from 200 is 78.
+    let (y, _) = final_y(&[0, 64, 32, 16], &[10, 10, 300, 0], 256);
+    assert_eq!(y, [10, 10, 255, 155]);
+    let (y, _) = final_y(&[0, 64, 32, 16], &[200, 200, 300, 0], 256);
+    assert_eq!(y, [200, 200, 0, 78]);
+}
+
+#[test]
+fn rooms_may_be_negative() {
+    // Predicted 300: the high room is -44, and every value passes the room.
+    assert_eq!(unwrap_value(300, 1, 256), 300 - 1 - 44 - 1);
+    // Predicted -45: the low room is -45, smaller than the high room.
+    assert_eq!(unwrap_value(-45, 1, 256), 1 + 45 - 45);
+}
+
+#[test]
 fn a_point_with_value_0_is_flagged_as_a_neighbour() {
     let (y, flags) = final_y(&[0, 64, 32, 16], &[10, 10, 0, 2], 256);
     assert_eq!((y, flags), (vec![10, 10, 10, 11], vec![true; 4]));
