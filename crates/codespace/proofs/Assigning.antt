@@ -18,14 +18,14 @@ use Rattle.reading.proofs.Tabulate.{tabulate-store, tabulate-all}
 use Rattle.codespace.specs.Ledger.{Codeword, share, freeStrings, isLength, IsLength, answer, after}
 use Rattle.codespace.specs.Blocks.{vacant, enterAnswer, enterBlocks, emptyBlocks, runBlocks, Reached, blockFor}
 use Rattle.codespace.specs.Answers.{number, isNone}
-use Rattle.codespace.specs.Book.{used, isUsed, handedOutBefore, entryAnswer, orZero, isRefused, firstRefused, codewordOf, codewords, freeAfter, isLone, refusedOr, verdict, assigned, written, Decodable, NextUsed}
+use Rattle.codespace.specs.Book.{used, isUsed, handedOutBefore, entryAnswer, orZero, isRefused, firstRefused, codewordOf, codewords, freeAfter, isLone, verdict, assigned, written, Decodable, NextUsed}
 use Rattle.codespace.specs.declared.book.Assigned.{Assigned}
 use Rattle.codespace.specs.declared.book.Assigned.the-variants.{Accepted, Overspecified, Underspecified, Mismatched}
 use Rattle.codespace.proofs.Whole.{answer-are, refused-is}
 use Rattle.codespace.proofs.Claimed.{reached-start, next-reached}
 use Rattle.codespace.proofs.Places.{Small, enter-small, run-length}
 use Rattle.codespace.proofs.Steps.{outside-blocks}
-use Rattle.codespace.proofs.Laws.{after-used, handed-before, used-cons, used-skip, decodable}
+use Rattle.codespace.proofs.Laws.{after-used, handed-before, used-cons, used-skip, accepted-decodable}
 
 -- an entry's answer, by the space that the entries before it have come to
 entry-model : (ls bs : List ℕ) (e : ℕ) → Reached (take e ls) bs → entryAnswer ls e ≡ enterAnswer bs (getD ls e 0)
@@ -200,21 +200,6 @@ module _ (ls : List ℕ) (places : ℕ) where
   unfolding assigned
   assigned-is a n e = rw (eq-eqb (length ls) places n) e
 
-either : (ls : List ℕ) (a b : Bool) → eqb (freeAfter ls) 0 ≡ a → isLone (used ls) ≡ b → Accepted ≡ cond (a || b) Accepted Underspecified
-    → (freeAfter ls ≡ 0) ⊎ (isLone (used ls) ≡ true)
-either ls true b x y t = inl (eqb-true (freeAfter ls) 0 x)
-either ls false true x y t = inr y
-either ls false false x y t = let z : _≡_ {A = ℕ} 0 1 = cc in absurd (omega arith)
-
-accepted-by : (ls : List ℕ) (o : Option ℕ) → firstRefused ls ≡ o
-    → Accepted ≡ refusedOr o (cond (eqb (freeAfter ls) 0 || isLone (used ls)) Accepted Underspecified) → Decodable ls (codewords ls)
-accepted-by ls (some i) q t = let z : _≡_ {A = ℕ} 0 1 = cc in absurd (omega arith)
-accepted-by ls none q t = decodable ls q (either ls (eqb (freeAfter ls) 0) (isLone (used ls)) refl refl t)
-
-accepted-decodable : (ls words : List ℕ) → Accepted ≡ verdict ls → words ≡ codewords ls → Decodable ls words
-unfolding verdict
-accepted-decodable ls words e w = rw w (accepted-by ls (firstRefused ls) refl e)
-
 -- a refusal is not accepted
 pub over-accepted : (e : ℕ) → Overspecified e ≡ Accepted → ⊥
 over-accepted e q = let z : _≡_ {A = ℕ} 0 1 = cc in omega arith
@@ -222,31 +207,37 @@ over-accepted e q = let z : _≡_ {A = ℕ} 0 1 = cc in omega arith
 pub under-accepted : Underspecified ≡ Accepted → ⊥
 under-accepted q = let z : _≡_ {A = ℕ} 0 1 = cc in omega arith
 
-mismatch-accepted : Mismatched ≡ Accepted → ⊥
+pub mismatch-accepted : Mismatched ≡ Accepted → ⊥
 mismatch-accepted q = let z : _≡_ {A = ℕ} 0 1 = cc in omega arith
+
+written-refused : (a : Assigned) (ls : List ℕ) (places : ℕ) → (a ≡ Accepted → ⊥) → written a ls places ≡ replicate places 0
+written-refused Accepted ls places n = absurd (n refl)
+written-refused (Overspecified e) ls places n = refl
+written-refused Underspecified ls places n = refl
+written-refused Mismatched ls places n = refl
 
 -- what `assign_codewords` promises of its answer and of what it leaves
 abbrev pub Promised : List ℕ → List ℕ → Assigned → List ℕ → Type 0
 Promised ls words₀ a out = ((a ≡ assigned ls (length words₀)) × (out ≡ written a ls (length words₀))) × (a ≡ Accepted → Decodable ls out)
 
 module _ (ls words₀ : List ℕ) where
-  pub promised-mismatched : (out : List ℕ) → (length ls ≡ length words₀ → ⊥) → out ≡ replicate (length words₀) 0 → Promised ls words₀ Mismatched out
-  promised-mismatched out n e = ((mismatched ls (length words₀) n, e), λ q. absurd (mismatch-accepted q))
+  pub promised-mismatched : (a : Assigned) (out : List ℕ) → (length ls ≡ length words₀ → ⊥) → a ≡ Mismatched → out ≡ replicate (length words₀) 0
+      → Promised ls words₀ a out
+  promised-mismatched a out n q e =
+      rw q ((mismatched ls (length words₀) n, e), λ z. absurd (mismatch-accepted z))
 
   module _ (r : Assigned) (n : length ls ≡ length words₀) (e : r ≡ verdict ls) where
-    pub promised-accepted : (out : List ℕ) → (r ≡ Accepted → out ≡ codewords ls) → r ≡ Accepted → Promised ls words₀ Accepted out
+    pub promised-accepted : (out : List ℕ) → (r ≡ Accepted → out ≡ codewords ls) → r ≡ Accepted → Promised ls words₀ r out
     promised-accepted out w q =
-        ((assigned-is ls (length words₀) Accepted n (sym q ∙ e), w q), λ z. accepted-decodable ls out (sym q ∙ e) (w q))
+        ((assigned-is ls (length words₀) r n e, rw q (w q)), λ z. rw (w q) (accepted-decodable ls (sym e ∙ q)))
 
-    module _ (words out : List ℕ) (long : length words ≡ length words₀) (w : out ≡ replicate (length words) 0) where
-      zeros : out ≡ replicate (length words₀) 0
-      zeros = w ∙ ap (λ (k : ℕ). replicate k 0) long
-
-      pub promised-over : (entry : ℕ) → r ≡ Overspecified entry → Promised ls words₀ (Overspecified entry) out
-      promised-over entry q = ((assigned-is ls (length words₀) (Overspecified entry) n (sym q ∙ e), zeros), λ z. absurd (over-accepted entry z))
-
-      pub promised-under : r ≡ Underspecified → Promised ls words₀ Underspecified out
-      promised-under q = ((assigned-is ls (length words₀) Underspecified n (sym q ∙ e), zeros), λ z. absurd (under-accepted z))
-
-      pub promised-mismatch : r ≡ Mismatched → Promised ls words₀ Mismatched out
-      promised-mismatch q = ((assigned-is ls (length words₀) Mismatched n (sym q ∙ e), zeros), λ z. absurd (mismatch-accepted z))
+    pub promised-refused : (a : Assigned) (words out : List ℕ) → (r ≡ Accepted → ⊥) → length words ≡ length words₀ → a ≡ r
+        → out ≡ replicate (length words) 0 → Promised ls words₀ a out
+    promised-refused a words out m long q w =
+        let x : a ≡ Accepted → ⊥ = λ z. m (sym q ∙ z) in (
+          (
+            assigned-is ls (length words₀) a n (q ∙ e),
+            w ∙ ap (λ (k : ℕ). replicate k 0) long ∙ sym (written-refused a ls (length words₀) x),
+          ),
+          λ z. absurd (x z),
+        )

@@ -3,7 +3,7 @@
 use mathlib.Core.Bool.{Bool, true, false, not}
 use mathlib.Core.List.{List, [], _∷_}
 use mathlib.Core.Option.{Option, none, some}
-use mathlib.Core.Path.{_≡_, refl, sym, ap, _∙_, subst}
+use mathlib.Core.Path.{_≡_, refl, sym, ap, _∙_}
 use mathlib.Core.Logic.{_⊎_, inl, inr, ⊎-elim}
 use Prim.Native.Nat.{ℕ, zero, suc, _+_, _-_, _*_, _/_, _^_, _≤_, _<_}
 use native.Mathlib.Nat.{add-zero, add-suc, suc-add, pow-succ'}
@@ -103,7 +103,7 @@ pub record Less (f f′ : ℕ → Bool) (a p : ℕ) : Type 0 where
   pub before : (s : ℕ) → s < a → f′ s ≡ f s
   pub behind : (s : ℕ) → a + p ≤ s → f′ s ≡ f s
 
--- a block of p strings was taken at g: nothing was free below it but less than p strings; and what is restOf
+-- a block of p strings was taken at g: nothing was free below it but less than p strings; and what is left
 pub record Taken (f : ℕ → Bool) (p h x : ℕ) (g : Block) : Type 0 where
   pub low : x ≤ g .first
   pub top : g .first + p ≤ vacant

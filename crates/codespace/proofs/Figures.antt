@@ -60,9 +60,11 @@ module _ (ls : List ℕ) where
   verdict-is : verdict ls ≡ verdictBy ls (answers [] ls)
   unfolding verdict firstRefused
   verdict-is =
-      rw
-      (lowest-same (isRefused ls) (λ e. isUsed ls e && isNone (getD (answers [] ls) e none)) (length ls)
-      (λ e h. unfold isRefused in rw (entry-is e h)), free-is)
+      rw (
+        lowest-same (isRefused ls) (λ e. isUsed ls e && isNone (getD (answers [] ls) e none)) (length ls)
+            (λ e h. unfold isRefused in rw (entry-is e h)),
+        free-is,
+      )
 
 same : List ℕ → List ℕ → Bool
 same [] [] = true

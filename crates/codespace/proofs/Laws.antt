@@ -5,7 +5,8 @@
 --   not-a-prefix       no entry's codeword is the beginning of another's
 --   some-entry         with nothing left, every string begins with the codeword of an entry
 --   exactly-one-entry  and with that of no other
---   lone-codeword      a lone entry of length 1 has codeword 0
+--   lone-length, lone-codeword   a lone entry has length 1 and codeword 0
+--   accepted-decodable all of it for a book with the verdict `Accepted`
 -- Assumes nothing.
 use mathlib.Core.Bool.{Bool, true, false, cond, not, _&&_, _||_}
 use mathlib.Core.List.{List, [], _∷_, _++_}
@@ -26,7 +27,8 @@ use Rattle.reading.proofs.Tabulate.{tabulate-length, tabulate-at}
 use Rattle.codespace.specs.Ledger.{Codeword, codeword, share, begins, taken, freeStrings, isLength, IsLength, answer, enlist, after}
 use Rattle.codespace.specs.Blocks.{runBlocks, enterAnswer, blockFor, blockAbove, smallest, emptyBlocks}
 use Rattle.codespace.specs.Answers.{isNone}
-use Rattle.codespace.specs.Book.{used, isUsed, handedOutBefore, entryAnswer, orZero, isRefused, firstRefused, codewordOf, codewords, freeAfter, isLone, Begins, PrefixCode, Complete, Decodable}
+use Rattle.codespace.specs.Book.{used, isUsed, handedOutBefore, entryAnswer, orZero, isRefused, firstRefused, codewordOf, codewords, freeAfter, isLone, refusedOr, verdict, Begins, PrefixCode, Complete, Decodable}
+use Rattle.codespace.specs.declared.book.Assigned.the-variants.{Accepted, Overspecified, Underspecified}
 use Rattle.codespace.proofs.Whole.{some-says, was-free, all-taken, answer-are}
 use Rattle.codespace.proofs.Claimed.{after-snoc}
 
@@ -203,6 +205,11 @@ module _ (ls : List ℕ) (accepted : firstRefused ls ≡ none) where
         let w : handedOutBefore ls (length ls) ≡ after [] (used ls) = unfold handedOutBefore in ap (λ (k : List ℕ). after [] (used k)) (take-length ls) in
         taken-entry (length ls) (omega arith) (rw w (all-taken (after [] (used ls)) (unfold freeAfter in z) s h))
 
+    -- and with no other
+    pub exactly-one-entry : freeAfter ls ≡ 0 → s < 4294967296
+        → (e : ℕ) × (Begins ls (codewords ls) s e × ((f : ℕ) → Begins ls (codewords ls) s f → f ≡ e))
+    exactly-one-entry z h = let p = some-entry z h in (p .0, (p .1, λ f b. at-most-one f (p .0) b (p .1)))
+
   -- NO CODEWORD IS THE BEGINNING OF ANOTHER
   pub not-a-prefix : (e f : ℕ) → 0 < getD ls e 0 → 0 < getD ls f 0 → getD ls e 0 ≤ getD ls f 0
       → getD (codewords ls) f 0 / 2 ^ (getD ls f 0 - getD ls e 0) ≡ getD (codewords ls) e 0 → e ≡ f
@@ -287,3 +294,19 @@ decodable ls ok z =
       complete = λ f. ⊎-elim (λ (q : freeAfter ls ≡ 0). complete ls ok q) (λ (q : isLone (used ls) ≡ true). absurd (true-not-false (isLone (used ls)) q f)) z;
       lone = λ t e h. (lone-length ls t e h, lone-codeword ls t e h ok);
     }
+
+either : (ls : List ℕ) (a b : Bool) → eqb (freeAfter ls) 0 ≡ a → isLone (used ls) ≡ b → cond (a || b) Accepted Underspecified ≡ Accepted
+    → (freeAfter ls ≡ 0) ⊎ (isLone (used ls) ≡ true)
+either ls true b x y t = inl (eqb-true (freeAfter ls) 0 x)
+either ls false true x y t = inr y
+either ls false false x y t = let z : _≡_ {A = ℕ} 0 1 = cc in absurd (omega arith)
+
+accepted-by : (ls : List ℕ) (o : Option ℕ) → firstRefused ls ≡ o
+    → refusedOr o (cond (eqb (freeAfter ls) 0 || isLone (used ls)) Accepted Underspecified) ≡ Accepted → Decodable ls (codewords ls)
+accepted-by ls (some i) q t = let z : _≡_ {A = ℕ} 0 1 = cc in absurd (omega arith)
+accepted-by ls none q t = decodable ls q (either ls (eqb (freeAfter ls) 0) (isLone (used ls)) refl refl t)
+
+-- AN ACCEPTED BOOK
+pub accepted-decodable : (ls : List ℕ) → verdict ls ≡ Accepted → Decodable ls (codewords ls)
+unfolding verdict
+accepted-decodable ls e = accepted-by ls (firstRefused ls) refl e

@@ -68,13 +68,14 @@ outcomes (l ∷ ls) ws =
 
 -- `enter`: the model's answer and space, and so the ledger's
 pub modelled-entry : (bs : List ℕ) (len : ℕ) (r : Entered) → Modelled bs len r → Modelled bs len r × ((ls : List ℕ) → Reached ls bs → Entry ls len r)
-modelled-entry bs len r m =
-    (m,
-    λ ls h.
-    record {
-      answer = m .answer ∙ ap answered (next-answer ls len bs h);
-      next = rw (m .blocks) (next-reached ls len bs h);
-    })
+modelled-entry bs len r m = (
+  m,
+  λ ls h.
+      record {
+        answer = m .answer ∙ ap answered (next-answer ls len bs h);
+        next = rw (m .blocks) (next-reached ls len bs h);
+      },
+)
 
 -- `is_full`, by the height that `smallest_block` found
 pub full-is : (bs : List ℕ) (g : ℕ) → length bs ≡ 33 → g ≡ firstHeld 33 0 bs → leb 33 g ≡ isNone (enterAnswer bs 32)
@@ -89,7 +90,6 @@ full-is bs g n e =
 sets-snoc : (xs l : List ℕ) (i v : ℕ) → sets l i (xs ++ (v ∷ [])) ≡ set (sets l i xs) (i + length xs) v
 sets-snoc [] l i v = rw add-zero
 sets-snoc (x ∷ xs) l i v = let e : i + suc (length xs) ≡ suc i + length xs = omega arith in rw e (sets-snoc xs (set l i x) (suc i) v)
-
 
 numbers-length : (ls : List ℕ) → length (map number (answers [] ls)) ≡ length ls
 numbers-length ls = length-map (answers [] ls) number ∙ answers-length ls []
@@ -120,7 +120,7 @@ entering-turn ls out₀ out out′ bs i v r h w m e q =
       stored =
           q
           ∙ rw (w .stored, k, add-one, take-suc ls i 0 h, answers-snoc (take i ls) [] (getD ls i 0), map-append number (answers [] (take i ls)) (o ∷ []))
-              (sym (sets-snoc done out₀ 0 (number o) ∙ ap (λ (j : ℕ). set (sets out₀ 0 done) j (number o)) n));
+          (sym (sets-snoc done out₀ 0 (number o) ∙ ap (λ (j : ℕ). set (sets out₀ 0 done) j (number o)) n));
       reached = rw (add-one, take-suc ls i 0 h) (t .next);
     }
 

@@ -1,9 +1,9 @@
--- The loops' steps, by the places of the array; and that they smallest what the model finds.
+-- The loops' steps, by the places of the array; and that they find what the model finds.
 -- Assumes nothing.
 use mathlib.Core.Bool.{Bool, true, false}
 use mathlib.Core.List.{List, [], _∷_, _++_}
 use mathlib.Core.Option.{Option, none, some}
-use mathlib.Core.Path.{_≡_, refl, sym, ap, _∙_, subst}
+use mathlib.Core.Path.{_≡_, refl, sym, ap, _∙_}
 use mathlib.Core.Logic.{_⊎_, inl, inr, ⊎-elim}
 use Prim.Native.Nat.{ℕ, zero, suc, _+_, _-_, _*_, _/_, _%_, _^_, _≤_, _<_}
 use native.Mathlib.Nat.{add-zero, add-suc, suc-add, one-mul, mod-eq-of-lt, sub-self, add-sub-cancel-left, div-le-self, zero-add, sub-zero}

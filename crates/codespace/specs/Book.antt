@@ -1,4 +1,4 @@
--- A BOOK'S LENGTHS (01, "Bits and books"; refusals 7 and 8; READINGS, "Books"). A book has a list of entry lengths, 0 for an unused entry (002). Those of
+-- A BOOK'S LENGTHS (01, "Bits and books"; refusals 7 and 8). A book has a list of entry lengths, 0 for an unused entry (002). Those of
 -- its used entries are entered, in entry order, into an empty space of their own. All of it is by the ledger.
 use mathlib.Core.Bool.{Bool, true, false, cond, not, _&&_, _||_}
 use mathlib.Core.List.{List, [], _∷_}

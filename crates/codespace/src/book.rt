@@ -1,12 +1,15 @@
 // The codewords of a book (01, "Bits and books"; refusals 7 and 8): the lengths of its used entries, entered in entry order into an empty space of
 // their own. specs/Book.antt says by the ledger what each entry gets and when the lengths are accepted.
+use crate::space::Space;
+use crate::space::VACANT;
+use crate::space::is_full;
+use crate::space::take_codeword;
 use reading::buffers::clear_u32;
-use crate::space::{is_full, take_codeword, Space, VACANT};
 ghost use mathlib.Core.Path.{_≡_};
 ghost use mathlib.Core.Bool.{cond};
 ghost use Prim.Native.Nat.{_≤_};
 ghost use lib.Dec.{eqb};
-ghost use lib.ListN.{length};
+ghost use lib.ListN.{length, replicate};
 ghost use Rattle.codespace.specs.Blocks.{enterAnswer, enterBlocks};
 ghost use Rattle.codespace.specs.Answers.{number};
 ghost use Rattle.codespace.specs.Book.{used, isLone, verdict, assigned, written, codewords, Decodable, NextUsed};
@@ -28,25 +31,23 @@ pub fn assign_codewords(lengths: &[u8], words: &mut [u32]) -> Assigned
     ensures { λ r. ⌜ (r ≡ Assigned.Accepted → Decodable (now (lengths .entry)) (now (words .exit))) ⌝ }
 {
     if lengths.len() != words.len() {
-        clear_u32(words);
-        return Assigned::Mismatched;
+        return refuse(words, Assigned::Mismatched);
     }
     let answer = hand_out(lengths, words);
     match answer {
-        Assigned::Accepted => Assigned::Accepted,
-        Assigned::Overspecified(entry) => {
-            clear_u32(words);
-            Assigned::Overspecified(entry)
-        }
-        Assigned::Underspecified => {
-            clear_u32(words);
-            Assigned::Underspecified
-        }
-        Assigned::Mismatched => {
-            clear_u32(words);
-            Assigned::Mismatched
-        }
+        Assigned::Accepted => answer,
+        Assigned::Overspecified(_) => refuse(words, answer),
+        Assigned::Underspecified => refuse(words, answer),
+        Assigned::Mismatched => refuse(words, answer),
     }
+}
+
+// A refusal leaves all zeros.
+fn refuse(words: &mut [u32], answer: Assigned) -> Assigned
+    ensures { λ r. ⌜ (r ≡ answer) × (now (words .exit) ≡ replicate (length (now (words .entry))) 0) ⌝ }
+{
+    clear_u32(words);
+    answer
 }
 
 // The verdict, and the codewords where it accepts.

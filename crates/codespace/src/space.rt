@@ -14,6 +14,7 @@ ghost use Rattle.codespace.specs.Blocks.{vacant, emptyBlocks, enterAnswe
 ghost use Rattle.codespace.specs.Steps.{firstHeld, upperHalves};
 ghost use Rattle.codespace.specs.Answers.{number, numberOf, outcome, isNone};
 ghost use Rattle.codespace.specs.Entering.{Modelled, Entry};
+ghost use Rattle.codespace.specs.Figures.{Figures};
 
 // No string of 32 bits: one past the last.
 pub const VACANT: u64 = 4294967296;
@@ -112,7 +113,10 @@ pub fn enter(space: Space, length: u8) -> Entered
             space: Space { blocks },
         };
     }
-    Entered { answer: Answer::Refused, space: Space { blocks } }
+    Entered {
+        answer: Answer::Refused,
+        space: Space { blocks },
+    }
 }
 
 // An answer as a number: the codeword, or VACANT for a refusal.
@@ -126,10 +130,11 @@ pub fn answer_number(answer: Answer) -> u64
 }
 
 // Enters a list of lengths one by one, from an empty space: the answers go to `numbers`, as far as it has places.
-// With a place for each the claim of demand 3 holds of the lengths and of what is there.
+// With a place for each, the claim of demand 3 holds of the lengths and of what is there. 01's figures about lengths stand here too.
 pub fn enter_all(lengths: &[u8], numbers: &mut [u64])
     ensures { λ _. ⌜ now (numbers .exit) ≡ sets (now (numbers .entry)) 0 (map number (answers [] (now (lengths .entry)))) ⌝ }
     ensures { λ _. ⌜ (length (now (lengths .entry)) ≡ length (now (numbers .entry)) → Balanced (now (lengths .entry)) (map outcome (now (numbers .exit)))) ⌝ }
+    ensures { λ _. ⌜ Figures ⌝ }
 {
     let mut space = Space::empty();
     let mut i = 0;

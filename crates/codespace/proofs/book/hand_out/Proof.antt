@@ -36,9 +36,10 @@ same-length c = search needs
 
 returns : tie.Need-returns Inv-loop μ-loop
 returns c =
-    let t = c .before .before .before .before in
-    (overspecified _ _ _ _ _ _ (t .loop-test .taken) (t .before .loop .inv) (c .before .entry-codeword .ensures .0) (c .if1 .taken),
-    λ q. absurd (over-accepted _ q))
+    let t = c .before .before .before .before in (
+      overspecified _ _ _ _ _ _ (t .loop-test .taken) (t .before .loop .inv) (c .before .entry-codeword .ensures .0) (c .if1 .taken),
+      λ q. absurd (over-accepted _ q),
+    )
 
 cast-words : tie.Need-cast-words Inv-loop μ-loop
 cast-words c = search needs
@@ -70,9 +71,10 @@ same-length-2 c = search needs
 returns-2 : tie.Need-returns-2 Inv-loop μ-loop
 returns-2 c =
     let l = c .before .before .before in
-    let w = l .before .loop .inv in
-    (full-accepted _ _ _ _ _ (l .loop-test .left) w _ (c .before .is-full .ensures) (c .if2 .taken),
-    λ q. all-written _ _ _ _ _ (l .loop-test .left) w (l .before .before .before .before .before .before .pre))
+    let w = l .before .loop .inv in (
+      full-accepted _ _ _ _ _ (l .loop-test .left) w _ (c .before .is-full .ensures) (c .if2 .taken),
+      λ q. all-written _ _ _ _ _ (l .loop-test .left) w (l .before .before .before .before .before .before .pre),
+    )
 
 is-lone-requires : tie.Need-is-lone-requires Inv-loop μ-loop
 is-lone-requires c κs = search needs
@@ -83,9 +85,10 @@ same-length-3 c = search needs
 returns-3 : tie.Need-returns-3 Inv-loop μ-loop
 returns-3 c =
     let l = c .before .before .before .before .before in
-    let w = l .before .loop .inv in
-    (lone-accepted _ _ _ _ _ (l .loop-test .left) w _ (c .before .is-lone .ensures) (c .if3 .taken),
-    λ q. all-written _ _ _ _ _ (l .loop-test .left) w (l .before .before .before .before .before .before .pre))
+    let w = l .before .loop .inv in (
+      lone-accepted _ _ _ _ _ (l .loop-test .left) w _ (c .before .is-lone .ensures) (c .if3 .taken),
+      λ q. all-written _ _ _ _ _ (l .loop-test .left) w (l .before .before .before .before .before .before .pre),
+    )
 
 same-length-4 : tie.Need-same-length-4 Inv-loop μ-loop
 same-length-4 c = search needs
@@ -94,9 +97,10 @@ returns-4 : tie.Need-returns-4 Inv-loop μ-loop
 returns-4 c =
     let f = c .before .before in
     let l = f .before .before .before in
-    let w = l .before .loop .inv in
-    (underspecified _ _ _ _ _ (l .loop-test .left) w _ _ (f .before .is-full .ensures) (f .if2 .left) (c .before .is-lone .ensures) (c .if3 .left),
-    λ q. absurd (under-accepted q))
+    let w = l .before .loop .inv in (
+      underspecified _ _ _ _ _ (l .loop-test .left) w _ _ (f .before .is-full .ensures) (f .if2 .left) (c .before .is-lone .ensures) (c .if3 .left),
+      λ q. absurd (under-accepted q),
+    )
 
 pub hand-out-spec : {M : Type 1} → statement M
 hand-out-spec =

@@ -4,6 +4,7 @@ use Prim.Native.Nat.{_-_}
 use borrow.Author.Needs.{needs}
 use lib.ListN.{length}
 use lib.Seq.{length-sets}
+use Rattle.codespace.proofs.Figures.{figures}
 use Rattle.codespace.proofs.Numbers.{Entering, entering-start, entering-length, entering-turn, entering-end, entered-balanced}
 use Rattle.codespace.proofs.space.enter_all.Statement.{statement}
 use Rattle.codespace.proofs.space.enter_all.Tie as tie
@@ -63,7 +64,7 @@ same-length c = entering-length _ _ _ _ _ (c .before .loop .inv)
 returns : tie.Need-returns Inv-loop μ-loop
 returns c =
     let e = entering-end _ _ _ _ _ (search needs) (c .before .loop .inv) in
-    (e, entered-balanced _ _ _ e)
+    (e, (entered-balanced _ _ _ e, figures))
 
 pub enter-all-spec : {M : Type 1} → statement M
 enter-all-spec =

@@ -39,7 +39,7 @@ add-blocks c =
     let h = c .before .loop .h in
     let e = bit (h - 1) (omega arith) in
     let p : 2 ^ (h - 1) ≤ 2 ^ 32 = pow-mono {i = h - 1} {j = 32} (omega arith) in
-    rw e (omega arith)
+    omega (arith, e, p)
 
 mul-blocks-2 : tie.Need-mul-blocks-2 Inv-loop μ-loop
 mul-blocks-2 c = search needs
@@ -57,8 +57,8 @@ loop-again c =
     let e = bit (h - 1) (omega arith) in (
       omega arith,
       omega arith,
-      rw e
-          (ap (λ (l : List ℕ). set l (h - 1) (a .first + 2 ^ (h - 1))) (c .before .loop .inv .2)
+      ap (λ (x : ℕ). set (c .before .loop .blocks) (h - 1) (a .first + x)) e
+          ∙ (ap (λ (l : List ℕ). set l (h - 1) (a .first + 2 ^ (h - 1))) (c .before .loop .inv .2)
           ∙ sym (halves-more (a .from) (a .first) (set (a .blocks .now) (a .from) 4294967296) h (omega arith) (omega arith))),
     )
 
