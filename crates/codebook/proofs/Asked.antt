@@ -20,10 +20,10 @@ use Rattle.bits.specs.declared.Refusal.{Refusal}
 use Rattle.bits.specs.declared.Field.the-variants.{Value, Refused}
 use Rattle.reading.proofs.Least.{lt-or-le}
 use Rattle.codespace.specs.Book.{codewords, PrefixCode}
-use Rattle.codespace.proofs.Laws.{used-length, codewords-length}
+use Rattle.codespace.proofs.Laws.{accepted-decodable, used-length, codewords-length}
 use Rattle.codebook.specs.Codeword.{bitsAt, matching}
 use Rattle.codebook.specs.Book.{Codebook}
-use Rattle.codebook.proofs.Accepted.{none-refused, accepted-decodable}
+use Rattle.codebook.proofs.Accepted.{none-refused}
 use Rattle.codebook.proofs.Bits.{bits-more, double-fits, more-fits}
 use Rattle.codebook.proofs.Matching.{Starts, NoneBefore, none-fewer, passes-short, passes-other, turn-never, turn-on, turn-found, turn-end, turn-cut}
 

@@ -21,14 +21,14 @@ use Rattle.bits.proofs.Cuts.{field-cut-packet}
 use Rattle.codespace.specs.Book.{used, isUsed, isLone, orZero, codewords, verdict, Begins, PrefixCode, Decodable}
 use Rattle.codespace.specs.Ledger.{share}
 use Rattle.codespace.specs.declared.book.Assigned.the-variants.{Accepted}
-use Rattle.codespace.proofs.Laws.{used-length}
+use Rattle.codespace.proofs.Laws.{accepted-decodable, used-length}
 use Rattle.codebook.specs.Codeword.{bitsAt, isCodeword, entryOf, orGoOn, matching, firstUsed, codeword}
 use Rattle.bits.specs.Cursors.{position, outcome}
 use Rattle.bits.specs.declared.Cursor.{Cursor}
 use Rattle.bits.specs.declared.Field.{Field}
 use Rattle.codebook.specs.Book.{Codebook}
 use Rattle.codebook.specs.Claims.{Settled}
-use Rattle.codebook.proofs.Accepted.{none-refused, accepted-decodable}
+use Rattle.codebook.proofs.Accepted.{none-refused}
 use Rattle.codebook.proofs.Bits.{bits-lt, bits-begin, bits-cut}
 use Rattle.codebook.proofs.Lone.{none-used}
 use Rattle.codebook.proofs.Matching.{Starts, NoneBefore, turn-on, turn-found}
