@@ -2,9 +2,8 @@
  *
  * Link target/staticlib/libreader.a, which `rt staticlib reader` writes (x86-64 Linux).
  *
- * No call allocates, keeps state, or asks anything of its input: any bytes and any numbers may be handed in. The only duty of the
- * caller is C's own, that a pointer and a length name memory that may be read and that nobody writes to during the call. A length of 0
- * may come with any pointer, a null pointer among them. A length is at most 2^63 - 1.
+ * No call allocates, keeps state, or asks anything of its input: any bytes and any numbers may be handed in. The caller's only duty is
+ * that a pointer, which is never null, and the length beside it name memory that may be read and that nobody writes to during the call.
  */
 #ifndef TORCHVALLEY_H
 #define TORCHVALLEY_H
