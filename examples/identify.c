@@ -1,9 +1,4 @@
-/* Reads one identification packet from standard input and prints what it says, through the C interface.
- *
- *   rt staticlib reader
- *   cc -Iinclude examples/identify.c target/staticlib/libreader.a -o target/identify_c
- *   target/identify_c < crates/identify/stdin
- */
+/* Reads one identification packet from standard input and prints what it says, through the C interface. `examples/run` builds it. */
 #include <inttypes.h>
 #include <stdio.h>
 #include <torchvalley.h>
@@ -14,7 +9,7 @@ int main(void) {
     struct torchvalley_identity_answer answer = torchvalley_identification(packet, length);
     if (answer.refusal != 0) {
         printf("1 refused %" PRIu32 "\n", answer.refusal);
-        return 1;
+        return 0;
     }
     struct torchvalley_identity identity = answer.identity;
     printf("1 identity channels %" PRIu32 " rate %" PRIu32 " blocks %" PRIu32 " %" PRIu32 "\n", identity.channels, identity.rate, identity.blocksize0,
