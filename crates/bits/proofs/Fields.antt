@@ -41,6 +41,7 @@ module _ (s : List ℕ) (k w : ℕ) where
           let a : v ≡ valueAt s k w = ap (λ (x : ℕ × ℕ). x .0) (sym p) in
           let b : n ≡ k + w = ap (λ (x : ℕ × ℕ). x .1) (sym p) in
           record { value = a; next = b; within = omega arith; below = rw a (value-lt s k w) }
+
       go : (b : Bool) → leb (k + w) (8 * length s) ≡ b → need {A = ℕ × ℕ} b (refusal 1 k) (ok (valueAt s k w, k + w)) ≡ ok (v, n) → Whole s k w v n
       go true p q = known (cc) (leb-true _ _ p)
       go false p q = let z : _≡_ {A = ℕ} 0 1 = cc in absurd (omega arith)

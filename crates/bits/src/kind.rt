@@ -7,6 +7,8 @@ pub struct PacketKind {
 
 impl PacketKind {
     pub const IDENTIFICATION: u8 = 1;
+
     pub const COMMENT: u8 = 3;
+
     pub const SETUP: u8 = 5;
 }

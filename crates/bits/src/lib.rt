@@ -54,15 +54,27 @@ impl Cursor {
         let byte = self.byte;
         let bit = wide(self.bit);
         if packet.len() < byte {
-            return Field::Refused(Refusal { number: 1, place: self });
+            return Field::Refused(Refusal {
+                number: 1,
+                place: self,
+            });
         }
         let end = bit + width;
         if packet.len() - byte < (end + 7) / 8 {
-            return Field::Refused(Refusal { number: 1, place: self });
+            return Field::Refused(Refusal {
+                number: 1,
+                place: self,
+            });
         }
         let offset = bit % 8;
         let bytes = whole_bytes(packet, byte + bit / 8, (offset + width + 7) / 8);
-        Field::Value(low_bits(bytes >> offset, width), Cursor { byte: byte + end / 8, bit: (end % 8) as u8 })
+        Field::Value(
+            low_bits(bytes >> offset, width),
+            Cursor {
+                byte: byte + end / 8,
+                bit: (end % 8) as u8,
+            },
+        )
     }
 
     // The bit at the cursor: the field of one bit.

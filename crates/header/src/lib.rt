@@ -21,10 +21,16 @@ pub fn common_header(packet: &[u8], kind: u8) -> Opening
     let mut i: usize = 0;
     while i < 7 {
         if packet.len() <= i {
-            return Opening::Refused(Refusal { number: 1, place: Cursor { byte: i, bit: 0 } });
+            return Opening::Refused(Refusal {
+                number: 1,
+                place: Cursor { byte: i, bit: 0 },
+            });
         }
         if packet[i] != expected[i] {
-            return Opening::Refused(Refusal { number: 2, place: Cursor { byte: i, bit: 0 } });
+            return Opening::Refused(Refusal {
+                number: 2,
+                place: Cursor { byte: i, bit: 0 },
+            });
         }
         i = i + 1;
     }
@@ -39,7 +45,10 @@ pub fn framing(packet: &[u8], from: Cursor) -> Field
         Field::Refused(z) => Field::Refused(z),
         Field::Value(flag, next) => {
             if flag == 0 {
-                return Field::Refused(Refusal { number: 5, place: from });
+                return Field::Refused(Refusal {
+                    number: 5,
+                    place: from,
+                });
             }
             Field::Value(flag, next)
         }

@@ -154,5 +154,7 @@ module _ (s : List ℕ) (k : Cursor) {r : Field} (p : outcome r ≡ blockSize s 
       sizes-whole h = rw (value-is p q, value-is p₁ q₁, le-leb _ _ h)
 
 pub ruleset stream-laws = (needs, version-cut, version-wrong, channels-cut, channels-none, channels-many, rate-cut, rate-none, stream-whole)
+
 pub ruleset bitrate-laws = (needs, maximum-cut, nominal-cut, minimum-cut, bitrates-whole)
+
 pub ruleset size-laws = (needs, size-cut, size-small, size-large, size-whole, first-refused, second-refused, sizes-reversed, sizes-whole)

@@ -1,3 +1,4 @@
 pub mod FieldLaws
 pub mod PacketLaws
 pub mod SoundLaws
+pub mod Numbers

@@ -102,7 +102,7 @@ module _ (most : ℕ) (s : List ℕ) {r : Opening} (p : opened r ≡ commonHeade
                 «bitrate_nominal» = toZ w32 (ofZ w32 (b .nominal));
                 «bitrate_minimum» = toZ w32 (ofZ w32 (b .minimum));
                 blocksize0 = c .first;
-                blocksize1 = c .second
+                blocksize1 = c .second;
               })) ≡ identification most s
           unfolding identification identified
           accepted q₄ f g h = rw (opened-ok p q, stream-ok p₁ q₁, bitrates-ok p₂ q₂, sizes-ok p₃ q₃, value-is p₄ q₄, toZ-ofZ f, toZ-ofZ g, toZ-ofZ h)

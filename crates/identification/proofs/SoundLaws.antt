@@ -131,7 +131,7 @@ accepted-sound most s {i} e =
       some-rate = f .some-rate;
       first-size = g .first-size;
       second-size = g .second-size;
-      in-order = g .in-order
+      in-order = g .in-order;
     })
 
 -- as the code asks it, beside the equation
@@ -181,16 +181,16 @@ module _ (most : ℕ) (i : Identity) where
       → (b : Bool) → b ≡ listed (i .blocksize0) allowedSizes → not b ≡ false
       → (r : Bool) → r ≡ listed (i .blocksize1) allowedSizes → (r ≡ true) ↔ Sound most i
   last-tested c f t o b p e r q = (
-      λ g.
-      record {
-        some-channel = positive (i .channels) c;
-        few-channels = f;
-        some-rate = positive (i .rate) t;
-        first-size = sym p ∙ not-false b e;
-        second-size = sym q ∙ g;
-        in-order = o
-      },
-      λ w. q ∙ w .second-size,
-    )
+    λ g.
+        record {
+          some-channel = positive (i .channels) c;
+          few-channels = f;
+          some-rate = positive (i .rate) t;
+          first-size = sym p ∙ not-false b e;
+          second-size = sym q ∙ g;
+          in-order = o;
+        },
+    λ w. q ∙ w .second-size,
+  )
 
 pub ruleset sound-laws = (needs, no-channel, many-channels, no-rate, reversed, first-unlisted, last-tested)

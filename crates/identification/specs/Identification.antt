@@ -55,5 +55,5 @@ identification most s =
       «bitrate_nominal» = b .0 .nominal;
       «bitrate_minimum» = b .0 .minimum;
       blocksize0 = c .0 .first;
-      blocksize1 = c .0 .second
+      blocksize1 = c .0 .second;
     }))))))

@@ -46,22 +46,34 @@ pub fn read_stream(packet: &[u8], from: Cursor, most_channels: u32) -> StreamRea
         Field::Refused(z) => StreamRead::Refused(z),
         Field::Value(version, at_channels) => {
             if version != 0 {
-                return StreamRead::Refused(Refusal { number: 3, place: from });
+                return StreamRead::Refused(Refusal {
+                    number: 3,
+                    place: from,
+                });
             }
             match at_channels.field(packet, 8) {
                 Field::Refused(z) => StreamRead::Refused(z),
                 Field::Value(channels, at_rate) => {
                     if channels == 0 {
-                        return StreamRead::Refused(Refusal { number: 4, place: at_channels });
+                        return StreamRead::Refused(Refusal {
+                            number: 4,
+                            place: at_channels,
+                        });
                     }
                     if most_channels < channels {
-                        return StreamRead::Refused(Refusal { number: 14, place: at_channels });
+                        return StreamRead::Refused(Refusal {
+                            number: 14,
+                            place: at_channels,
+                        });
                     }
                     match at_rate.field(packet, 32) {
                         Field::Refused(z) => StreamRead::Refused(z),
                         Field::Value(rate, next) => {
                             if rate == 0 {
-                                return StreamRead::Refused(Refusal { number: 4, place: at_rate });
+                                return StreamRead::Refused(Refusal {
+                                    number: 4,
+                                    place: at_rate,
+                                });
                             }
                             StreamRead::Value(Stream { channels, rate }, next)
                         }
@@ -86,7 +98,14 @@ pub fn read_bitrates(packet: &[u8], from: Cursor) -> BitratesRead
                     let most = bits::signed(maximum);
                     let usual = bits::signed(nominal);
                     let least = bits::signed(minimum);
-                    BitratesRead::Value(Bitrates { maximum: most, nominal: usual, minimum: least }, next)
+                    BitratesRead::Value(
+                        Bitrates {
+                            maximum: most,
+                            nominal: usual,
+                            minimum: least,
+                        },
+                        next,
+                    )
                 }
             },
         },
@@ -101,10 +120,16 @@ pub fn read_block_size(packet: &[u8], from: Cursor) -> Field
         Field::Refused(z) => Field::Refused(z),
         Field::Value(exponent, next) => {
             if exponent < 6 {
-                return Field::Refused(Refusal { number: 4, place: from });
+                return Field::Refused(Refusal {
+                    number: 4,
+                    place: from,
+                });
             }
             if 13 < exponent {
-                return Field::Refused(Refusal { number: 4, place: from });
+                return Field::Refused(Refusal {
+                    number: 4,
+                    place: from,
+                });
             }
             Field::Value(1 << exponent, next)
         }
@@ -121,7 +146,10 @@ pub fn read_block_sizes(packet: &[u8], from: Cursor) -> BlockSizesRead
             Field::Refused(z) => BlockSizesRead::Refused(z),
             Field::Value(second, next) => {
                 if second < first {
-                    return BlockSizesRead::Refused(Refusal { number: 4, place: at_second });
+                    return BlockSizesRead::Refused(Refusal {
+                        number: 4,
+                        place: at_second,
+                    });
                 }
                 BlockSizesRead::Value(BlockSizes { first, second }, next)
             }

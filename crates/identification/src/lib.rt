@@ -15,7 +15,8 @@ ghost use Rattle.identification.specs.Identification.{identification};
 ghost use Rattle.identification.specs.Answers.{identified};
 ghost use Rattle.identification.specs.Sound.{AcceptedSound};
 
-// What the identification packet says of a stream.
+// What the identification packet says of a stream. Laid out for C, since the front door takes and answers it.
+#[repr(C)]
 pub struct Identity {
     pub channels: u32,
     pub rate: u32,
@@ -40,11 +41,20 @@ pub fn read(packet: &[u8], limits: Limits) -> Identified
         Opening::Refused(z) => Identified::Refused(z),
         Opening::Good(at_stream) => match fields::read_stream(packet, at_stream, limits.channels) {
             StreamRead::Refused(z) => Identified::Refused(z),
-            StreamRead::Value(stream, at_bitrates) => match fields::read_bitrates(packet, at_bitrates) {
+            StreamRead::Value(stream, at_bitrates) => match fields::read_bitrates(
+                packet,
+                at_bitrates,
+            ) {
                 BitratesRead::Refused(z) => Identified::Refused(z),
-                BitratesRead::Value(bitrates, at_sizes) => match fields::read_block_sizes(packet, at_sizes) {
+                BitratesRead::Value(bitrates, at_sizes) => match fields::read_block_sizes(
+                    packet,
+                    at_sizes,
+                ) {
                     BlockSizesRead::Refused(z) => Identified::Refused(z),
-                    BlockSizesRead::Value(sizes, at_framing) => match header::framing(packet, at_framing) {
+                    BlockSizesRead::Value(sizes, at_framing) => match header::framing(
+                        packet,
+                        at_framing,
+                    ) {
                         Field::Refused(z) => Identified::Refused(z),
                         Field::Value(_, _) => Identified::Accepted(Identity {
                             channels: stream.channels,

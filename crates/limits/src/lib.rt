@@ -16,6 +16,11 @@ impl Limits {
     pub fn standard() -> Self
         ensures { λ r. ⌜ (r .channels ≡ 8) × (r .«book_entries» ≡ 8192) × (r .entries ≡ 16384) × (r .multiplicands ≡ 16384) ⌝ }
     {
-        Limits { channels: 8, book_entries: 8192, entries: 16384, multiplicands: 16384 }
+        Limits {
+            channels: 8,
+            book_entries: 8192,
+            entries: 16384,
+            multiplicands: 16384,
+        }
     }
 }

@@ -1,5 +1,5 @@
 -- Laws of outcomes: one value or one refusal, never both. Assumes nothing.
-use Prim.Native.Nat.{ℕ}
+use Prim.Native.Nat.{ℕ, _≤_}
 use mathlib.Core.Bool.{Bool, true, false}
 use mathlib.Core.List.{List}
 use mathlib.Core.Path.{_≡_, refl, _∙_}
@@ -37,3 +37,19 @@ judged-ok test number r p k {x} e = go (r p k) refl e
         let same : y ≡ x = cc in
         (q ∙ n .1, rw same at (n .0))
     go (bad z) q f = let c : _≡_ {A = ℕ} 0 1 = cc in absurd (omega arith)
+
+-- a value, or a refusal whose number is not 0, so that 0 can stand for acceptance; one law for each way to build an outcome
+pub data Numbered {A : Type 0} : Outcome A → Type 0 where
+  value : (a : A) → Numbered (ok a)
+  number : (z : Refusal) → 1 ≤ z .number → Numbered (bad z)
+
+pub need-numbered : {A : Type 0} (t : Bool) (z : Refusal) {o : Outcome A} → 1 ≤ z .number → Numbered o → Numbered (need t z o)
+need-numbered true z h n = n
+need-numbered false z h n = number z h
+
+pub then-numbered : {A B : Type 0} {o : Outcome A} {f : A → Outcome B} → Numbered o → ((a : A) → Numbered (f a)) → Numbered (then o f)
+then-numbered (value a) g = g a
+then-numbered (number z h) g = number z h
+
+pub judged-numbered : (test : ℕ → Bool) (n : ℕ) (r : Reader ℕ) (p : List ℕ) (k : ℕ) → 1 ≤ n → Numbered (r p k) → Numbered (judged test n r p k)
+judged-numbered test n r p k h w = then-numbered w (λ x. need-numbered (test (x .0)) (refusal n k) h (value x))

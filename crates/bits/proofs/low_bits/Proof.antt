@@ -1,25 +1,20 @@
+-- `bits::low_bits` meets its contract: a mask of ones keeps the remainder. Assumes nothing.
 use native.Mathlib.Nat.{lt-of-lt-of-le, mod-lt}
 use lib.Pow.{pow-pos, pow-mono}
 use borrow.Author.Needs.{needs}
 use Rattle.bits.proofs.Bytes.{one-shl, masked}
 use Rattle.bits.proofs.low_bits.Statement.{statement}
 use Rattle.bits.proofs.low_bits.Tie as tie
-use Rattle.bits.proofs.low_bits.Reads as reads
-use Rattle.bits.proofs.low_bits.Lts as lts
 
--- src/lib.rt:94:12
 shl-result : tie.Need-shl-result
 shl-result c = search needs
 
--- src/lib.rt:94:11
 sub-result : tie.Need-sub-result
 sub-result c = rw (one-shl _ (c .pre)) (pow-pos _)
 
--- src/lib.rt:94:5
 cast-result : tie.Need-cast-result
 cast-result c = record { fits = rw (masked _ _ (c .pre)) (lt-of-lt-of-le (mod-lt _ (pow-pos _)) (pow-mono {j = 32} (c .pre))) }
 
--- src/lib.rt:90:1
 returns : tie.Need-returns
 returns c = masked _ _ (c .pre)
 

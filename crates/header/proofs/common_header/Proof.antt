@@ -1,3 +1,4 @@
+-- `header::common_header` meets its contract. The loop's invariant: what is left of the opening gives the same as the whole. Assumes nothing.
 use Prim.Native.Nat.{_≤_, _-_, _*_, _<_}
 use mathlib.Core.Path.{_≡_, refl, sym, ap, _∙_}
 use native.Mathlib.Omega.{arith}
@@ -7,8 +8,6 @@ use Rattle.header.specs.Header.{exactly, opening, commonHeader}
 use Rattle.header.proofs.Laws.{missing, wrong, found, complete}
 use Rattle.header.proofs.common_header.Statement.{statement}
 use Rattle.header.proofs.common_header.Tie as tie
-use Rattle.header.proofs.common_header.Reads as reads
-use Rattle.header.proofs.common_header.Lts as lts
 
 abbrev Inv-loop : tie.InvT-loop
 Inv-loop packet kind expected i₀ i = (i ≤ 7) × (length expected ≡ 7) × (exactly (drop i expected) packet (8 * i) ≡ commonHeader kind packet)
@@ -16,38 +15,30 @@ Inv-loop packet kind expected i₀ i = (i ≤ 7) × (length expected ≡ 7) × (
 abbrev μ-loop : tie.MeasureT-loop
 μ-loop packet kind expected i₀ i = 7 - i
 
--- src/lib.rt:22:5
 loop-holds : tie.Need-loop-holds Inv-loop μ-loop
 unfolding commonHeader
 loop-holds c = (omega arith, refl, refl)
 
--- src/lib.rt:24:13
 returns : tie.Need-returns Inv-loop μ-loop
 returns c = let l = c .before .before .loop .inv in missing _ _ _ _ (l .2) (omega arith) (omega arith)
 
--- src/lib.rt:26:12
 shared-slice-read-if2 : tie.Need-shared-slice-read-if2 Inv-loop μ-loop
 shared-slice-read-if2 c = search needs
 
--- src/lib.rt:26:25
 array-read-if2 : tie.Need-array-read-if2 Inv-loop μ-loop
 array-read-if2 c = search needs
 
--- src/lib.rt:27:13
 returns-2 : tie.Need-returns-2 Inv-loop μ-loop
 returns-2 c =
     let l = c .before .before .before .before .loop .inv in
     wrong _ _ _ _ (l .2) (omega arith) (omega arith) (omega (arith, c .before .shared-slice-known .given (c .before .before .before .before .loop .i))) (c .if2 .taken)
 
--- src/lib.rt:29:13
 add-i : tie.Need-add-i Inv-loop μ-loop
 add-i c = search needs
 
--- src/lib.rt:22:5
 loop-less : tie.Need-loop-less Inv-loop μ-loop
 loop-less c = search needs
 
--- src/lib.rt:22:5
 loop-again : tie.Need-loop-again Inv-loop μ-loop
 loop-again c =
     let l = c .before .before .before .before .loop in
@@ -55,7 +46,6 @@ loop-again c =
     let b : getD (a .packet .now) (l .i) 0 < 256 = omega (arith, c .before .shared-slice-known .given (l .i)) in
     (omega arith, refl, found (opening (a .kind)) (a .packet .now) (l .i) _ (l .inv .2) (omega arith) (omega arith) b (c .if2 .left))
 
--- src/lib.rt:17:1
 returns-3 : tie.Need-returns-3 Inv-loop μ-loop
 returns-3 c = let l = c .before .loop .inv in complete _ _ _ _ (l .2) (omega arith)
 

@@ -1,3 +1,4 @@
+-- `header::framing` meets its contract: one law for each way out. Assumes nothing.
 use mathlib.Core.Path.{refl}
 use borrow.Author.Needs.{needs}
 use borrow.Author.Tests.{eq-eqb, ne-eqb}
@@ -6,33 +7,24 @@ use Rattle.bits.proofs.Answers.{value-is, refused-is}
 use Rattle.header.specs.Header.{framing}
 use Rattle.header.proofs.framing.Statement.{statement}
 use Rattle.header.proofs.framing.Tie as tie
-use Rattle.header.proofs.framing.Reads as reads
-use Rattle.header.proofs.framing.Lts as lts
-use Rattle.bits.proofs.Cursor.bit.Reads as bit-reads
 
--- src/lib.rt:38:11
 bit-requires : tie.Need-bit-requires
 bit-requires c κs = search needs
 
--- src/lib.rt:39:24
 enum-known-z : tie.Need-enum-known-z
 enum-known-z c = search needs
 
--- src/lib.rt:40:22
 enum-known-flag : tie.Need-enum-known-flag
 enum-known-flag c = search needs
 
--- src/lib.rt:42:17
 returns : tie.Need-returns
 unfolding framing outcome
 returns c = rw (value-is (c .before .before .before .before .bit .ensures) (c .before .before .flag .given .1), eq-eqb _ _ (c .if1 .taken))
 
--- src/lib.rt:35:1
 returns-2 : tie.Need-returns-2
 unfolding framing outcome
 returns-2 c = rw (refused-is (c .before .before .before .bit .ensures) (c .before .z .given .1))
 
--- src/lib.rt:35:1
 returns-3 : tie.Need-returns-3
 unfolding framing outcome
 returns-3 c = rw (value-is (c .before .before .before .before .bit .ensures) (c .before .before .flag .given .1), ne-eqb _ _ (c .if1 .left))

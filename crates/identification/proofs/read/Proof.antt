@@ -1,97 +1,70 @@
+-- `identification::read` meets its contract: one law of PacketLaws for each way out, and beside it that an accepted identity is sound. Assumes nothing.
 use borrow.Author.Needs.{needs}
 use Rattle.identification.proofs.PacketLaws.{packet-laws, framing-refused, accepted}
 use Rattle.identification.proofs.SoundLaws.{and-sound}
 use Rattle.identification.proofs.read.Statement.{statement}
 use Rattle.identification.proofs.read.Tie as tie
-use Rattle.identification.proofs.read.Reads as reads
-use Rattle.identification.proofs.read.Lts as lts
-use Rattle.header.proofs.common_header.Reads as common-header-reads
-use Rattle.header.proofs.framing.Reads as framing-reads
-use Rattle.identification.proofs.fields.read_bitrates.Reads as read-bitrates-reads
-use Rattle.identification.proofs.fields.read_block_sizes.Reads as read-block-sizes-reads
-use Rattle.identification.proofs.fields.read_stream.Reads as read-stream-reads
 
--- src/lib.rt:39:11
 common-header-requires : tie.Need-common-header-requires
 common-header-requires c κs = search needs
 
--- src/lib.rt:40:26
 enum-known-z : tie.Need-enum-known-z
 enum-known-z c = search needs
 
--- src/lib.rt:41:23
 enum-known-at-stream : tie.Need-enum-known-at-stream
 enum-known-at-stream c = search needs
 
--- src/lib.rt:41:43
 read-stream-requires : tie.Need-read-stream-requires
 read-stream-requires c κs = search needs
 
--- src/lib.rt:42:33
 enum-known-z-2 : tie.Need-enum-known-z-2
 enum-known-z-2 c = search needs
 
--- src/lib.rt:43:31
 enum-known-stream : tie.Need-enum-known-stream
 enum-known-stream c = search needs
 
--- src/lib.rt:43:61
 read-bitrates-requires : tie.Need-read-bitrates-requires
 read-bitrates-requires c κs = search needs
 
--- src/lib.rt:44:39
 enum-known-z-3 : tie.Need-enum-known-z-3
 enum-known-z-3 c = search needs
 
--- src/lib.rt:45:37
 enum-known-bitrates : tie.Need-enum-known-bitrates
 enum-known-bitrates c = search needs
 
--- src/lib.rt:45:66
 read-block-sizes-requires : tie.Need-read-block-sizes-requires
 read-block-sizes-requires c κs = search needs
 
--- src/lib.rt:46:45
 enum-known-z-4 : tie.Need-enum-known-z-4
 enum-known-z-4 c = search needs
 
--- src/lib.rt:47:43
 enum-known-sizes : tie.Need-enum-known-sizes
 enum-known-sizes c = search needs
 
--- src/lib.rt:47:71
 framing-requires : tie.Need-framing-requires
 framing-requires c κs = search needs
 
--- src/lib.rt:48:40
 enum-known-z-5 : tie.Need-enum-known-z-5
 enum-known-z-5 c = search needs
 
--- src/lib.rt:49:68
 enum-told : tie.Need-enum-told
 enum-told c = search needs
 
--- src/lib.rt:35:1
 returns : tie.Need-returns
 returns c = and-sound _ _ _ (search packet-laws)
 
--- src/lib.rt:35:1
 returns-2 : tie.Need-returns-2
 returns-2 c = and-sound _ _ _ (search packet-laws)
 
--- src/lib.rt:35:1
 returns-3 : tie.Need-returns-3
 returns-3 c = and-sound _ _ _ (search packet-laws)
 
--- src/lib.rt:35:1
 returns-4 : tie.Need-returns-4
 returns-4 c = and-sound _ _ _ (search packet-laws)
 
--- src/lib.rt:35:1
 returns-5 : tie.Need-returns-5
 returns-5 c = and-sound _ _ _ (framing-refused _ _ (c .before .before .before .before .before .before .before .before .before .before .before .before .before .before .before .before .before .before .before .common-header .ensures) (c .before .before .before .before .before .before .before .before .before .before .before .before .before .before .before .before .before .at-stream .given .1) (c .before .before .before .before .before .before .before .before .before .before .before .before .before .before .before .read-stream .ensures) (c .before .before .before .before .before .before .before .before .before .before .before .before .before .stream .given .1) (c .before .before .before .before .before .before .before .before .before .before .before .read-bitrates .ensures) (c .before .before .before .before .before .before .before .before .before .bitrates .given .1) (c .before .before .before .before .before .before .before .read-block-sizes .ensures) (c .before .before .before .before .before .sizes .given .1) (c .before .before .before .framing .ensures) (c .before .z5 .given .1))
 
--- src/lib.rt:35:1
 returns-6 : tie.Need-returns-6
 returns-6 c = and-sound _ _ _ (accepted _ _ (c .before .before .before .before .before .before .before .before .before .before .before .before .before .before .before .before .before .before .before .common-header .ensures) (c .before .before .before .before .before .before .before .before .before .before .before .before .before .before .before .before .before .at-stream .given .1) (c .before .before .before .before .before .before .before .before .before .before .before .before .before .before .before .read-stream .ensures) (c .before .before .before .before .before .before .before .before .before .before .before .before .before .stream .given .1) (c .before .before .before .before .before .before .before .before .before .before .before .read-bitrates .ensures) (c .before .before .before .before .before .before .before .before .before .bitrates .given .1) (c .before .before .before .before .before .before .before .read-block-sizes .ensures) (c .before .before .before .before .before .sizes .given .1) (c .before .before .before .framing .ensures) (c .before .enum-told .given .1) (search needs) (search needs) (search needs))
 

@@ -1,3 +1,5 @@
+-- `identification::sound::is_block_size` meets its contract. The loop's invariant: the size is in what is left of the list exactly where it is in
+-- the whole. Assumes nothing.
 use Prim.Native.Nat.{_≤_, _-_}
 use mathlib.Core.Path.{_≡_, refl, sym, _∙_}
 use native.Mathlib.Omega.{arith}
@@ -7,8 +9,6 @@ use Rattle.identification.specs.Sound.{listed, allowedSizes}
 use Rattle.identification.proofs.SoundLaws.{listed-end, listed-here, listed-later}
 use Rattle.identification.proofs.sound.is_block_size.Statement.{statement}
 use Rattle.identification.proofs.sound.is_block_size.Tie as tie
-use Rattle.identification.proofs.sound.is_block_size.Reads as reads
-use Rattle.identification.proofs.sound.is_block_size.Lts as lts
 
 abbrev Inv-loop : tie.InvT-loop
 Inv-loop n sizes i₀ i = (i ≤ 8) × (listed n (drop i allowedSizes) ≡ listed n allowedSizes)
@@ -16,35 +16,27 @@ Inv-loop n sizes i₀ i = (i ≤ 8) × (listed n (drop i allowedSizes) ≡ liste
 abbrev μ-loop : tie.MeasureT-loop
 μ-loop n sizes i₀ i = 8 - i
 
--- src/sound.rt:15:5
 loop-holds : tie.Need-loop-holds Inv-loop μ-loop
 loop-holds c = (omega arith, refl)
 
--- src/sound.rt:16:17
 mul-if1 : tie.Need-mul-if1 Inv-loop μ-loop
 mul-if1 c = search needs
 
--- src/sound.rt:16:17
 array-read-if1 : tie.Need-array-read-if1 Inv-loop μ-loop
 array-read-if1 c = search needs
 
--- src/sound.rt:17:13
 returns : tie.Need-returns Inv-loop μ-loop
 returns c = sym (listed-here _ allowedSizes (c .before .before .loop .i) (omega arith) (c .if1 .taken)) ∙ c .before .before .loop .inv .1
 
--- src/sound.rt:19:13
 add-i : tie.Need-add-i Inv-loop μ-loop
 add-i c = search needs
 
--- src/sound.rt:15:5
 loop-less : tie.Need-loop-less Inv-loop μ-loop
 loop-less c = search needs
 
--- src/sound.rt:15:5
 loop-again : tie.Need-loop-again Inv-loop μ-loop
 loop-again c = (omega arith, listed-later _ allowedSizes (c .before .before .loop .i) (omega arith) (c .if1 .left) ∙ c .before .before .loop .inv .1)
 
--- src/sound.rt:10:1
 returns-2 : tie.Need-returns-2 Inv-loop μ-loop
 returns-2 c = sym (listed-end _ allowedSizes (c .before .loop .i) (omega arith)) ∙ c .before .loop .inv .1
 
