@@ -1,0 +1,4 @@
+pub mod Line
+pub mod Search
+pub mod FinalY
+pub mod Heights

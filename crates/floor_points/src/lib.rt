@@ -1,0 +1,2 @@
+// Final Y.
+pub fn nothing() {}
