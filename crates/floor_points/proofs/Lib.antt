@@ -1,3 +1,5 @@
 pub mod Integers
-pub mod Lines
+pub mod LineLaws
 pub mod Searching
+pub mod Unwrapping
+pub mod Choosing

@@ -8,7 +8,7 @@ use lib.Dec.{eqb, ltb, leb}
 use lib.IntN.{ℤ, pos, negsuc, _+ℤ_, _-ℤ_, _*ℤ_}
 use lib.Signed.{ltZ, leZ}
 use Rattle.floor_points.specs.Line.{line}
-use Rattle.floor_points.specs.Search.{search}
+use Rattle.floor_points.specs.Search.{searched}
 
 -- 1: the range that goes with a multiplier; 0 where there is no such multiplier
 unfoldable pub rangeOf : ℕ → ℕ
@@ -28,12 +28,12 @@ takesHigh xs x j held = ltb x (xAt xs j) && ltb (xAt xs j) (xAt xs held)
 -- 7, low_neighbor: of the places before i, that of the greatest X below the X of i. Place 0 holds the least X of a floor, and stands where no X is
 -- below
 unfoldable pub lowNeighbour : List ℕ → ℕ → ℕ
-lowNeighbour xs i = search (takesLow xs (xAt xs i)) 0 0 i
+lowNeighbour xs i = searched (takesLow xs (xAt xs i)) 0 0 i
 
 -- 8, high_neighbor: of the places before i, that of the least X above the X of i. Place 1 holds the greatest X of a floor, and stands where no X
 -- is above
 unfoldable pub highNeighbour : List ℕ → ℕ → ℕ
-highNeighbour xs i = search (takesHigh xs (xAt xs i)) 1 0 i
+highNeighbour xs i = searched (takesHigh xs (xAt xs i)) 1 0 i
 
 -- the points so far: a Y value for each place, and a flag, 1 where it is set
 pub record Points : Type 0 where

@@ -1,7 +1,7 @@
 -- Laws of the line rule: how the program computes it, that it stays between its ends, and that heights stand for Y values on it whatever the
 -- ground. Assumes nothing.
 use Prim.Native.Nat.{ℕ, zero, suc, _+_, _-_, _*_, _/_, _≤_, _<_, min}
-use native.Mathlib.Nat.{div-le-of-le-mul, div-zero, zero-div, mul-zero, mul-comm, mul-le-mul-left, mul-div-cancel}
+use native.Mathlib.Nat.{div-le-of-le-mul, div-zero, zero-div, mul-zero, mul-comm, mul-le-mul, mul-le-mul-left, mul-div-cancel}
 use native.Mathlib.Omega.{arith}
 use mathlib.Core.Logic.{⊎-elim}
 use mathlib.Core.Path.{_≡_, refl, sym, ap, _∙_}
@@ -37,6 +37,17 @@ pub offset-le : (x0 x1 ady x : ℕ) → offset x0 x1 ady x ≤ ady
 unfolding offset
 offset-le x0 x1 ady x = part-le ady (min x x1 - x0) (x1 - x0) (omega arith)
 
+-- the product of two numbers of 32 bits fits 64 bits
+pub product-fits : (a b : ℕ) → a < 4294967296 → b < 4294967296 → a * b < 18446744073709551616
+product-fits a b p q = omega (arith, mul-le-mul {n₁ = a} {m₁ = b} {n₂ = 4294967295} {m₂ = 4294967295} (omega arith) (omega arith))
+
+-- and a part of a number of 32 bits has 32 bits
+pub small-part : (a d w : ℕ) → a < 4294967296 → d ≤ w → a * d / w < 4294967296
+small-part a d w p q = omega (arith, part-le a d w q)
+
+pub offset-most : (x0 x1 ady x r : ℕ) → r ≡ offset x0 x1 ady x → r ≤ ady
+offset-most x0 x1 ady x r e = rw e (offset-le x0 x1 ady x)
+
 -- ---- a height on a line
 module _ (x0 h0 x1 h1 x : ℕ) where
   pub height-falls : h1 < h0 → lineHeight x0 h0 x1 h1 x ≡ h0 - offset x0 x1 (h0 - h1) x
@@ -46,6 +57,13 @@ module _ (x0 h0 x1 h1 x : ℕ) where
   pub height-rises : h0 ≤ h1 → lineHeight x0 h0 x1 h1 x ≡ h0 + offset x0 x1 (h1 - h0) x
   unfolding lineHeight
   height-rises h = rw (le-ltb h1 h0 h)
+
+  -- as the program asks it: r is the offset that was computed
+  pub fallen : (r : ℕ) → h1 < h0 → r ≡ offset x0 x1 (h0 - h1) x → h0 - r ≡ lineHeight x0 h0 x1 h1 x
+  fallen r h e = rw e (sym (height-falls h))
+
+  pub risen : (r : ℕ) → h0 ≤ h1 → r ≡ offset x0 x1 (h1 - h0) x → h0 + r ≡ lineHeight x0 h0 x1 h1 x
+  risen r h e = rw e (sym (height-rises h))
 
   pub height-le : (b : ℕ) → h0 ≤ b → h1 ≤ b → lineHeight x0 h0 x1 h1 x ≤ b
   height-le b p q =
