@@ -3,3 +3,5 @@ pub mod LineLaws
 pub mod Searching
 pub mod Unwrapping
 pub mod Choosing
+pub mod Filling
+pub mod Stepping

@@ -8,7 +8,7 @@ use lib.Dec.{ltb}
 use lib.IntN.{ℤ, subℕ}
 use lib.ListN.{length, getD}
 use Rattle.floor_points.specs.Line.{offset}
-use Rattle.floor_points.specs.FinalY.{Points}
+use Rattle.floor_points.specs.FinalY.{Points, clamped}
 
 -- a - b, as an integer
 unfoldable pub difference : ℕ → ℕ → ℤ
@@ -38,3 +38,11 @@ pub record Ready (xs vals : List ℕ) (range : ℕ) (heights flags : List ℕ) :
   pub flagged : length flags ≡ length xs
   pub some : 0 < range
   pub small : range ≤ 256
+
+-- the height of a value as it was read
+abbrev pub heightOf : ℕ → ℕ
+heightOf v = 65536 + v
+
+-- the final Y value of a height
+abbrev pub clampedHeight : ℕ → ℕ → ℕ
+clampedHeight range h = clamped range (yOf h)
