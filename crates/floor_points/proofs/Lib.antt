@@ -5,3 +5,4 @@ pub mod Unwrapping
 pub mod Choosing
 pub mod Filling
 pub mod Stepping
+pub mod FitLaws

@@ -97,19 +97,23 @@ unfoldable pub clamped : ℕ → ℤ → ℕ
 clamped range (pos n) = min n (range - 1)
 clamped range (negsuc n) = 0
 
--- the lists fit each other: 2 to 65 places, one value for each, as many places for what comes out, and a multiplier of 1 to 4
-unfoldable pub fitting : List ℕ → List ℕ → ℕ → ℕ → ℕ → Bool
-fitting xs vals m placesY placesFlags =
-    ltb 1 (length xs) && (ltb (length xs) 66 && (eqb (length vals) (length xs) && (eqb placesY (length xs) && (eqb placesFlags (length xs) && ltb 0 (rangeOf m)))))
+-- lists of so many places fit each other: 2 to 65 X, one value for each, as many places for what comes out, and a multiplier of 1 to 4
+unfoldable pub fitting : ℕ → ℕ → ℕ → ℕ → ℕ → Bool
+fitting placesX m placesValues placesY placesFlags =
+    ltb 1 placesX && (ltb placesX 66 && (ltb 0 (rangeOf m) && (eqb placesValues placesX && (eqb placesY placesX && eqb placesFlags placesX))))
 
--- what final Y leaves: whether the lists fit each other, and then the final Y values, each clamped after the last, and the flags; else zeros
+-- what final Y leaves: whether the lists fit each other, the final Y values and the flags
 pub record Left : Type 0 where
   pub fit : Bool
   pub finalY : List ℕ
   pub flags : List ℕ
 
+abbrev pub left : Bool → List ℕ → List ℕ → Left
+left fit finalY flags = record { fit = fit; finalY = finalY; flags = flags }
+
+-- final Y of lists that fit each other: every Y value, clamped after the last one, and the flags. Of others: zeros
 unfoldable pub finalYs : List ℕ → List ℕ → ℕ → ℕ → ℕ → Left
 finalYs xs vals m placesY placesFlags =
-    cond (fitting xs vals m placesY placesFlags)
-    (record { fit = true; finalY = map (clamped (rangeOf m)) (points (rangeOf m) xs vals .ys); flags = points (rangeOf m) xs vals .flags })
-    (record { fit = false; finalY = replicate placesY 0; flags = replicate placesFlags 0 })
+    cond (fitting (length xs) m (length vals) placesY placesFlags)
+    (left true (map (clamped (rangeOf m)) (points (rangeOf m) xs vals .ys)) (points (rangeOf m) xs vals .flags))
+    (left false (replicate placesY 0) (replicate placesFlags 0))

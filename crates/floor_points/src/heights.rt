@@ -84,7 +84,7 @@ fn begin_heights(values: &[u16], heights: &mut [u32])
     }
 }
 
-fn clear(flags: &mut [u8])
+pub fn clear(flags: &mut [u8])
     ensures { λ _. ⌜ now (flags .exit) ≡ replicate (length (now (flags .entry))) 0 ⌝ }
 {
     let mut i: usize = 0;
