@@ -9,7 +9,7 @@ use lib.IntN.{ℤ, pos, natAbs, _+ℤ_, _-ℤ_}
 use borrow.Author.Tests.{lt-ltb, le-ltb}
 use Rattle.floor_points.specs.Line.{offset, line}
 use Rattle.floor_points.specs.Heights.{difference, lineHeight}
-use Rattle.floor_points.proofs.Integers.{lt-or-le, same-difference, minus-difference, abs-difference, ltZ-difference, plus, minus}
+use Rattle.floor_points.proofs.Integers.{lt-or-le, same-difference, pos-difference, minus-difference, abs-difference, ltZ-difference, plus, minus}
 
 -- ---- the offset, as the program computes it
 module _ (x0 x1 ady x : ℕ) where
@@ -90,3 +90,7 @@ module _ (x0 h0 x1 h1 x : ℕ) where
       rises h =
           let e : (h1 - h0) + (h0 - h1) ≡ h1 - h0 = omega arith in
           rw (rise-or-fall z, e, ltZ-difference h1 z h0 z, le-ltb (h1 + z) (h0 + z) (omega arith), height-rises h) (plus h0 z (offset x0 x1 (h1 - h0) x))
+
+  -- and from heights above 0
+  pub line-pos : line x0 (pos h0) x1 (pos h1) x ≡ pos (lineHeight x0 h0 x1 h1 x)
+  line-pos = rw (pos-difference h0, pos-difference h1) (line-height 0 ∙ sym (pos-difference (lineHeight x0 h0 x1 h1 x)))
