@@ -6,7 +6,8 @@ use mathlib.Core.List.{List}
 use mathlib.Core.Logic.{_⊎_, ⊎-elim}
 use mathlib.Core.Path.{_≡_, refl, sym, ap, _∙_}
 use lib.Dec.{ltb, eqb}
-use lib.ListN.{length, getD, replicate}
+use lib.ListN.{length, getD, replicate, length-replicate, getD-replicate}
+use lib.Seq.{ext-getD}
 use borrow.Author.Tests.{lt-ltb, le-ltb, eq-eqb, ne-eqb, ltb-true, eqb-true}
 use Rattle.floor_points.proofs.Integers.{lt-or-le}
 use Rattle.floor_curve.specs.Curve.{xOr, lastAt, nextAfter, heightAt, lineAt, between, curveAt, places, fitting, Left, left, curve}
@@ -124,3 +125,8 @@ next-right xs fs at r w e h q =
     let n : nextAfter xs fs at < length xs = rw e at h in
     let q′ : w ≡ getD xs (nextAfter xs fs at) 0 = rw e at q in
     omega (arith, next-is xs fs at n .1, within xs (nextAfter xs fs at) 0 65536 n)
+
+pub flat-zeros : (before after : List ℕ) → Flat 0 0 before after → after ≡ replicate (length before) 0
+flat-zeros before after d =
+    ext-getD 0 after (replicate (length before) 0) (d .long ∙ sym (length-replicate (length before) 0))
+    (λ k h. d .on k (omega arith) (omega (arith, d .long)) ∙ sym (getD-replicate (length before) k 0 0 (omega (arith, d .long))))
