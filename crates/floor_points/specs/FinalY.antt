@@ -1,6 +1,6 @@
 -- Final Y and the step 2 flags (004, "curve computation", step 1; 01, "Audio order" 3). The numbers in comments are 004's steps.
 -- Assumes nothing: these are definitions.
-use Prim.Native.Nat.{ℕ, zero, suc, _+_, _-_, _/_, _%_, min}
+use Prim.Native.Nat.{ℕ, zero, suc, _+_, _-_, _/_, _%_, _≤_, _<_, min}
 use mathlib.Core.Bool.{Bool, true, false, _&&_, cond}
 use mathlib.Core.List.{List, map}
 use lib.ListN.{length, getD, set, replicate}
@@ -34,6 +34,17 @@ lowNeighbour xs i = searched (takesLow xs (xAt xs i)) 0 0 i
 -- is above
 unfoldable pub highNeighbour : List ℕ → ℕ → ℕ
 highNeighbour xs i = searched (takesHigh xs (xAt xs i)) 1 0 i
+
+-- the neighbours in 01's words: an earlier place, with an X below and none greater among such; with an X above and none less
+pub record IsLow (xs : List ℕ) (i r : ℕ) : Type 0 where
+  pub earlier : r < i
+  pub below : xAt xs r < xAt xs i
+  pub greatest : (j : ℕ) → j < i → xAt xs j < xAt xs i → xAt xs j ≤ xAt xs r
+
+pub record IsHigh (xs : List ℕ) (i r : ℕ) : Type 0 where
+  pub earlier : r < i
+  pub above : xAt xs i < xAt xs r
+  pub least : (j : ℕ) → j < i → xAt xs i < xAt xs j → xAt xs r ≤ xAt xs j
 
 -- the points so far: a Y value for each place, and a flag, 1 where it is set
 pub record Points : Type 0 where

@@ -1,10 +1,10 @@
 // Low and high neighbour: among earlier list places, the greatest X below and the least X above (01, "Audio order" 3; 000 sections 9.2.4 and
-// 9.2.5).
+// 9.2.5). A floor's first X is its least and its second X its greatest, so each later place has both neighbours.
 ghost use mathlib.Core.Path.{_≡_};
 ghost use mathlib.Core.Bool.{cond};
 ghost use Prim.Native.Nat.{_+_, _≤_, _<_};
 ghost use lib.ListN.{length};
-ghost use Rattle.floor_points.specs.FinalY.{takesLow, takesHigh, lowNeighbour, highNeighbour};
+ghost use Rattle.floor_points.specs.FinalY.{xAt, takesLow, takesHigh, lowNeighbour, highNeighbour, IsLow, IsHigh};
 
 // Place j, where its X is below `top` and greater than that of the place held; else the place held.
 fn higher(x: &[u16], top: u16, j: usize, held: usize) -> usize
@@ -36,7 +36,7 @@ fn lower(x: &[u16], bottom: u16, j: usize, held: usize) -> usize
 
 pub fn low_neighbour(x: &[u16], i: usize) -> usize
     requires { ⌜ (0 < i) × (i < length (now x)) ⌝ }
-    ensures { λ r. ⌜ (r ≡ lowNeighbour (now (x .entry)) i) × (r < i) ⌝ }
+    ensures { λ r. ⌜ (r ≡ lowNeighbour (now (x .entry)) i) × (r < i) × (xAt (now (x .entry)) 0 < xAt (now (x .entry)) i → IsLow (now (x .entry)) i r) ⌝ }
 {
     let top = x[i];
     let mut held: usize = 0;
@@ -50,7 +50,7 @@ pub fn low_neighbour(x: &[u16], i: usize) -> usize
 
 pub fn high_neighbour(x: &[u16], i: usize) -> usize
     requires { ⌜ (1 < i) × (i < length (now x)) ⌝ }
-    ensures { λ r. ⌜ (r ≡ highNeighbour (now (x .entry)) i) × (r < i) ⌝ }
+    ensures { λ r. ⌜ (r ≡ highNeighbour (now (x .entry)) i) × (r < i) × (xAt (now (x .entry)) i < xAt (now (x .entry)) 1 → IsHigh (now (x .entry)) i r) ⌝ }
 {
     let bottom = x[i];
     let mut held: usize = 1;

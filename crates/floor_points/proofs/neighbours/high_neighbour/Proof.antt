@@ -3,7 +3,7 @@ use Rattle.floor_points.specs.FinalY.{takesHigh, highNeighbour}
 use Rattle.floor_points.specs.Search.{searched}
 use lib.ListN.{getD}
 use Prim.Native.Nat.{_≤_, _<_, _-_}
-use Rattle.floor_points.proofs.Choosing.{high-begun, high-before}
+use Rattle.floor_points.proofs.Choosing.{high-begun, is-high}
 use mathlib.Core.Path.{_≡_, refl, sym, ap, _∙_}
 use native.Mathlib.Omega.{arith}
 use borrow.Author.Needs.{needs}
@@ -49,7 +49,7 @@ loop-again c = (omega arith, turned-below (takesHigh _ _) _ _ _ _ (c .lower .ens
 
 -- src/neighbours.rt:51:1
 returns : tie.Need-returns Inv-loop μ-loop
-returns c = (ended (takesHigh _ _) _ _ _ _ (omega arith) (c .before .loop .inv .2), omega arith)
+returns c = let e = ended (takesHigh _ _) _ _ _ _ (omega arith) (c .before .loop .inv .2) in (e, omega arith, λ h. is-high _ _ _ (omega arith) e h)
 
 pub high-neighbour-spec : {M : Type 1} → statement M
 high-neighbour-spec =

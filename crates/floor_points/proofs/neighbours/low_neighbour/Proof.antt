@@ -3,7 +3,7 @@ use Rattle.floor_points.specs.FinalY.{takesLow, lowNeighbour}
 use Rattle.floor_points.specs.Search.{searched}
 use lib.ListN.{getD}
 use Prim.Native.Nat.{_≤_, _<_, _-_}
-use Rattle.floor_points.proofs.Choosing.{low-begun, low-before}
+use Rattle.floor_points.proofs.Choosing.{low-begun, is-low}
 use mathlib.Core.Path.{_≡_, refl, sym, ap, _∙_}
 use native.Mathlib.Omega.{arith}
 use borrow.Author.Needs.{needs}
@@ -49,7 +49,7 @@ loop-again c = (omega arith, turned-below (takesLow _ _) _ _ _ _ (c .higher .ens
 
 -- src/neighbours.rt:37:1
 returns : tie.Need-returns Inv-loop μ-loop
-returns c = (ended (takesLow _ _) _ _ _ _ (omega arith) (c .before .loop .inv .2), omega arith)
+returns c = let e = ended (takesLow _ _) _ _ _ _ (omega arith) (c .before .loop .inv .2) in (e, omega arith, λ h. is-low _ _ _ (omega arith) e h)
 
 pub low-neighbour-spec : {M : Type 1} → statement M
 low-neighbour-spec =
