@@ -1,14 +1,16 @@
 -- Laws of lists that fit each other, and of what final Y leaves. Assumes nothing.
-use Prim.Native.Nat.{ℕ, zero, suc, _+_, _-_, _≤_, _<_}
+use Prim.Native.Nat.{ℕ, zero, suc, _+_, _-_, _*_, _≤_, _<_}
+use native.Mathlib.Nat.{mul-zero, zero-mul}
 use native.Mathlib.Omega.{arith}
 use mathlib.Core.Bool.{Bool, true, false, _&&_, cond}
-use mathlib.Core.List.{List, map}
+use mathlib.Core.List.{List, [], _∷_, map}
 use mathlib.Core.Path.{_≡_, refl, sym, ap, _∙_}
 use lib.Dec.{ltb, eqb}
-use lib.ListN.{length, replicate, take}
+use lib.IntN.{ℤ, pos, negsuc}
+use lib.ListN.{length, getD, replicate, take}
 use lib.Seq.{length-take-le}
 use borrow.Author.Tests.{lt-ltb, le-ltb, eq-eqb, ne-eqb, ltb-true, eqb-true}
-use Rattle.floor_points.specs.FinalY.{rangeOf, fitting, Left, left, finalYs, clamped, points}
+use Rattle.floor_points.specs.FinalY.{rangeOf, fitting, Left, left, finalYs, clamped, points, Multiplies}
 use Rattle.floor_points.specs.Heights.{Ready}
 
 -- ---- ranges
@@ -112,3 +114,39 @@ module _ (xs vals ys fs : List ℕ) (m range : ℕ) where
   pub none-left : (t r : Bool) (y′ f′ : List ℕ) → t ≡ fitting (length xs) m (length vals) (length ys) (length fs) → t ≡ false
       → left r y′ f′ ≡ left false (replicate (length ys) 0) (replicate (length fs) 0) → left r y′ f′ ≡ finalYs xs vals m (length ys) (length fs)
   none-left t r y′ f′ e h q = q ∙ sym (left-refused xs vals m (length ys) (length fs) (sym e ∙ h))
+
+-- ---- a clamped Y value times its multiplier is a byte
+clamped-le : (range : ℕ) (y : ℤ) → clamped range y ≤ range - 1
+unfolding clamped
+clamped-le range (pos n) = omega arith
+clamped-le range (negsuc n) = omega arith
+
+times : (m n : ℕ) → 0 < rangeOf m → n ≤ rangeOf m - 1 → n * m ≤ 255
+times zero n r h = rw mul-zero (omega arith)
+times (suc zero) n r h = omega (arith, range-1 1 refl)
+times (suc (suc zero)) n r h = omega (arith, range-2 2 refl)
+times (suc (suc (suc zero))) n r h = omega (arith, range-3 3 refl)
+times (suc (suc (suc (suc zero)))) n r h = omega (arith, range-4 4 refl)
+times (suc (suc (suc (suc (suc m))))) n r h =
+    absurd (omega (arith, range-none (suc (suc (suc (suc (suc m))))) (omega arith) (omega arith) (omega arith) (omega arith)))
+
+each-times : (m : ℕ) → 0 < rangeOf m → (ys : List ℤ) (k : ℕ) → getD (map (clamped (rangeOf m)) ys) k 0 * m ≤ 255
+each-times m r [] k = rw zero-mul (omega arith)
+each-times m r (y ∷ ys) zero = times m (clamped (rangeOf m) y) r (clamped-le (rangeOf m) y)
+each-times m r (y ∷ ys) (suc k) = each-times m r ys k
+
+none-times : (m n k : ℕ) → getD {A = ℕ} (replicate n 0) k 0 * m ≤ 255
+none-times m zero k = rw zero-mul (omega arith)
+none-times m (suc n) zero = rw zero-mul (omega arith)
+none-times m (suc n) (suc k) = none-times m n k
+
+final-times : (xs vals : List ℕ) (m y f : ℕ) → Multiplies m (finalYs xs vals m y f .finalY)
+final-times xs vals m y f = go (fitting (length xs) m (length vals) y f) refl
+  where
+    go : (t : Bool) → fitting (length xs) m (length vals) y f ≡ t → Multiplies m (finalYs xs vals m y f .finalY)
+    go true e =
+        rw (left-fitting xs vals m y f e) (record { byte = each-times m (fit (length xs) m (length vals) y f e .range) (points (rangeOf m) xs vals .ys) })
+    go false e = rw (left-refused xs vals m y f e) (record { byte = none-times m y })
+
+pub left-times : (xs vals : List ℕ) (m y f : ℕ) (t : Bool) (y′ f′ : List ℕ) → left t y′ f′ ≡ finalYs xs vals m y f → Multiplies m y′
+left-times xs vals m y f t y′ f′ e = let q : y′ ≡ finalYs xs vals m y f .finalY = ap (λ (l : Left). l .finalY) e in rw q (final-times xs vals m y f)

@@ -1,6 +1,6 @@
 -- Final Y and the step 2 flags (004, "curve computation", step 1; 01, "Audio order" 3). The numbers in comments are 004's steps.
 -- Assumes nothing: these are definitions.
-use Prim.Native.Nat.{ℕ, zero, suc, _+_, _-_, _/_, _%_, _≤_, _<_, min}
+use Prim.Native.Nat.{ℕ, zero, suc, _+_, _-_, _*_, _/_, _%_, _≤_, _<_, min}
 use mathlib.Core.Bool.{Bool, true, false, _&&_, cond}
 use mathlib.Core.List.{List, map}
 use lib.ListN.{length, getD, set, replicate}
@@ -128,3 +128,7 @@ finalYs xs vals m placesY placesFlags =
     cond (fitting (length xs) m (length vals) placesY placesFlags)
     (left true (map (clamped (rangeOf m)) (points (rangeOf m) xs vals .ys)) (points (rangeOf m) xs vals .flags))
     (left false (replicate placesY 0) (replicate placesFlags 0))
+
+-- each Y value times the multiplier is a byte, as 01 says of the curve
+pub record Multiplies (m : ℕ) (finalY : List ℕ) : Type 0 where
+  pub byte : (k : ℕ) → getD finalY k 0 * m ≤ 255

@@ -9,7 +9,7 @@ ghost use mathlib.Core.Bool.{false};
 ghost use Prim.Native.Nat.{_≤_};
 ghost use lib.ListN.{length, replicate};
 ghost use Rattle.floor_points.specs.FinalY as final;
-ghost use Rattle.floor_points.specs.FinalY.{rangeOf, left, finalYs};
+ghost use Rattle.floor_points.specs.FinalY.{rangeOf, left, finalYs, Multiplies};
 
 // The range that goes with a multiplier (004, step 1); 0 where there is no such multiplier.
 pub fn range_of(multiplier: u8) -> u32
@@ -61,9 +61,9 @@ fn refuse(y: &mut [u8], flags: &mut [u8]) -> bool
 }
 
 // Final Y and flags of the X list of a floor and the values read for it. True where the lists fit each other: 2 to 65 X, one value and one place of
-// `y` and of `flags` for each, and a multiplier of 1 to 4. Otherwise false, and `y` and `flags` are all zero.
+// `y` and of `flags` for each, and a multiplier of 1 to 4. Otherwise false, and `y` and `flags` are all zero. Each `y` times the multiplier is a byte.
 pub fn final_y(x: &[u16], values: &[u16], multiplier: u8, y: &mut [u8], flags: &mut [u8]) -> bool
-    ensures { λ r. ⌜ left r (now (y .exit)) (now (flags .exit)) ≡ finalYs (now (x .entry)) (now (values .entry)) multiplier (length (now (y .entry))) (length (now (flags .entry))) ⌝ }
+    ensures { λ r. ⌜ (left r (now (y .exit)) (now (flags .exit)) ≡ finalYs (now (x .entry)) (now (values .entry)) multiplier (length (now (y .entry))) (length (now (flags .entry)))) × Multiplies multiplier (now (y .exit)) ⌝ }
 {
     if fitting(x.len(), multiplier, values.len(), y.len(), flags.len()) {
         let n = x.len();

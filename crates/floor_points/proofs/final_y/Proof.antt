@@ -1,4 +1,4 @@
-use Rattle.floor_points.proofs.FitLaws.{fit, prefix-length, ready, all-left, none-left}
+use Rattle.floor_points.proofs.FitLaws.{fit, prefix-length, ready, all-left, none-left, left-times}
 use native.Mathlib.Omega.{arith}
 use mathlib.Core.Path.{_≡_, refl, sym, ap, _∙_}
 use borrow.Author.Needs.{needs}
@@ -41,7 +41,7 @@ same-length-2 c = search needs
 
 -- src/lib.rt:72:9
 returns : tie.Need-returns
-returns c = all-left (c .before .before .before .before .before .before .before .before .before .before .before .before .before .before .before .before .args .x .now) (c .before .before .before .before .before .before .before .before .before .before .before .before .before .before .before .before .args .values .now) (c .before .before .before .before .before .before .before .before .before .before .before .before .before .before .before .before .args .y .now) (c .before .before .before .before .before .before .before .before .before .before .before .before .before .before .before .before .args .flags .now) (c .before .before .before .before .before .before .before .before .before .before .before .before .before .before .before .before .args .multiplier) _ _ _ _ (c .before .before .before .before .before .before .before .before .before .before .before .fitting .ensures) (c .before .before .before .before .before .before .before .before .before .before .if1 .taken) (c .before .before .before .before .before .before .before .before .before .range-of .ensures .0) (c .before .before .before .before .before .final-points .ensures .0) (c .before .before .before .before .before .final-points .ensures .1)
+returns c = let e = all-left (c .before .before .before .before .before .before .before .before .before .before .before .before .before .before .before .before .args .x .now) (c .before .before .before .before .before .before .before .before .before .before .before .before .before .before .before .before .args .values .now) (c .before .before .before .before .before .before .before .before .before .before .before .before .before .before .before .before .args .y .now) (c .before .before .before .before .before .before .before .before .before .before .before .before .before .before .before .before .args .flags .now) (c .before .before .before .before .before .before .before .before .before .before .before .before .before .before .before .before .args .multiplier) _ _ _ _ (c .before .before .before .before .before .before .before .before .before .before .before .fitting .ensures) (c .before .before .before .before .before .before .before .before .before .before .if1 .taken) (c .before .before .before .before .before .before .before .before .before .range-of .ensures .0) (c .before .before .before .before .before .final-points .ensures .0) (c .before .before .before .before .before .final-points .ensures .1) in (e, left-times _ _ _ _ _ _ _ _ e)
 
 -- src/lib.rt:74:5
 refuse-requires : tie.Need-refuse-requires
@@ -57,7 +57,7 @@ same-length-4 c = search needs
 
 -- src/lib.rt:65:1
 returns-2 : tie.Need-returns-2
-returns-2 c = none-left (c .before .before .before .before .before .before .before .before .before .before .before .before .before .args .x .now) (c .before .before .before .before .before .before .before .before .before .before .before .before .before .args .values .now) (c .before .before .before .before .before .before .before .before .before .before .before .before .before .args .y .now) (c .before .before .before .before .before .before .before .before .before .before .before .before .before .args .flags .now) (c .before .before .before .before .before .before .before .before .before .before .before .before .before .args .multiplier) 0 _ _ _ _ (c .before .before .before .before .before .before .before .before .fitting .ensures) (c .before .before .before .before .before .before .before .if1 .left) (c .before .before .before .before .refuse .ensures)
+returns-2 c = let e = none-left (c .before .before .before .before .before .before .before .before .before .before .before .before .before .args .x .now) (c .before .before .before .before .before .before .before .before .before .before .before .before .before .args .values .now) (c .before .before .before .before .before .before .before .before .before .before .before .before .before .args .y .now) (c .before .before .before .before .before .before .before .before .before .before .before .before .before .args .flags .now) (c .before .before .before .before .before .before .before .before .before .before .before .before .before .args .multiplier) 0 _ _ _ _ (c .before .before .before .before .before .before .before .before .fitting .ensures) (c .before .before .before .before .before .before .before .if1 .left) (c .before .before .before .before .refuse .ensures) in (e, left-times _ _ _ _ _ _ _ _ e)
 
 pub final-y-spec : {M : Type 1} → statement M
 final-y-spec =
