@@ -10,10 +10,11 @@ use lib.ListN.{length, getD, replicate, length-replicate, getD-replicate}
 use lib.Seq.{ext-getD}
 use borrow.Author.Tests.{lt-ltb, le-ltb, eq-eqb, ne-eqb, ltb-true, eqb-true}
 use Rattle.floor_points.proofs.Integers.{lt-or-le}
-use Rattle.floor_curve.specs.Curve.{xOr, lastAt, nextAfter, heightAt, lineAt, between, curveAt, places, fitting, Left, left, curve}
+use Rattle.floor_points.proofs.LineLaws.{height-le}
+use Rattle.floor_curve.specs.Curve.{xOr, lastAt, nextAfter, heightAt, lineAt, between, curveAt, places, fitting, Left, left, curve, Bytes}
 use Rattle.floor_curve.specs.Drawing.{Drawn, Flat, Points}
 use Rattle.floor_curve.proofs.PointLaws.{within, last-le, last-ge, next-is, Clear, last-same, next-same, clear-next, clear-past}
-use Rattle.floor_curve.proofs.DrawLaws.{are-places}
+use Rattle.floor_curve.proofs.DrawLaws.{are-places, line-height-at}
 
 module _ (xs ys fs : List ℕ) (m a x : ℕ) where
   -- the curve between two points, and past the last
@@ -130,3 +131,15 @@ pub flat-zeros : (before after : List ℕ) → Flat 0 0 before after → after �
 flat-zeros before after d =
     ext-getD 0 after (replicate (length before) 0) (d .long ∙ sym (length-replicate (length before) 0))
     (λ k h. d .on k (omega arith) (omega (arith, d .long)) ∙ sym (getD-replicate (length before) k 0 0 (omega (arith, d .long))))
+
+-- ---- every value is a byte
+pub curve-bytes : (xs ys fs : List ℕ) (m : ℕ) → Bytes (curveAt xs ys fs m)
+unfolding curveAt between heightAt
+curve-bytes xs ys fs m = record { byte = λ x. either x (ltb (nextAfter xs fs x) (length xs)) }
+  where
+    either : (x : ℕ) (t : Bool)
+        → cond t (lineAt (getD xs (lastAt xs fs x) 0) (heightAt ys m (lastAt xs fs x)) (getD xs (nextAfter xs fs x) 0) (heightAt ys m (nextAfter xs fs x)) x) (heightAt ys m (lastAt xs fs x)) ≤ 255
+    either x true =
+        rw (line-height-at (getD xs (lastAt xs fs x) 0) (heightAt ys m (lastAt xs fs x)) (getD xs (nextAfter xs fs x) 0) (heightAt ys m (nextAfter xs fs x)) x)
+        (height-le (getD xs (lastAt xs fs x) 0) (heightAt ys m (lastAt xs fs x)) (getD xs (nextAfter xs fs x) 0) (heightAt ys m (nextAfter xs fs x)) x 255 (omega arith) (omega arith))
+    either x false = omega arith

@@ -13,7 +13,7 @@ use borrow.Author.Tests.{lt-ltb, le-ltb, le-leb, lt-leb, eq-eqb, ne-eqb, ltb-tru
 use Rattle.floor_points.specs.Search.{searched}
 use Rattle.floor_points.proofs.Searching.{search-keeps, search-same, search-best}
 use Rattle.floor_points.proofs.Integers.{lt-or-le, same-leb, same-ltb}
-use Rattle.floor_curve.specs.Curve.{isSet, xOr, takesLeft, takesRight, lastAt, nextAfter}
+use Rattle.floor_curve.specs.Curve.{isSet, xOr, takesLeft, takesRight, lastAt, nextAfter, IsLast, IsNext}
 
 -- a list read past its end gives what is asked for there, and else does not mind
 pub within : (l : List ℕ) (j a b : ℕ) → j < length l → getD l j a ≡ getD l j b
@@ -155,6 +155,12 @@ module _ (xs fs : List ℕ) (x : ℕ) where
       (search-best (takesRight xs fs x) (λ (a b : ℕ). xOr xs b ≤ xOr xs a) (λ a. omega arith) (λ a b c p q. omega arith)
         (λ i held t. omega (arith, right-inv i held t .1)) (λ (i : ℕ). Righter xs fs x i) (λ i held w t. right-false i held w t) (length xs) (length xs) 0
         .1 k (omega arith) (omega arith) (record { flag = f; at = rw (within xs k 0 65536 h) at l }))
+
+pub is-last : (xs fs : List ℕ) (x r : ℕ) → r ≡ lastAt xs fs x → getD xs 0 0 ≤ x → IsLast xs fs x r
+is-last xs fs x r e h = rw e (record { left = last-le xs fs x h; last = last-ge xs fs x })
+
+pub is-next : (xs fs : List ℕ) (x r : ℕ) → r ≡ nextAfter xs fs x → IsNext xs fs x r
+is-next xs fs x r e = rw e (record { flag = λ h. next-is xs fs x h .0; right = λ h. next-is xs fs x h .1; next = next-le xs fs x })
 
 -- ---- from one point up to the next the points around a place are the same
 -- no flagged point lies right of a and at or left of x

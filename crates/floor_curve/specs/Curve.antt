@@ -1,9 +1,10 @@
 -- The floor curve (01, "Audio order" 3; 004, "curve computation", step 2): it joins the flagged points in order of X, Y times the multiplier, by
 -- the line rule; past the last point it is flat. It is given place by place: the curve at x is the line from the last flagged point at or left of x to
 -- the next one right of x. Assumes nothing: these are definitions.
-use Prim.Native.Nat.{ℕ, zero, suc, _*_, min}
+use Prim.Native.Nat.{ℕ, zero, suc, _*_, _≤_, _<_, min}
 use mathlib.Core.Bool.{Bool, true, false, not, _&&_, cond}
 use mathlib.Core.List.{List, [], _∷_}
+use mathlib.Core.Path.{_≡_}
 use lib.Dec.{eqb, leb, ltb}
 use lib.IntN.{ℤ, pos, negsuc}
 use lib.ListN.{length, getD, replicate}
@@ -34,6 +35,16 @@ lastAt xs flags x = searched (takesLeft xs flags x) 0 0 (length xs)
 unfoldable pub nextAfter : List ℕ → List ℕ → ℕ → ℕ
 nextAfter xs flags x = searched (takesRight xs flags x) (length xs) 0 (length xs)
 
+-- the two points in words: at or left of x, with no flagged one between; flagged and right of x, with no flagged one between, or none right of x
+pub record IsLast (xs flags : List ℕ) (x r : ℕ) : Type 0 where
+  pub left : getD xs r 0 ≤ x
+  pub last : (j : ℕ) → j < length xs → (getD flags j 0 ≡ 0 → ⊥) → getD xs j 0 ≤ x → getD xs j 0 ≤ getD xs r 0
+
+pub record IsNext (xs flags : List ℕ) (x r : ℕ) : Type 0 where
+  pub flag : r < length xs → getD flags r 0 ≡ 0 → ⊥
+  pub right : r < length xs → x < xOr xs r
+  pub next : (j : ℕ) → j < length xs → (getD flags j 0 ≡ 0 → ⊥) → x < getD xs j 0 → xOr xs r ≤ getD xs j 0
+
 -- the height of a point: Y times the multiplier. A clamped Y times its multiplier is below 256; other numbers end at 255
 unfoldable pub heightAt : List ℕ → ℕ → ℕ → ℕ
 heightAt ys m j = min (getD ys j 0 * m) 255
@@ -54,6 +65,10 @@ between xs ys m x l r = cond (ltb r (length xs)) (lineAt (getD xs l 0) (heightAt
 -- the curve at x
 unfoldable pub curveAt : List ℕ → List ℕ → List ℕ → ℕ → ℕ → ℕ
 curveAt xs ys flags m x = between xs ys m x (lastAt xs flags x) (nextAfter xs flags x)
+
+-- every value of the curve lies between 0 and 255 (01)
+pub record Bytes (f : ℕ → ℕ) : Type 0 where
+  pub byte : (x : ℕ) → f x ≤ 255
 
 -- f i, f (i + 1), .. : n of them
 unfoldable pub places : (ℕ → ℕ) → ℕ → ℕ → List ℕ

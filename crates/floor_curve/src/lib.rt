@@ -10,7 +10,7 @@ use points::wide;
 ghost use mathlib.Core.Path.{_≡_};
 ghost use lib.ListN.{length, replicate};
 ghost use Rattle.floor_curve.specs.Curve as drawing;
-ghost use Rattle.floor_curve.specs.Curve.{left, places, curveAt};
+ghost use Rattle.floor_curve.specs.Curve.{left, places, curveAt, Bytes};
 ghost use Rattle.floor_curve.specs.Drawing.{Points};
 
 // Line by line, from each flagged point to the next, as far as `out` has places; past the last point flat.
@@ -50,7 +50,7 @@ fn fitting(x: &[u16], y: usize, flags: usize) -> bool
 // The curve's first `out.len()` places. True where there are as many X, Y and flags, at least one, and the first X is 0. Otherwise false, and `out` is all
 // zero.
 pub fn curve(x: &[u16], y: &[u8], flags: &[u8], multiplier: u8, out: &mut [u8]) -> bool
-    ensures { λ r. ⌜ left r (now (out .exit)) ≡ drawing.curve (now (x .entry)) (now (y .entry)) (now (flags .entry)) multiplier (length (now (out .entry))) ⌝ }
+    ensures { λ r. ⌜ (left r (now (out .exit)) ≡ drawing.curve (now (x .entry)) (now (y .entry)) (now (flags .entry)) multiplier (length (now (out .entry)))) × Bytes (curveAt (now (x .entry)) (now (y .entry)) (now (flags .entry)) multiplier) ⌝ }
 {
     if fitting(x, y.len(), flags.len()) {
         draw_points(x, y, flags, multiplier, out);

@@ -3,7 +3,7 @@ ghost use mathlib.Core.Path.{_≡_};
 ghost use mathlib.Core.Bool.{cond};
 ghost use Prim.Native.Nat.{_*_, _≤_, _<_, min};
 ghost use lib.ListN.{length, getD};
-ghost use Rattle.floor_curve.specs.Curve.{xOr, takesLeft, takesRight, lastAt, nextAfter, heightAt};
+ghost use Rattle.floor_curve.specs.Curve.{xOr, takesLeft, takesRight, lastAt, nextAfter, IsLast, IsNext, heightAt};
 
 pub fn wide(x: u16) -> usize
     ensures { λ r. ⌜ r ≡ x ⌝ }
@@ -57,7 +57,7 @@ fn earlier(x: &[u16], flags: &[u8], at: usize, j: usize, held: usize) -> usize
 
 pub fn last_at(x: &[u16], flags: &[u8], at: usize) -> usize
     requires { ⌜ (0 < length (now x)) × (length (now flags) ≡ length (now x)) ⌝ }
-    ensures { λ r. ⌜ (r ≡ lastAt (now (x .entry)) (now (flags .entry)) at) × (r < length (now (x .entry))) ⌝ }
+    ensures { λ r. ⌜ (r ≡ lastAt (now (x .entry)) (now (flags .entry)) at) × (r < length (now (x .entry))) × (getD (now (x .entry)) 0 0 ≤ at → IsLast (now (x .entry)) (now (flags .entry)) at r) ⌝ }
 {
     let mut held: usize = 0;
     let mut j: usize = 0;
@@ -70,7 +70,7 @@ pub fn last_at(x: &[u16], flags: &[u8], at: usize) -> usize
 
 pub fn next_after(x: &[u16], flags: &[u8], at: usize) -> usize
     requires { ⌜ length (now flags) ≡ length (now x) ⌝ }
-    ensures { λ r. ⌜ (r ≡ nextAfter (now (x .entry)) (now (flags .entry)) at) × (r ≤ length (now (x .entry))) ⌝ }
+    ensures { λ r. ⌜ (r ≡ nextAfter (now (x .entry)) (now (flags .entry)) at) × (r ≤ length (now (x .entry))) × IsNext (now (x .entry)) (now (flags .entry)) at r ⌝ }
 {
     let mut held = x.len();
     let mut j: usize = 0;

@@ -1,4 +1,4 @@
-use Rattle.floor_curve.proofs.CurveLaws.{fit-points, all-left, none-left, flat-zeros}
+use Rattle.floor_curve.proofs.CurveLaws.{fit-points, all-left, none-left, flat-zeros, curve-bytes}
 use borrow.Author.Needs.{needs}
 use Rattle.floor_curve.proofs.curve.Statement.{statement}
 use Rattle.floor_curve.proofs.curve.Tie as tie
@@ -22,7 +22,7 @@ same-length c = search needs
 
 -- src/lib.rt:57:9
 returns : tie.Need-returns
-returns c = all-left (c .before .before .before .before .before .before .before .before .before .before .args .x .now) (c .before .before .before .before .before .before .before .before .before .before .args .y .now) (c .before .before .before .before .before .before .before .before .before .before .args .flags .now) _ _ _ _ (c .before .before .before .before .before .fitting .ensures) (c .before .before .before .before .if1 .taken) (c .before .before .draw-points .ensures)
+returns c = (all-left (c .before .before .before .before .before .before .before .before .before .before .args .x .now) (c .before .before .before .before .before .before .before .before .before .before .args .y .now) (c .before .before .before .before .before .before .before .before .before .before .args .flags .now) _ _ _ _ (c .before .before .before .before .before .fitting .ensures) (c .before .before .before .before .if1 .taken) (c .before .before .draw-points .ensures), curve-bytes _ _ _ _)
 
 -- src/lib.rt:59:5
 draw-flat-requires : tie.Need-draw-flat-requires
@@ -34,7 +34,7 @@ same-length-2 c = search needs
 
 -- src/lib.rt:52:1
 returns-2 : tie.Need-returns-2
-returns-2 c = none-left (c .before .before .before .before .before .before .before .before .before .before .args .x .now) (c .before .before .before .before .before .before .before .before .before .before .args .y .now) (c .before .before .before .before .before .before .before .before .before .before .args .flags .now) (c .before .before .before .before .before .before .before .before .before .before .args .multiplier) _ _ _ (c .before .before .before .before .before .fitting .ensures) (c .before .before .before .before .if1 .left) (flat-zeros _ _ (c .before .before .draw-flat .ensures))
+returns-2 c = (none-left (c .before .before .before .before .before .before .before .before .before .before .args .x .now) (c .before .before .before .before .before .before .before .before .before .before .args .y .now) (c .before .before .before .before .before .before .before .before .before .before .args .flags .now) (c .before .before .before .before .before .before .before .before .before .before .args .multiplier) _ _ _ (c .before .before .before .before .before .fitting .ensures) (c .before .before .before .before .if1 .left) (flat-zeros _ _ (c .before .before .draw-flat .ensures)), curve-bytes _ _ _ _)
 
 pub curve-spec : {M : Type 1} → statement M
 curve-spec =

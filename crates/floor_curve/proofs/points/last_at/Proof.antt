@@ -5,7 +5,7 @@ use lib.ListN.{length, getD}
 use Rattle.floor_points.proofs.Searching.{turned, turned-below, ended}
 use Rattle.floor_points.specs.Search.{searched}
 use Rattle.floor_curve.specs.Curve.{takesLeft, lastAt}
-use Rattle.floor_curve.proofs.PointLaws.{left-begun}
+use Rattle.floor_curve.proofs.PointLaws.{left-begun, is-last}
 use borrow.Author.Needs.{needs}
 use Rattle.floor_curve.proofs.points.last_at.Statement.{statement}
 use Rattle.floor_curve.proofs.points.last_at.Tie as tie
@@ -41,7 +41,7 @@ loop-again c = (omega arith, turned-below (takesLeft _ _ _) _ _ _ _ (c .later .e
 
 -- src/points.rt:58:1
 returns : tie.Need-returns Inv-loop μ-loop
-returns c = (ended (takesLeft _ _ _) _ _ _ _ (omega arith) (c .before .loop .inv .2), omega arith)
+returns c = let e = ended (takesLeft _ _ _) _ _ _ _ (omega arith) (c .before .loop .inv .2) in (e, omega arith, λ h. is-last _ _ _ _ e h)
 
 pub last-at-spec : {M : Type 1} → statement M
 last-at-spec =

@@ -5,7 +5,7 @@ use lib.ListN.{length, getD}
 use Rattle.floor_points.proofs.Searching.{turned, turned-below, ended}
 use Rattle.floor_points.specs.Search.{searched}
 use Rattle.floor_curve.specs.Curve.{takesRight, nextAfter}
-use Rattle.floor_curve.proofs.PointLaws.{right-begun}
+use Rattle.floor_curve.proofs.PointLaws.{right-begun, is-next}
 use borrow.Author.Needs.{needs}
 use Rattle.floor_curve.proofs.points.next_after.Statement.{statement}
 use Rattle.floor_curve.proofs.points.next_after.Tie as tie
@@ -41,7 +41,7 @@ loop-again c = (omega arith, turned-below (takesRight _ _ _) _ _ _ _ (c .earlier
 
 -- src/points.rt:71:1
 returns : tie.Need-returns Inv-loop μ-loop
-returns c = (ended (takesRight _ _ _) _ _ _ _ (omega arith) (c .before .loop .inv .2), omega arith)
+returns c = let e = ended (takesRight _ _ _) _ _ _ _ (omega arith) (c .before .loop .inv .2) in (e, omega arith, is-next _ _ _ _ e)
 
 pub next-after-spec : {M : Type 1} → statement M
 next-after-spec =
