@@ -6,3 +6,4 @@ pub mod Choosing
 pub mod Filling
 pub mod Stepping
 pub mod FitLaws
+pub mod RenderLaws
