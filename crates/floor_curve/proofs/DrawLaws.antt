@@ -5,11 +5,14 @@ use native.Mathlib.Omega.{arith}
 use mathlib.Core.List.{List, [], _∷_}
 use mathlib.Core.Logic.{_⊎_, ⊎-elim}
 use mathlib.Core.Path.{_≡_, refl, sym, ap, _∙_}
+use lib.IntN.{pos}
 use lib.ListN.{length, getD, set, length-set}
 use lib.Seq.{getD-set-same, getD-set-other, ext-getD}
 use Rattle.floor_points.specs.Heights.{lineHeight}
 use Rattle.floor_points.proofs.Integers.{lt-or-le}
 use Rattle.floor_points.proofs.LineLaws.{line-pos, height-le}
+use Rattle.floor_points.specs.RenderLine.{renderLine}
+use Rattle.floor_points.proofs.RenderLaws.{render-is-line}
 use Rattle.floor_curve.specs.Curve.{natural, lineAt, heightAt, places}
 use Rattle.floor_curve.specs.Drawing.{Drawn, Flat}
 
@@ -58,11 +61,16 @@ module _ (f : ℕ → ℕ) (from : ℕ) (before now : List ℕ) where
       at i a c q =
           ⊎-elim (λ (p : i ≡ k). rw p (getD-set-same now k v 0 (omega (arith, w .long)) ∙ e)) (λ (p : i < k). getD-set-other now k i v 0 (omega arith) ∙ w .on i a p c) q
 
+drawn-rendered : (x0 y0 x1 y1 x : ℕ) → x0 ≤ x → x < x1 → pos (lineAt x0 y0 x1 y1 x) ≡ renderLine x0 (pos y0) x1 (pos y1) x
+drawn-rendered x0 y0 x1 y1 x h l =
+    ap pos (line-height-at x0 y0 x1 y1 x) ∙ sym (line-pos x0 y0 x1 y1 x) ∙ sym (render-is-line x0 x1 x (pos y0) (pos y1) h l)
+
 pub drawn : (x0 y0 x1 y1 e k : ℕ) (before now : List ℕ) → Painting (λ i. lineAt x0 y0 x1 y1 i) x0 before now k → e ≡ min x1 (length before) → k ≤ max x0 e → e ≤ k → Drawn x0 y0 x1 y1 before now
 drawn x0 y0 x1 y1 e k before now w q u h =
     record {
       long = w .long;
       on = λ i a b c. w .on i a (omega arith) c;
+      rendered = λ i a b c. ap pos (w .on i a (omega arith) c) ∙ drawn-rendered x0 y0 x1 y1 i a b;
       left = w .left;
       right = λ i a. ⊎-elim (λ (p : i < x0). w .left i p) (λ (p : x0 ≤ i). w .right i (omega arith)) (lt-or-le i x0)
     }

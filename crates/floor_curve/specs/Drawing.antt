@@ -2,13 +2,17 @@
 use Prim.Native.Nat.{ℕ, _≤_, _<_}
 use mathlib.Core.List.{List}
 use mathlib.Core.Path.{_≡_}
+use lib.IntN.{pos}
 use lib.ListN.{length, getD}
+use Rattle.floor_points.specs.RenderLine.{renderLine}
 use Rattle.floor_curve.specs.Curve.{lineAt}
 
 -- the line from (x0, y0) up to, and without, (x1, y1) is drawn, as far as there are places; the other places are as before
 pub record Drawn (x0 y0 x1 y1 : ℕ) (before after : List ℕ) : Type 0 where
   pub long : length after ≡ length before
   pub on : (k : ℕ) → x0 ≤ k → k < x1 → k < length before → getD after k 0 ≡ lineAt x0 y0 x1 y1 k
+  -- the running error of 000 section 9.2.7 draws the same
+  pub rendered : (k : ℕ) → x0 ≤ k → k < x1 → k < length before → pos (getD after k 0) ≡ renderLine x0 (pos y0) x1 (pos y1) k
   pub left : (k : ℕ) → k < x0 → getD after k 0 ≡ getD before k 0
   pub right : (k : ℕ) → x1 ≤ k → getD after k 0 ≡ getD before k 0
 
