@@ -1,0 +1,13 @@
+use Rattle.floor_examples.proofs.Table.{figures-hold}
+use borrow.Author.Needs.{needs}
+use Rattle.floor_examples.proofs.proved.Statement.{statement}
+use Rattle.floor_examples.proofs.proved.Tie as tie
+use Rattle.floor_examples.proofs.proved.Reads as reads
+use Rattle.floor_examples.proofs.proved.Lts as lts
+
+-- src/main.rt:5:1
+returns : tie.Need-returns
+returns c = figures-hold
+
+pub proved-spec : {M : Type 1} → statement M
+proved-spec = tie.close (tie.spec returns)
