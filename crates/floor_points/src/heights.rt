@@ -134,10 +134,10 @@ fn clamp_all(range: u32, heights: &[u32], y: &mut [u8])
     requires { ⌜ (length (now y) ≡ length (now heights)) × (0 < range) × (range ≤ 256) ⌝ }
     ensures { λ _. ⌜ now (y .exit) ≡ map (clampedHeight range) (now (heights .entry)) ⌝ }
 {
-    let mut i: usize = 0;
-    while i < heights.len() {
-        y[i] = clamp(range, heights[i]);
-        i = i + 1;
+    let mut k: usize = 0;
+    while k < heights.len() {
+        y[k] = clamp(range, heights[k]);
+        k = k + 1;
     }
 }
 

@@ -54,10 +54,10 @@ pub fn high_neighbour(x: &[u16], i: usize) -> usize
 {
     let bottom = x[i];
     let mut held: usize = 1;
-    let mut j: usize = 0;
-    while j < i {
-        held = lower(x, bottom, j, held);
-        j = j + 1;
+    let mut k: usize = 0;
+    while k < i {
+        held = lower(x, bottom, k, held);
+        k = k + 1;
     }
     held
 }

@@ -12,10 +12,10 @@ use Rattle.floor_points.proofs.heights.clamp_all.Lts as lts
 use Rattle.floor_points.proofs.heights.clamp.Reads as clamp-reads
 
 abbrev Inv-loop : tie.InvT-loop
-Inv-loop range heights y₀ i₀ y i = Filling (clampedHeight range) heights y i
+Inv-loop range heights y₀ k₀ y k = Filling (clampedHeight range) heights y k
 
 abbrev μ-loop : tie.MeasureT-loop
-μ-loop range heights y₀ i₀ y i = length heights - i
+μ-loop range heights y₀ k₀ y k = length heights - k
 
 -- src/heights.rt:138:5
 loop-holds : tie.Need-loop-holds Inv-loop μ-loop
@@ -38,8 +38,8 @@ slice-write-y : tie.Need-slice-write-y Inv-loop μ-loop
 slice-write-y c = search needs
 
 -- src/heights.rt:140:13
-add-i : tie.Need-add-i Inv-loop μ-loop
-add-i c = search needs
+add-k : tie.Need-add-k Inv-loop μ-loop
+add-k c = search needs
 
 -- src/heights.rt:138:5
 loop-less : tie.Need-loop-less Inv-loop μ-loop
@@ -68,7 +68,7 @@ clamp-all-spec =
     shared-slice-read-clamp
     clamp-requires
     slice-write-y
-    add-i
+    add-k
     loop-less
     loop-again
     same-length

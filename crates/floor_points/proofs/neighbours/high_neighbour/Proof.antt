@@ -14,10 +14,10 @@ use Rattle.floor_points.proofs.neighbours.high_neighbour.Lts as lts
 use Rattle.floor_points.proofs.neighbours.lower.Reads as lower-reads
 
 abbrev Inv-loop : tie.InvT-loop
-Inv-loop x i bottom held₀ j₀ held j = (j ≤ i) × (held < i) × (searched (takesHigh x (getD x i 0)) held j (i - j) ≡ highNeighbour x i)
+Inv-loop x i bottom held₀ k₀ held k = (k ≤ i) × (held < i) × (searched (takesHigh x (getD x i 0)) held k (i - k) ≡ highNeighbour x i)
 
 abbrev μ-loop : tie.MeasureT-loop
-μ-loop x i bottom held₀ j₀ held j = i - j
+μ-loop x i bottom held₀ k₀ held k = i - k
 
 -- src/neighbours.rt:55:18
 mul-bottom : tie.Need-mul-bottom Inv-loop μ-loop
@@ -36,8 +36,8 @@ lower-requires : tie.Need-lower-requires Inv-loop μ-loop
 lower-requires c κs = search needs
 
 -- src/neighbours.rt:60:13
-add-j : tie.Need-add-j Inv-loop μ-loop
-add-j c = search needs
+add-k : tie.Need-add-k Inv-loop μ-loop
+add-k c = search needs
 
 -- src/neighbours.rt:58:5
 loop-less : tie.Need-loop-less Inv-loop μ-loop
@@ -61,7 +61,7 @@ high-neighbour-spec =
     shared-slice-read-bottom
     loop-holds
     lower-requires
-    add-j
+    add-k
     loop-less
     loop-again
     returns)
