@@ -46,22 +46,27 @@ module _ (xs ys fs : List ℕ) (m : ℕ) (before now after : List ℕ) (at l r :
     where
       nh : nextAfter xs fs at < length xs
       nh = rw er at h
+
       x1-is : x1 ≡ getD xs (nextAfter xs fs at) 0
       x1-is = rw er at e1
+
       x1-or : x1 ≡ xOr xs (nextAfter xs fs at)
       x1-or = x1-is ∙ within xs (nextAfter xs fs at) 0 65536 nh
+
       arrives : (getD fs (nextAfter xs fs at) 0 ≡ 0 → ⊥) × (at < xOr xs (nextAfter xs fs at)) → getD xs (lastAt xs fs x1) 0 ≡ x1
       arrives q =
           let lo = last-le xs fs x1 (omega (arith, p .begins)) in
           let hi = last-ge xs fs x1 (nextAfter xs fs at) nh (q .0) (omega (arith, x1-is)) in
           omega (arith, x1-is)
+
       x0-at : x0 ≡ at
       x0-at = rw el at e0 ∙ s .here
+
       on : (k : ℕ) → k < x1 → k < length before → (k < at) ⊎ (at ≤ k) → getD after k 0 ≡ curveAt xs ys fs m k
       on k i j q =
           ⊎-elim (λ (b : k < at). d .left k (omega (arith, x0-at)) ∙ s .on k b j)
           (λ (b : at ≤ k).
-              d .on k (omega (arith, x0-at)) i (omega (arith, s .long)) ∙ rw (e0, f0, e1, f1, el, er) (curve-line xs ys fs m at k (clear-next xs fs at k b (omega (arith, x1-or))) nh))
+          d .on k (omega (arith, x0-at)) i (omega (arith, s .long)) ∙ rw (e0, f0, e1, f1, el, er) (curve-line xs ys fs m at k (clear-next xs fs at k b (omega (arith, x1-or))) nh))
           q
 
   -- the flat part was drawn, past the last point
@@ -74,7 +79,7 @@ module _ (xs ys fs : List ℕ) (m : ℕ) (before now after : List ℕ) (at l r :
       on k j q =
           ⊎-elim (λ (b : k < at). d .left k b ∙ s .on k b j)
           (λ (b : at ≤ k).
-              d .on k b (omega (arith, s .long)) ∙ rw (f, el) (curve-flat xs ys fs m at k (clear-past xs fs at k small b (sym er ∙ h)) (sym er ∙ h)))
+          d .on k b (omega (arith, s .long)) ∙ rw (f, el) (curve-flat xs ys fs m at k (clear-past xs fs at k small b (sym er ∙ h)) (sym er ∙ h)))
           q
 
 pub sketch-end : (xs ys fs : List ℕ) (m : ℕ) (before now : List ℕ) (at : ℕ) → Sketch xs ys fs m before now at → length before ≤ at

@@ -54,7 +54,7 @@ module _ (f : ℕ → ℕ) (from : ℕ) (before now : List ℕ) where
         since = omega (arith, w .since);
         on = λ i a b c. at i a c (eq-or-lt-of-le {n = i} {m = k} (omega arith));
         left = λ i a. getD-set-other now k i v 0 (omega (arith, w .since)) ∙ w .left i a;
-        right = λ i a. getD-set-other now k i v 0 (omega arith) ∙ w .right i (omega arith)
+        right = λ i a. getD-set-other now k i v 0 (omega arith) ∙ w .right i (omega arith);
       }
     where
       at : (i : ℕ) → from ≤ i → i < length before → (i ≡ k) ⊎ (i < k) → getD (set now k v) i 0 ≡ f i
@@ -72,7 +72,7 @@ drawn x0 y0 x1 y1 e k before now w q u h =
       on = λ i a b c. w .on i a (omega arith) c;
       rendered = λ i a b c. ap pos (w .on i a (omega arith) c) ∙ drawn-rendered x0 y0 x1 y1 i a b;
       left = w .left;
-      right = λ i a. ⊎-elim (λ (p : i < x0). w .left i p) (λ (p : x0 ≤ i). w .right i (omega arith)) (lt-or-le i x0)
+      right = λ i a. ⊎-elim (λ (p : i < x0). w .left i p) (λ (p : x0 ≤ i). w .right i (omega arith)) (lt-or-le i x0);
     }
 
 pub flat : (x y k : ℕ) (before now : List ℕ) → Painting (λ _. y) x before now k → length before ≤ k → Flat x y before now

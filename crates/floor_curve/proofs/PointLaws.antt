@@ -116,7 +116,7 @@ module _ (xs fs : List ℕ) (x : ℕ) where
   left-false j held w e =
       ⊎-elim
       (λ (h : getD xs held 0 < getD xs j 0).
-          absurd (unequal (sym (rw (ne-eqb (getD fs j 0) 0 (w .flag), le-leb (getD xs j 0) x (w .at), lt-ltb (getD xs held 0) (getD xs j 0) h) at (sym e)))))
+      absurd (unequal (sym (rw (ne-eqb (getD fs j 0) 0 (w .flag), le-leb (getD xs j 0) x (w .at), lt-ltb (getD xs held 0) (getD xs j 0) h) at (sym e)))))
       (λ (h : getD xs j 0 ≤ getD xs held 0). h)
       (lt-or-le (getD xs held 0) (getD xs j 0))
 
@@ -125,7 +125,7 @@ module _ (xs fs : List ℕ) (x : ℕ) where
   right-false j held w e =
       ⊎-elim
       (λ (h : xOr xs j < xOr xs held).
-          absurd (unequal (sym (rw (ne-eqb (getD fs j 0) 0 (w .flag), lt-ltb x (xOr xs j) (w .at), lt-ltb (xOr xs j) (xOr xs held) h) at (sym e)))))
+      absurd (unequal (sym (rw (ne-eqb (getD fs j 0) 0 (w .flag), lt-ltb x (xOr xs j) (w .at), lt-ltb (xOr xs j) (xOr xs held) h) at (sym e)))))
       (λ (h : xOr xs held ≤ xOr xs j). h)
       (lt-or-le (xOr xs j) (xOr xs held))
 
@@ -138,23 +138,23 @@ module _ (xs fs : List ℕ) (x : ℕ) where
   unfolding lastAt
   last-ge k h f l =
       search-best (takesLeft xs fs x) (λ (a b : ℕ). getD xs a 0 ≤ getD xs b 0) (λ a. omega arith) (λ a b c p q. omega arith)
-        (λ i held t. omega (arith, left-inv i held t .1)) (λ (i : ℕ). Lefter xs fs x i) (λ i held w t. left-false i held w t) (length xs) 0 0
-        .1 k (omega arith) (omega arith) (record { flag = f; at = l })
+      (λ i held t. omega (arith, left-inv i held t .1)) (λ (i : ℕ). Lefter xs fs x i) (λ i held w t. left-false i held w t) (length xs) 0 0
+      .1 k (omega arith) (omega arith) (record { flag = f; at = l })
 
   -- the next point right of x is flagged and right of x, and no flagged one lies between
   pub next-is : nextAfter xs fs x < length xs → (getD fs (nextAfter xs fs x) 0 ≡ 0 → ⊥) × (x < xOr xs (nextAfter xs fs x))
   unfolding nextAfter
   next-is =
       search-keeps (takesRight xs fs x) (λ (k : ℕ). k < length xs → (getD fs k 0 ≡ 0 → ⊥) × (x < xOr xs k)) (length xs) (length xs) 0
-        (λ h. absurd (omega arith)) (λ k held a b q t h. (right-inv k held t .0 .flag, right-inv k held t .0 .at))
+      (λ h. absurd (omega arith)) (λ k held a b q t h. (right-inv k held t .0 .flag, right-inv k held t .0 .at))
 
   pub next-le : (k : ℕ) → k < length xs → (getD fs k 0 ≡ 0 → ⊥) → x < getD xs k 0 → xOr xs (nextAfter xs fs x) ≤ getD xs k 0
   unfolding nextAfter
   next-le k h f l =
       rw (within xs k 0 65536 h)
       (search-best (takesRight xs fs x) (λ (a b : ℕ). xOr xs b ≤ xOr xs a) (λ a. omega arith) (λ a b c p q. omega arith)
-        (λ i held t. omega (arith, right-inv i held t .1)) (λ (i : ℕ). Righter xs fs x i) (λ i held w t. right-false i held w t) (length xs) (length xs) 0
-        .1 k (omega arith) (omega arith) (record { flag = f; at = rw (within xs k 0 65536 h) at l }))
+      (λ i held t. omega (arith, right-inv i held t .1)) (λ (i : ℕ). Righter xs fs x i) (λ i held w t. right-false i held w t) (length xs) (length xs) 0
+      .1 k (omega arith) (omega arith) (record { flag = f; at = rw (within xs k 0 65536 h) at l }))
 
 pub is-last : (xs fs : List ℕ) (x r : ℕ) → r ≡ lastAt xs fs x → getD xs 0 0 ≤ x → IsLast xs fs x r
 is-last xs fs x r e h = rw e (record { left = last-le xs fs x h; last = last-ge xs fs x })
@@ -177,10 +177,12 @@ module _ (xs fs : List ℕ) (a x : ℕ) where
           → (not (eqb (getD fs k 0) 0) && (leb (getD xs k 0) x && ltb (getD xs held 0) (getD xs k 0))) ≡ (not (eqb (getD fs k 0) 0) && (leb (getD xs k 0) a && ltb (getD xs held 0) (getD xs k 0)))
       go true e = rw e
       go false e =
-          rw
-          (e, same-leb (getD xs k 0) x (getD xs k 0) a
-            (λ p. ⊎-elim (λ (q : a < getD xs k 0). absurd (omega (arith, w .free k (omega arith) (eqb-false (getD fs k 0) 0 e) q))) (λ (q : getD xs k 0 ≤ a). q) (lt-or-le a (getD xs k 0)))
-            (λ p. omega (arith, w .from)))
+          rw (
+            e,
+            same-leb (getD xs k 0) x (getD xs k 0) a
+                (λ p. ⊎-elim (λ (q : a < getD xs k 0). absurd (omega (arith, w .free k (omega arith) (eqb-false (getD fs k 0) 0 e) q))) (λ (q : getD xs k 0 ≤ a). q) (lt-or-le a (getD xs k 0)))
+                (λ p. omega (arith, w .from)),
+          )
 
   right-same : Clear xs fs a x → (k held : ℕ) → 0 ≤ k → k < 0 + length xs → takesRight xs fs x k held ≡ takesRight xs fs a k held
   unfolding takesRight
@@ -191,9 +193,11 @@ module _ (xs fs : List ℕ) (a x : ℕ) where
       go true e = rw e
       go false e =
           let s : getD xs k 0 ≡ xOr xs k = within xs k 0 65536 (omega arith) in
-          rw
-          (e, same-ltb x (xOr xs k) a (xOr xs k) (λ p. omega (arith, w .from))
-            (λ p. omega (arith, w .free k (omega arith) (eqb-false (getD fs k 0) 0 e) (omega arith))))
+          rw (
+            e,
+            same-ltb x (xOr xs k) a (xOr xs k) (λ p. omega (arith, w .from))
+                (λ p. omega (arith, w .free k (omega arith) (eqb-false (getD fs k 0) 0 e) (omega arith))),
+          )
 
   pub last-same : Clear xs fs a x → lastAt xs fs x ≡ lastAt xs fs a
   unfolding lastAt

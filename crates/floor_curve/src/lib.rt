@@ -1,6 +1,7 @@
 // Floor 1: the curve that joins the flagged points (004, "curve computation", step 2; 01, "Audio order" 3).
 pub mod lines;
 mod points;
+
 use lines::draw_flat;
 use lines::draw_line;
 use points::height_at;
@@ -26,7 +27,13 @@ fn draw_points(x: &[u16], y: &[u8], flags: &[u8], multiplier: u8, out: &mut [u8]
             draw_flat(out, at, height_at(y, multiplier, l));
             return;
         }
-        draw_line(out, x[l], height_at(y, multiplier, l), x[r], height_at(y, multiplier, r));
+        draw_line(
+            out,
+            x[l],
+            height_at(y, multiplier, l),
+            x[r],
+            height_at(y, multiplier, r),
+        );
         at = wide(x[r]);
     }
 }

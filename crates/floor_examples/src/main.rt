@@ -4,8 +4,7 @@ ghost use Rattle.floor_examples.specs.Figures.{every, figures};
 // The figures hold of the definitions.
 fn proved()
     ensures { λ _. ⌜ every figures ⌝ }
-{
-}
+{}
 
 // A number in three digits, and a newline.
 fn put(n: u8) {

@@ -87,8 +87,8 @@ is-low xs i r z e h =
       below = search-keeps t (λ (k : ℕ). getD xs k 0 < getD xs i 0) i 0 0 h (λ k held a b q s. low-inv xs (getD xs i 0) k held s .0);
       greatest = λ j l f.
           search-best t (λ (a b : ℕ). getD xs a 0 ≤ getD xs b 0) (λ a. omega arith) (λ a b c p q. omega arith)
-            (λ k held s. omega (arith, low-inv xs (getD xs i 0) k held s .1)) (λ (k : ℕ). getD xs k 0 < getD xs i 0) (λ k held w s. low-false xs (getD xs i 0) k held w s) i 0 0
-            .1 j (omega arith) (omega arith) f
+          (λ k held s. omega (arith, low-inv xs (getD xs i 0) k held s .1)) (λ (k : ℕ). getD xs k 0 < getD xs i 0) (λ k held w s. low-false xs (getD xs i 0) k held w s) i 0 0
+          .1 j (omega arith) (omega arith) f;
     })
 
 pub is-high : (xs : List ℕ) (i r : ℕ) → 1 < i → r ≡ highNeighbour xs i → getD xs i 0 < getD xs 1 0 → IsHigh xs i r
@@ -101,6 +101,6 @@ is-high xs i r z e h =
       above = search-keeps t (λ (k : ℕ). getD xs i 0 < getD xs k 0) i 1 0 h (λ k held a b q s. high-inv xs (getD xs i 0) k held s .0);
       least = λ j l f.
           search-best t (λ (a b : ℕ). getD xs b 0 ≤ getD xs a 0) (λ a. omega arith) (λ a b c p q. omega arith)
-            (λ k held s. omega (arith, high-inv xs (getD xs i 0) k held s .1)) (λ (k : ℕ). getD xs i 0 < getD xs k 0) (λ k held w s. high-false xs (getD xs i 0) k held w s) i 1 0
-            .1 j (omega arith) (omega arith) f
+          (λ k held s. omega (arith, high-inv xs (getD xs i 0) k held s .1)) (λ (k : ℕ). getD xs i 0 < getD xs k 0) (λ k held w s. high-false xs (getD xs i 0) k held w s) i 1 0
+          .1 j (omega arith) (omega arith) f;
     })

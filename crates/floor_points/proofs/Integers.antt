@@ -72,10 +72,13 @@ add-difference a b c d =
   where
     ll : a < b → c < d → difference a b +ℤ difference c d ≡ difference (a + c) (b + d)
     ll h k = rw (below a b h, below c d k, below (a + c) (b + d) (omega arith)) (ap negsuc (omega arith))
+
     lh : a < b → d ≤ c → difference a b +ℤ difference c d ≡ difference (a + c) (b + d)
     lh h k = rw (below a b h, above c d k) (plain (c - d) (suc (b - suc a)) ∙ same-difference (c - d) (suc (b - suc a)) (a + c) (b + d) (omega arith))
+
     hl : b ≤ a → c < d → difference a b +ℤ difference c d ≡ difference (a + c) (b + d)
     hl h k = rw (above a b h, below c d k) (plain (a - b) (suc (d - suc c)) ∙ same-difference (a - b) (suc (d - suc c)) (a + c) (b + d) (omega arith))
+
     hh : b ≤ a → d ≤ c → difference a b +ℤ difference c d ≡ difference (a + c) (b + d)
     hh h k = rw (above a b h, above c d k, above (a + c) (b + d) (omega arith)) (ap pos (omega arith))
 
@@ -83,22 +86,22 @@ pub ltZ-difference : (a b c d : ℕ) → ltZ (difference a b) (difference c d) �
 ltZ-difference a b c d =
     ⊎-elim
     (λ (h : a < b).
-        ⊎-elim (λ (k : c < d). rw (below a b h, below c d k) (same-ltb (d - suc c) (b - suc a) (a + d) (c + b) (omega arith) (omega arith)))
-        (λ (k : d ≤ c). rw (below a b h, above c d k) (sym (lt-ltb (a + d) (c + b) (omega arith)))) (lt-or-le c d))
+    ⊎-elim (λ (k : c < d). rw (below a b h, below c d k) (same-ltb (d - suc c) (b - suc a) (a + d) (c + b) (omega arith) (omega arith)))
+    (λ (k : d ≤ c). rw (below a b h, above c d k) (sym (lt-ltb (a + d) (c + b) (omega arith)))) (lt-or-le c d))
     (λ (h : b ≤ a).
-        ⊎-elim (λ (k : c < d). rw (above a b h, below c d k) (sym (le-ltb (a + d) (c + b) (omega arith))))
-        (λ (k : d ≤ c). rw (above a b h, above c d k) (same-ltb (a - b) (c - d) (a + d) (c + b) (omega arith) (omega arith))) (lt-or-le c d))
+    ⊎-elim (λ (k : c < d). rw (above a b h, below c d k) (sym (le-ltb (a + d) (c + b) (omega arith))))
+    (λ (k : d ≤ c). rw (above a b h, above c d k) (same-ltb (a - b) (c - d) (a + d) (c + b) (omega arith) (omega arith))) (lt-or-le c d))
     (lt-or-le a b)
 
 pub leZ-difference : (a b c d : ℕ) → leZ (difference a b) (difference c d) ≡ leb (a + d) (c + b)
 leZ-difference a b c d =
     ⊎-elim
     (λ (h : a < b).
-        ⊎-elim (λ (k : c < d). rw (below a b h, below c d k) (same-leb (d - suc c) (b - suc a) (a + d) (c + b) (omega arith) (omega arith)))
-        (λ (k : d ≤ c). rw (below a b h, above c d k) (sym (le-leb (a + d) (c + b) (omega arith)))) (lt-or-le c d))
+    ⊎-elim (λ (k : c < d). rw (below a b h, below c d k) (same-leb (d - suc c) (b - suc a) (a + d) (c + b) (omega arith) (omega arith)))
+    (λ (k : d ≤ c). rw (below a b h, above c d k) (sym (le-leb (a + d) (c + b) (omega arith)))) (lt-or-le c d))
     (λ (h : b ≤ a).
-        ⊎-elim (λ (k : c < d). rw (above a b h, below c d k) (sym (lt-leb (a + d) (c + b) (omega arith))))
-        (λ (k : d ≤ c). rw (above a b h, above c d k) (same-leb (a - b) (c - d) (a + d) (c + b) (omega arith) (omega arith))) (lt-or-le c d))
+    ⊎-elim (λ (k : c < d). rw (above a b h, below c d k) (sym (lt-leb (a + d) (c + b) (omega arith))))
+    (λ (k : d ≤ c). rw (above a b h, above c d k) (same-leb (a - b) (c - d) (a + d) (c + b) (omega arith) (omega arith))) (lt-or-le c d))
     (lt-or-le a b)
 
 pub abs-difference : (a b : ℕ) → natAbs (difference a b) ≡ (a - b) + (b - a)

@@ -85,7 +85,8 @@ module _ (x0 h0 x1 h1 x : ℕ) where
       falls h =
           let e : (h1 - h0) + (h0 - h1) ≡ h0 - h1 = omega arith in
           rw (rise-or-fall z, e, ltZ-difference h1 z h0 z, lt-ltb (h1 + z) (h0 + z) (omega arith), height-falls h)
-            (minus h0 z (offset x0 x1 (h0 - h1) x) ∙ same-difference h0 (z + offset x0 x1 (h0 - h1) x) (h0 - offset x0 x1 (h0 - h1) x) z (omega (arith, offset-le x0 x1 (h0 - h1) x)))
+          (minus h0 z (offset x0 x1 (h0 - h1) x) ∙ same-difference h0 (z + offset x0 x1 (h0 - h1) x) (h0 - offset x0 x1 (h0 - h1) x) z (omega (arith, offset-le x0 x1 (h0 - h1) x)))
+
       rises : h0 ≤ h1 → line x0 (difference h0 z) x1 (difference h1 z) x ≡ difference (lineHeight x0 h0 x1 h1 x) z
       rises h =
           let e : (h1 - h0) + (h0 - h1) ≡ h1 - h0 = omega arith in

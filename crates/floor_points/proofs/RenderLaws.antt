@@ -36,7 +36,7 @@ module _ (a w : ℕ) (pw : 0 < w) where
       let m : a * n % w < w = mod-lt (a * n) pw in
       let l : a * n % w + rest - w < w = omega arith in
       let e : a * suc n ≡ (a * n / w + (a / w + 1)) * w + (a * n % w + rest - w) =
-        omega (arith, mul-suc a n, div-add-mod' (a * n) w, whole, add-mul (a * n / w) (a / w + 1) w, add-mul (a / w) 1 w) in
+      omega (arith, mul-suc a n, div-add-mod' (a * n) w, whole, add-mul (a * n / w) (a / w + 1) w, add-mul (a / w) 1 w) in
       (rw e (digits-div (a * n / w + (a / w + 1)) l), rw e (digits-mod (a * n / w + (a / w + 1)) l))
     where
       rest-lt : rest < w
@@ -60,11 +60,11 @@ module _ (y0 : ℤ) (a w : ℕ) (pw : 0 < w) where
       rw (rises n)
       (⊎-elim
       (λ (h : a * n % w + rest a w pw < w).
-          let u = under a w pw n h in
-          rw (lt-leb w (a * n % w + rest a w pw) h, u .0, u .1) (ap (λ (z : ℤ). at z (a * n % w + rest a w pw)) (add-twice (a * n / w) (a / w))))
+      let u = under a w pw n h in
+      rw (lt-leb w (a * n % w + rest a w pw) h, u .0, u .1) (ap (λ (z : ℤ). at z (a * n % w + rest a w pw)) (add-twice (a * n / w) (a / w))))
       (λ (h : w ≤ a * n % w + rest a w pw).
-          let o = over a w pw n h in
-          rw (le-leb w (a * n % w + rest a w pw) h, o .0, o .1) (ap (λ (z : ℤ). at z (a * n % w + rest a w pw - w)) (add-twice (a * n / w) (a / w + 1))))
+      let o = over a w pw n h in
+      rw (le-leb w (a * n % w + rest a w pw) h, o .0, o .1) (ap (λ (z : ℤ). at z (a * n % w + rest a w pw - w)) (add-twice (a * n / w) (a / w + 1))))
       (lt-or-le (a * n % w + rest a w pw) w))
 
   falls : (n : ℕ) → drawnTo y0 (negℤ (pos (a / w))) (negℤ (pos (a / w)) -ℤ pos 1) (rest a w pw) w n ≡ at (y0 -ℤ pos (a * n / w)) (a * n % w)
@@ -74,13 +74,13 @@ module _ (y0 : ℤ) (a w : ℕ) (pw : 0 < w) where
       rw (falls n)
       (⊎-elim
       (λ (h : a * n % w + rest a w pw < w).
-          let u = under a w pw n h in
-          rw (lt-leb w (a * n % w + rest a w pw) h, u .0, u .1) (ap (λ (z : ℤ). at z (a * n % w + rest a w pw)) (take-twice (a * n / w) (a / w))))
+      let u = under a w pw n h in
+      rw (lt-leb w (a * n % w + rest a w pw) h, u .0, u .1) (ap (λ (z : ℤ). at z (a * n % w + rest a w pw)) (take-twice (a * n / w) (a / w))))
       (λ (h : w ≤ a * n % w + rest a w pw).
-          let o = over a w pw n h in
-          rw (le-leb w (a * n % w + rest a w pw) h, o .0, o .1)
-          (ap (λ (z : ℤ). at (y0 -ℤ pos (a * n / w) +ℤ z) (a * n % w + rest a w pw - w)) (sym (negℤ-+ℤ (pos (a / w)) (pos 1)))
-            ∙ ap (λ (z : ℤ). at z (a * n % w + rest a w pw - w)) (take-twice (a * n / w) (a / w + 1))))
+      let o = over a w pw n h in
+      rw (le-leb w (a * n % w + rest a w pw) h, o .0, o .1)
+      (ap (λ (z : ℤ). at (y0 -ℤ pos (a * n / w) +ℤ z) (a * n % w + rest a w pw - w)) (sym (negℤ-+ℤ (pos (a / w)) (pos 1)))
+      ∙ ap (λ (z : ℤ). at z (a * n % w + rest a w pw - w)) (take-twice (a * n / w) (a / w + 1))))
       (lt-or-le (a * n % w + rest a w pw) w))
 
 -- ---- the sign of dy
@@ -101,8 +101,8 @@ sign : (y0 y1 : ℤ) → ltZ y1 y0 ≡ ltZ (y1 -ℤ y0) (pos 0)
 sign y0 y1 =
     rw (as-difference y0, as-difference y1)
     (ltZ-difference (up y1) (down y1) (up y0) (down y0) ∙ same-ltb (up y1 + down y0) (up y0 + down y1) (up y1 + down y0 + 0) (0 + (down y1 + up y0)) (omega arith) (omega arith)
-      ∙ sym (ap (λ (z : ℤ). ltZ z (pos 0)) (minus-difference (up y1) (down y1) (up y0) (down y0)) ∙ ap (λ (z : ℤ). ltZ (difference (up y1 + down y0) (down y1 + up y0)) z) (pos-difference 0)
-      ∙ ltZ-difference (up y1 + down y0) (down y1 + up y0) 0 0))
+    ∙ sym (ap (λ (z : ℤ). ltZ z (pos 0)) (minus-difference (up y1) (down y1) (up y0) (down y0)) ∙ ap (λ (z : ℤ). ltZ (difference (up y1 + down y0) (down y1 + up y0)) z) (pos-difference 0)
+    ∙ ltZ-difference (up y1 + down y0) (down y1 + up y0) 0 0))
 
 abs-neg : (k : ℕ) → natAbs (negℤ (pos k)) ≡ k
 abs-neg zero = refl

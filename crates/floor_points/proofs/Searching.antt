@@ -61,9 +61,11 @@ module _ (takes : ℕ → ℕ → Bool) (R : ℕ → ℕ → Type 0) (same : (a 
       go : (t : Bool) → takes j held ≡ t
           → ((h : ℕ) → R h (searched takes h (suc j) n) × ((k : ℕ) → suc j ≤ k → k < suc j + n → C k → R k (searched takes h (suc j) n)))
           → R held (searched takes (cond t j held) (suc j) n) × ((k : ℕ) → j ≤ k → k < j + suc n → C k → R k (searched takes (cond t j held) (suc j) n))
-      go true e f =
-          (chain held j _ (better j held e) (f j .0),
-            λ k a b q. ⊎-elim (λ (p : j ≡ k). chain k j _ (rw (← p) (same j)) (f j .0)) (λ (p : j < k). f j .1 k (omega arith) (omega arith) q) (eq-or-lt-of-le a))
-      go false e f =
-          (f held .0,
-            λ k a b q. ⊎-elim (λ (p : j ≡ k). chain k held _ (kept k held q (rw p at e)) (f held .0)) (λ (p : j < k). f held .1 k (omega arith) (omega arith) q) (eq-or-lt-of-le a))
+      go true e f = (
+        chain held j _ (better j held e) (f j .0),
+        λ k a b q. ⊎-elim (λ (p : j ≡ k). chain k j _ (rw (← p) (same j)) (f j .0)) (λ (p : j < k). f j .1 k (omega arith) (omega arith) q) (eq-or-lt-of-le a),
+      )
+      go false e f = (
+        f held .0,
+        λ k a b q. ⊎-elim (λ (p : j ≡ k). chain k held _ (kept k held q (rw p at e)) (f held .0)) (λ (p : j < k). f held .1 k (omega arith) (omega arith) q) (eq-or-lt-of-le a),
+      )

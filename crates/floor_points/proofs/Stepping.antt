@@ -93,7 +93,7 @@ module _ (xs vals : List ℕ) (range : ℕ) (hs₀ fs₀ : List ℕ) where
           bounded = b;
           from = omega (arith, g .from);
           within = omega arith;
-          rest = rw e (steps-turn range xs vals i (length xs) (pointsOf hs fs) h ∙ g .rest)
+          rest = rw e (steps-turn range xs vals i (length xs) (pointsOf hs fs) h ∙ g .rest);
         }
 
     pub going-end : (i : ℕ) → Going xs vals range hs₀ fs₀ hs fs i → length xs ≤ i → pointsOf hs fs ≡ steps range xs vals 2 (length xs - 2) (pointsOf hs₀ fs₀)
@@ -106,6 +106,7 @@ begun-points vals fs e = rw e (ap (λ (l : List ℤ). the l) (each vals))
   where
     the : List ℤ → Points
     the l = record { ys = l; flags = set (set (replicate (length vals) 0) 0 1) 1 1 }
+
     each : (l : List ℕ) → map yOf (map heightOf l) ≡ map pos l
     each [] = refl
     each (v ∷ l) = rw (same-difference (heightOf v) 65536 v 0 (omega arith), ← pos-difference v, each l)

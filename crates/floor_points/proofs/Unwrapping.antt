@@ -48,9 +48,9 @@ module _ (range p : ℕ) where
         ⊎-elim
         (λ (e : range + 131072 ≡ 2 * p). fills-low (omega arith) ∙ same-leb (2 * p) (val + 131072) (2 * range + 131072) (val + 2 * p) (omega arith) (omega arith))
         (λ (l : range + 131072 < 2 * p).
-            rw (room-high l, pos-difference val)
-            (leZ-difference (2 * (range + 65536)) (2 * p) val 0
-              ∙ same-leb (2 * (range + 65536) + 0) (val + 2 * p) (2 * range + 131072) (val + 2 * p) (omega arith) (omega arith)))
+        rw (room-high l, pos-difference val)
+        (leZ-difference (2 * (range + 65536)) (2 * p) val 0
+        ∙ same-leb (2 * (range + 65536) + 0) (val + 2 * p) (2 * range + 131072) (val + 2 * p) (omega arith) (omega arith)))
         (eq-or-lt-of-le h)
 
     -- 28
@@ -71,9 +71,9 @@ module _ (range p : ℕ) where
     unwrap-high n r v h f =
         rw (ne-eqb val 0 n, fills-high h, le-leb (2 * range + 131072) (val + 2 * p) f, more-high, le-ltb (2 * p) (range + 131072) h)
         (same-difference (65535 + range - val) 65536 (p + (range + 65536)) (65536 + val + p + 1) (omega arith)
-          ∙ sym (minus (p + (range + 65536)) (65536 + val + p) 1)
-          ∙ ap (λ (z : ℤ). z -ℤ pos 1)
-              (sym (add-difference p (65536 + val) (range + 65536) p) ∙ ap (λ (z : ℤ). z +ℤ difference (range + 65536) p) (sym (minus p 65536 val)) ∙ ap (λ (z : ℤ). yOf p -ℤ pos val +ℤ z) (sym (from range p 65536))))
+        ∙ sym (minus (p + (range + 65536)) (65536 + val + p) 1)
+        ∙ ap (λ (z : ℤ). z -ℤ pos 1)
+        (sym (add-difference p (65536 + val) (range + 65536) p) ∙ ap (λ (z : ℤ). z +ℤ difference (range + 65536) p) (sym (minus p 65536 val)) ∙ ap (λ (z : ℤ). yOf p -ℤ pos val +ℤ z) (sym (from range p 65536))))
 
     -- 25 and 26: the value is less than the room
     near-odd : (val ≡ 0 → ⊥) → leZ (room range (yOf p)) (pos val) ≡ false → val % 2 ≡ 1 → (val + 1) / 2 ≤ p → yOf (p - (val + 1) / 2) ≡ unwrapped range (yOf p) val

@@ -78,6 +78,11 @@ unwrapped range p val =
     (cond (ltZ (lowroom p) (highroom range p)) (pos val -ℤ lowroom p +ℤ p) (p -ℤ pos val +ℤ highroom range p -ℤ pos 1))
     (cond (eqb (val % 2) 1) (p -ℤ pos ((val + 1) / 2)) (p +ℤ pos (val / 2))))
 
+-- clamped to 0..range-1
+unfoldable pub clamped : ℕ → ℤ → ℕ
+clamped range (pos n) = min n (range - 1)
+clamped range (negsuc n) = 0
+
 -- 17 to 19 and 27: a value that is not zero flags its point and both neighbours
 unfoldable pub flagged : ℕ → ℕ → ℕ → ℕ → List ℕ → List ℕ
 flagged val low high i flags = cond (eqb val 0) (set flags i 0) (set (set (set flags low 1) high 1) i 1)
@@ -87,7 +92,7 @@ unfoldable pub step : ℕ → List ℕ → List ℕ → ℕ → Points → Point
 step range xs vals i s =
     record {
       ys = set (s .ys) i (unwrapped range (predicted xs i (s .ys)) (getD vals i 0));
-      flags = flagged (getD vals i 0) (lowNeighbour xs i) (highNeighbour xs i) i (s .flags)
+      flags = flagged (getD vals i 0) (lowNeighbour xs i) (highNeighbour xs i) i (s .flags);
     }
 
 -- 6: the n places from i on
@@ -102,11 +107,6 @@ begun vals = record { ys = map pos vals; flags = set (set (replicate (length val
 -- 1 to 29: every point, not yet clamped
 unfoldable pub points : ℕ → List ℕ → List ℕ → Points
 points range xs vals = steps range xs vals 2 (length xs - 2) (begun vals)
-
--- clamped to 0..range-1
-unfoldable pub clamped : ℕ → ℤ → ℕ
-clamped range (pos n) = min n (range - 1)
-clamped range (negsuc n) = 0
 
 -- lists of so many places fit each other: 2 to 65 X, one value for each, as many places for what comes out, and a multiplier of 1 to 4
 unfoldable pub fitting : ℕ → ℕ → ℕ → ℕ → ℕ → Bool

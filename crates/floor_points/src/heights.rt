@@ -111,7 +111,13 @@ fn step(x: &[u16], values: &[u16], range: u32, i: usize, heights: &mut [u32], fl
 {
     let low = low_neighbour(x, i);
     let high = high_neighbour(x, i);
-    let predicted = line_height(wide(x[low]), heights[low], wide(x[high]), heights[high], wide(x[i]));
+    let predicted = line_height(
+        wide(x[low]),
+        heights[low],
+        wide(x[high]),
+        heights[high],
+        wide(x[i]),
+    );
     let value = values[i];
     heights[i] = unwrap(range, predicted, value);
     flag(value, low, high, i, flags);
@@ -142,7 +148,14 @@ fn clamp_all(range: u32, heights: &[u32], y: &mut [u8])
 }
 
 // Final Y and flags of lists that fit each other, worked out in `heights`.
-pub fn final_points(x: &[u16], values: &[u16], range: u32, heights: &mut [u32], y: &mut [u8], flags: &mut [u8])
+pub fn final_points(
+    x: &[u16],
+    values: &[u16],
+    range: u32,
+    heights: &mut [u32],
+    y: &mut [u8],
+    flags: &mut [u8],
+)
     requires { ⌜ Ready (now x) (now values) range (now heights) (now flags) × (length (now y) ≡ length (now x)) ⌝ }
     ensures { λ _. ⌜ (now (y .exit) ≡ map (clamped range) (points range (now (x .entry)) (now (values .entry)) .ys)) × (now (flags .exit) ≡ points range (now (x .entry)) (now (values .entry)) .flags) ⌝ }
 {

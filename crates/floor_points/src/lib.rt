@@ -1,7 +1,8 @@
 // Floor 1: the final Y values and the step 2 flags of a list of X and the values read (004, "curve computation", step 1).
+mod heights;
 pub mod lines;
 mod neighbours;
-mod heights;
+
 use heights::clear;
 use heights::final_points;
 ghost use mathlib.Core.Path.{_≡_};

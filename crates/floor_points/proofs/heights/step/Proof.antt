@@ -115,12 +115,12 @@ same-length-2 c = search needs
 -- src/heights.rt:108:1
 returns : tie.Need-returns
 returns c = (
-      step-made (c .before .before .before .before .before .before .before .before .before .before .before .before .before .before .before .before .before .before .before .before .before .args .range) (c .before .before .before .before .before .before .before .before .before .before .before .before .before .before .before .before .before .before .before .before .before .args .x .now) (c .before .before .before .before .before .before .before .before .before .before .before .before .before .before .before .before .before .before .before .before .before .args .values .now) (c .before .before .before .before .before .before .before .before .before .before .before .before .before .before .before .before .before .before .before .before .before .args .heights .now) (c .before .before .before .before .before .before .before .before .before .before .before .before .before .before .before .before .before .before .before .before .before .args .flags .now) _ (c .before .before .before .before .before .before .before .before .before .before .before .before .before .before .before .before .before .before .before .before .before .args .i) (c .before .before .before .before .before .before .before .before .before .before .before .before .before .before .before .before .low-neighbour .result) (c .before .before .before .before .before .before .before .before .before .before .before .before .before .before .before .high-neighbour .result) (c .before .before .before .before .before .before .line-height .result) (c .before .before .before .before .unwrap .result)
-          (c .before .before .before .before .before .before .before .before .before .before .before .before .before .before .before .before .low-neighbour .ensures .0) (c .before .before .before .before .before .before .before .before .before .before .before .before .before .before .before .high-neighbour .ensures .0) (omega arith) (omega arith)
-          (point-made (c .before .before .before .before .before .before .before .before .before .before .before .before .before .before .before .before .before .before .before .before .before .args .x .now) (c .before .before .before .before .before .before .before .before .before .before .before .before .before .before .before .before .low-neighbour .result) (c .before .before .before .before .before .before .before .before .before .before .before .before .before .before .before .high-neighbour .result) (c .before .before .before .before .before .before .before .before .before .before .before .before .before .before .before .before .before .before .before .before .before .args .i) _ _ _ _ _ _ (c .before .before .before .before .before .before .before .before .before .before .before .before .before .wide .ensures) (c .before .before .before .before .before .before .before .before .before .before .wide2 .ensures) (c .before .before .before .before .before .before .before .wide3 .ensures) (c .before .before .before .before .before .before .line-height .ensures))
-          (c .before .before .before .before .unwrap .ensures .0) (c .before .before .flag .ensures),
-      set-bounded _ _ _ (c .before .before .before .before .before .before .before .before .before .before .before .before .before .before .before .before .before .before .before .before .before .pre .1) (c .before .before .before .before .unwrap .ensures .1),
-    )
+  step-made (c .before .before .before .before .before .before .before .before .before .before .before .before .before .before .before .before .before .before .before .before .before .args .range) (c .before .before .before .before .before .before .before .before .before .before .before .before .before .before .before .before .before .before .before .before .before .args .x .now) (c .before .before .before .before .before .before .before .before .before .before .before .before .before .before .before .before .before .before .before .before .before .args .values .now) (c .before .before .before .before .before .before .before .before .before .before .before .before .before .before .before .before .before .before .before .before .before .args .heights .now) (c .before .before .before .before .before .before .before .before .before .before .before .before .before .before .before .before .before .before .before .before .before .args .flags .now) _ (c .before .before .before .before .before .before .before .before .before .before .before .before .before .before .before .before .before .before .before .before .before .args .i) (c .before .before .before .before .before .before .before .before .before .before .before .before .before .before .before .before .low-neighbour .result) (c .before .before .before .before .before .before .before .before .before .before .before .before .before .before .before .high-neighbour .result) (c .before .before .before .before .before .before .line-height .result) (c .before .before .before .before .unwrap .result)
+      (c .before .before .before .before .before .before .before .before .before .before .before .before .before .before .before .before .low-neighbour .ensures .0) (c .before .before .before .before .before .before .before .before .before .before .before .before .before .before .before .high-neighbour .ensures .0) (omega arith) (omega arith)
+      (point-made (c .before .before .before .before .before .before .before .before .before .before .before .before .before .before .before .before .before .before .before .before .before .args .x .now) (c .before .before .before .before .before .before .before .before .before .before .before .before .before .before .before .before .low-neighbour .result) (c .before .before .before .before .before .before .before .before .before .before .before .before .before .before .before .high-neighbour .result) (c .before .before .before .before .before .before .before .before .before .before .before .before .before .before .before .before .before .before .before .before .before .args .i) _ _ _ _ _ _ (c .before .before .before .before .before .before .before .before .before .before .before .before .before .wide .ensures) (c .before .before .before .before .before .before .before .before .before .before .wide2 .ensures) (c .before .before .before .before .before .before .before .wide3 .ensures) (c .before .before .before .before .before .before .line-height .ensures))
+      (c .before .before .before .before .unwrap .ensures .0) (c .before .before .flag .ensures),
+  set-bounded _ _ _ (c .before .before .before .before .before .before .before .before .before .before .before .before .before .before .before .before .before .before .before .before .before .pre .1) (c .before .before .before .before .unwrap .ensures .1),
+)
 
 pub step-spec : {M : Type 1} → statement M
 step-spec =
