@@ -1,3 +1,4 @@
+-- `floor_curve::draw_points` meets its contract. The loop keeps a sketch: the curve up to a place at which a point lies (`Sketch`). Each turn moves right, since the next point lies right of that place. Assumes nothing.
 use Prim.Native.Nat.{ℕ, _+_, _-_, _≤_, _<_}
 use native.Mathlib.Omega.{arith}
 use mathlib.Core.Path.{_≡_, refl, sym, ap, _∙_}
@@ -6,14 +7,6 @@ use Rattle.floor_curve.proofs.CurveLaws.{Sketch, sketch-begin, sketch-l
 use borrow.Author.Needs.{needs}
 use Rattle.floor_curve.proofs.draw_points.Statement.{statement}
 use Rattle.floor_curve.proofs.draw_points.Tie as tie
-use Rattle.floor_curve.proofs.draw_points.Reads as reads
-use Rattle.floor_curve.proofs.draw_points.Lts as lts
-use Rattle.floor_curve.proofs.lines.draw_flat.Reads as draw-flat-reads
-use Rattle.floor_curve.proofs.lines.draw_line.Reads as draw-line-reads
-use Rattle.floor_curve.proofs.points.height_at.Reads as height-at-reads
-use Rattle.floor_curve.proofs.points.last_at.Reads as last-at-reads
-use Rattle.floor_curve.proofs.points.next_after.Reads as next-after-reads
-use Rattle.floor_curve.proofs.points.wide.Reads as wide-reads
 
 abbrev Inv-loop : tie.InvT-loop
 Inv-loop x y flags multiplier out₀ at₀ out at = Sketch x y flags multiplier out₀ out at
@@ -21,87 +14,66 @@ Inv-loop x y flags multiplier out₀ at₀ out at = Sketch x y flags multiplier 
 abbrev μ-loop : tie.MeasureT-loop
 μ-loop x y flags multiplier out₀ at₀ out at = length out₀ - at
 
--- src/lib.rt:22:5
 loop-holds : tie.Need-loop-holds Inv-loop μ-loop
 loop-holds c = sketch-begin _ _ _ _ _ (c .before .before .before .before .pre)
 
--- src/lib.rt:23:13
 last-at-requires : tie.Need-last-at-requires Inv-loop μ-loop
 last-at-requires c κs = search needs
 
--- src/lib.rt:24:13
 next-after-requires : tie.Need-next-after-requires Inv-loop μ-loop
 next-after-requires c κs = search needs
 
--- src/lib.rt:26:32
 height-at-requires : tie.Need-height-at-requires Inv-loop μ-loop
 height-at-requires c κs = search needs
 
--- src/lib.rt:26:13
 draw-flat-requires : tie.Need-draw-flat-requires Inv-loop μ-loop
 draw-flat-requires c κs = search needs
 
--- src/lib.rt:27:13
 same-length : tie.Need-same-length Inv-loop μ-loop
 same-length c = omega arith
 
--- src/lib.rt:27:13
 returns : tie.Need-returns Inv-loop μ-loop
 returns c = sketch-flat (c .before .before .before .before .before .before .before .before .before .before .before .before .before .before .args .x .now) (c .before .before .before .before .before .before .before .before .before .before .before .before .before .before .args .y .now) (c .before .before .before .before .before .before .before .before .before .before .before .before .before .before .args .flags .now) (c .before .before .before .before .before .before .before .before .before .before .before .before .before .before .args .multiplier) _ _ _ _ _ _ _ (λ k. omega (arith, c .before .before .before .before .before .before .before .before .before .before .before .before .before .shared-slice-known .given k)) (c .before .before .before .before .before .before .before .before .before .loop .inv) (c .before .before .before .before .before .before .before .last-at .ensures .0) (c .before .before .before .before .before .before .next-after .ensures .0) (c .before .before .before .before .before .if1 .taken) (c .before .before .before .height-at .ensures) (c .before .before .draw-flat .ensures)
 
--- src/lib.rt:29:24
 mul-draw-line : tie.Need-mul-draw-line Inv-loop μ-loop
 mul-draw-line c = search needs
 
--- src/lib.rt:29:24
 shared-slice-read-draw-line : tie.Need-shared-slice-read-draw-line Inv-loop μ-loop
 shared-slice-read-draw-line c = search needs
 
--- src/lib.rt:29:30
 height-at-requires-2 : tie.Need-height-at-requires-2 Inv-loop μ-loop
 height-at-requires-2 c κs = search needs
 
--- src/lib.rt:29:59
 mul-draw-line-2 : tie.Need-mul-draw-line-2 Inv-loop μ-loop
 mul-draw-line-2 c = search needs
 
--- src/lib.rt:29:59
 shared-slice-read-draw-line-2 : tie.Need-shared-slice-read-draw-line-2 Inv-loop μ-loop
 shared-slice-read-draw-line-2 c = search needs
 
--- src/lib.rt:29:65
 height-at-requires-3 : tie.Need-height-at-requires-3 Inv-loop μ-loop
 height-at-requires-3 c κs = search needs
 
--- src/lib.rt:29:9
 draw-line-requires : tie.Need-draw-line-requires Inv-loop μ-loop
 draw-line-requires c κs = search needs
 
--- src/lib.rt:30:19
 mul-wide : tie.Need-mul-wide Inv-loop μ-loop
 mul-wide c = search needs
 
--- src/lib.rt:30:19
 shared-slice-read-wide : tie.Need-shared-slice-read-wide Inv-loop μ-loop
 shared-slice-read-wide c = search needs
 
--- src/lib.rt:30:9
 wide-requires : tie.Need-wide-requires Inv-loop μ-loop
 wide-requires c κs = search needs
 
--- src/lib.rt:22:5
 loop-less : tie.Need-loop-less Inv-loop μ-loop
 loop-less c = let h = next-right (c .before .before .before .before .before .before .before .before .before .before .before .before .before .before .before .before .before .before .before .args .x .now) (c .before .before .before .before .before .before .before .before .before .before .before .before .before .before .before .before .before .before .before .args .flags .now) (c .before .before .before .before .before .before .before .before .before .before .before .before .before .before .loop .at) (c .before .before .before .before .before .before .before .before .before .before .before .next-after .result) (c .wide .result) (c .before .before .before .before .before .before .before .before .before .before .before .next-after .ensures .0) (omega arith) (c .wide .ensures) in omega arith
 
--- src/lib.rt:22:5
 loop-again : tie.Need-loop-again Inv-loop μ-loop
 loop-again c = sketch-line (c .before .before .before .before .before .before .before .before .before .before .before .before .before .before .before .before .before .before .before .args .x .now) (c .before .before .before .before .before .before .before .before .before .before .before .before .before .before .before .before .before .before .before .args .y .now) (c .before .before .before .before .before .before .before .before .before .before .before .before .before .before .before .before .before .before .before .args .flags .now) (c .before .before .before .before .before .before .before .before .before .before .before .before .before .before .before .before .before .before .before .args .multiplier) _ _ _ _ _ _ _ _ _ _ _ (c .before .before .before .before .before .before .before .before .before .before .before .before .before .before .before .before .before .before .before .pre) (c .before .before .before .before .before .before .before .before .before .before .before .before .before .before .loop .inv) (c .before .before .before .before .before .before .before .before .before .before .before .before .last-at .ensures .0) (c .before .before .before .before .before .before .before .before .before .before .before .next-after .ensures .0) (omega arith) refl (c .before .before .before .before .before .before .before .height-at2 .ensures) refl (c .before .before .before .before .before .height-at3 .ensures) (c .before .before .before .before .draw-line .ensures) (c .wide .ensures)
 
--- src/lib.rt:17:1
 same-length-2 : tie.Need-same-length-2 Inv-loop μ-loop
 same-length-2 c = omega arith
 
--- src/lib.rt:17:1
 returns-2 : tie.Need-returns-2 Inv-loop μ-loop
 returns-2 c = sketch-end _ _ _ _ _ _ _ (c .before .loop .inv) (omega arith)
 

@@ -1,28 +1,22 @@
+-- `floor_curve::fitting` meets its contract. Each return is one way out of the test. Assumes nothing.
 use native.Mathlib.Omega.{arith}
 use Rattle.floor_curve.proofs.CurveLaws.{no-points, other-begin, other-y, other-flags}
 use borrow.Author.Needs.{needs}
 use Rattle.floor_curve.proofs.fitting.Statement.{statement}
 use Rattle.floor_curve.proofs.fitting.Tie as tie
-use Rattle.floor_curve.proofs.fitting.Reads as reads
-use Rattle.floor_curve.proofs.fitting.Lts as lts
 
--- src/lib.rt:39:9
 returns : tie.Need-returns
 returns c = no-points _ _ _ (omega arith)
 
--- src/lib.rt:41:8
 shared-slice-read-if2 : tie.Need-shared-slice-read-if2
 shared-slice-read-if2 c = search needs
 
--- src/lib.rt:42:9
 returns-2 : tie.Need-returns-2
 returns-2 c = other-begin _ _ _ (omega arith) (omega arith)
 
--- src/lib.rt:45:9
 returns-3 : tie.Need-returns-3
 returns-3 c = other-y _ _ _ (omega arith) (omega arith) (omega arith)
 
--- src/lib.rt:35:1
 returns-4 : tie.Need-returns-4
 returns-4 c = other-flags _ _ _ (omega arith) (omega arith) (omega arith)
 

@@ -1,11 +1,9 @@
+-- `floor_examples::proved` meets its contract. By the table. Assumes nothing.
 use Rattle.floor_examples.proofs.Table.{figures-hold}
 use borrow.Author.Needs.{needs}
 use Rattle.floor_examples.proofs.proved.Statement.{statement}
 use Rattle.floor_examples.proofs.proved.Tie as tie
-use Rattle.floor_examples.proofs.proved.Reads as reads
-use Rattle.floor_examples.proofs.proved.Lts as lts
 
--- src/main.rt:5:1
 returns : tie.Need-returns
 returns c = figures-hold
 

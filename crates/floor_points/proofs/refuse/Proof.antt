@@ -1,28 +1,21 @@
+-- `floor_points::refuse` meets its contract. Both lists are cleared. Assumes nothing.
 use Rattle.floor_points.proofs.FitLaws.{refused}
 use borrow.Author.Needs.{needs}
 use Rattle.floor_points.proofs.refuse.Statement.{statement}
 use Rattle.floor_points.proofs.refuse.Tie as tie
-use Rattle.floor_points.proofs.refuse.Reads as reads
-use Rattle.floor_points.proofs.refuse.Lts as lts
-use Rattle.floor_points.proofs.heights.clear.Reads as clear-reads
 
--- src/lib.rt:58:5
 clear-requires : tie.Need-clear-requires
 clear-requires c κs = search needs
 
--- src/lib.rt:59:5
 clear-requires-2 : tie.Need-clear-requires-2
 clear-requires-2 c κs = search needs
 
--- src/lib.rt:55:1
 same-length : tie.Need-same-length
 same-length c = search needs
 
--- src/lib.rt:55:1
 same-length-2 : tie.Need-same-length-2
 same-length-2 c = search needs
 
--- src/lib.rt:55:1
 returns : tie.Need-returns
 returns c = refused (c .before .before .before .before .before .before .clear .ensures) (c .before .before .clear2 .ensures)
 

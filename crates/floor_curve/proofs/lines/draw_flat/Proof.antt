@@ -1,3 +1,4 @@
+-- `floor_curve::lines::draw_flat` meets its contract. The loop paints the places from the left (`Painting`), up to the length. Assumes nothing.
 use Prim.Native.Nat.{ℕ, _+_, _-_, _≤_, _<_, max}
 use native.Mathlib.Omega.{arith}
 use mathlib.Core.Path.{_≡_, refl, sym, ap, _∙_}
@@ -6,8 +7,6 @@ use Rattle.floor_curve.proofs.DrawLaws.{Painting, paint-begin, paint-tu
 use borrow.Author.Needs.{needs}
 use Rattle.floor_curve.proofs.lines.draw_flat.Statement.{statement}
 use Rattle.floor_curve.proofs.lines.draw_flat.Tie as tie
-use Rattle.floor_curve.proofs.lines.draw_flat.Reads as reads
-use Rattle.floor_curve.proofs.lines.draw_flat.Lts as lts
 
 abbrev Inv-loop : tie.InvT-loop
 Inv-loop out₀ from y x₀ out x = Painting (λ _. y) from out₀ out x
@@ -15,31 +14,24 @@ Inv-loop out₀ from y x₀ out x = Painting (λ _. y) from out₀ out x
 abbrev μ-loop : tie.MeasureT-loop
 μ-loop out₀ from y x₀ out x = length out₀ - x
 
--- src/lines.rt:43:5
 loop-holds : tie.Need-loop-holds Inv-loop μ-loop
 loop-holds c = paint-begin _ _ _
 
--- src/lines.rt:44:9
 slice-write-out : tie.Need-slice-write-out Inv-loop μ-loop
 slice-write-out c = omega arith
 
--- src/lines.rt:45:13
 add-x : tie.Need-add-x Inv-loop μ-loop
 add-x c = search needs
 
--- src/lines.rt:43:5
 loop-less : tie.Need-loop-less Inv-loop μ-loop
 loop-less c = omega arith
 
--- src/lines.rt:43:5
 loop-again : tie.Need-loop-again Inv-loop μ-loop
 loop-again c = paint-turn _ _ _ _ _ _ (c .before .loop .inv) (omega arith) refl
 
--- src/lines.rt:39:1
 same-length : tie.Need-same-length Inv-loop μ-loop
 same-length c = omega arith
 
--- src/lines.rt:39:1
 returns : tie.Need-returns Inv-loop μ-loop
 returns c = flat _ _ _ _ _ (c .before .loop .inv) (omega arith)
 

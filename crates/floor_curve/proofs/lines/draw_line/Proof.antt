@@ -1,3 +1,4 @@
+-- `floor_curve::lines::draw_line` meets its contract. The loop paints the places from the left (`Painting`), up to the lesser of x1 and the length. Assumes nothing.
 use Prim.Native.Nat.{ℕ, _+_, _-_, _≤_, _<_, max}
 use native.Mathlib.Omega.{arith}
 use mathlib.Core.Path.{_≡_, refl, sym, ap, _∙_}
@@ -7,10 +8,6 @@ use Rattle.floor_curve.proofs.DrawLaws.{Painting, paint-begin, paint-tu
 use borrow.Author.Needs.{needs}
 use Rattle.floor_curve.proofs.lines.draw_line.Statement.{statement}
 use Rattle.floor_curve.proofs.lines.draw_line.Tie as tie
-use Rattle.floor_curve.proofs.lines.draw_line.Reads as reads
-use Rattle.floor_curve.proofs.lines.draw_line.Lts as lts
-use Rattle.floor_curve.proofs.lines.lesser.Reads as lesser-reads
-use Rattle.floor_curve.proofs.lines.line_at.Reads as line-at-reads
 
 abbrev Inv-loop : tie.InvT-loop
 Inv-loop out₀ x0 y0 x1 y1 end x₀ out x = Painting (λ i. lineAt x0 y0 x1 y1 i) x0 out₀ out x × (x ≤ max x0 end)
@@ -18,39 +15,30 @@ Inv-loop out₀ x0 y0 x1 y1 end x₀ out x = Painting (λ i. lineAt x0 y0 x1 y1 
 abbrev μ-loop : tie.MeasureT-loop
 μ-loop out₀ x0 y0 x1 y1 end x₀ out x = end - x
 
--- src/lines.rt:30:9
 lesser-requires : tie.Need-lesser-requires Inv-loop μ-loop
 lesser-requires c κs = search needs
 
--- src/lines.rt:32:5
 loop-holds : tie.Need-loop-holds Inv-loop μ-loop
 loop-holds c = (paint-begin _ _ _, omega arith)
 
--- src/lines.rt:33:18
 line-at-requires : tie.Need-line-at-requires Inv-loop μ-loop
 line-at-requires c κs = omega arith
 
--- src/lines.rt:33:9
 slice-write-out : tie.Need-slice-write-out Inv-loop μ-loop
 slice-write-out c = omega arith
 
--- src/lines.rt:34:13
 add-x : tie.Need-add-x Inv-loop μ-loop
 add-x c = search needs
 
--- src/lines.rt:32:5
 loop-less : tie.Need-loop-less Inv-loop μ-loop
 loop-less c = omega arith
 
--- src/lines.rt:32:5
 loop-again : tie.Need-loop-again Inv-loop μ-loop
 loop-again c = (paint-turn _ _ _ _ _ _ (c .before .before .loop .inv .0) (omega arith) (c .line-at .ensures), omega arith)
 
--- src/lines.rt:27:1
 same-length : tie.Need-same-length Inv-loop μ-loop
 same-length c = omega arith
 
--- src/lines.rt:27:1
 returns : tie.Need-returns Inv-loop μ-loop
 returns c = drawn _ _ _ _ _ _ _ _ (c .before .loop .inv .0) (c .before .before .lesser .ensures) (c .before .loop .inv .1) (omega arith)
 

@@ -1,58 +1,43 @@
+-- `floor_curve::points::earlier` meets its contract. Each return is one way out of `takesRight`. Assumes nothing.
 use native.Mathlib.Omega.{arith}
 use Rattle.floor_curve.proofs.PointLaws.{right-unset, right-left, right-held, right-takes}
 use borrow.Author.Needs.{needs}
 use Rattle.floor_curve.proofs.points.earlier.Statement.{statement}
 use Rattle.floor_curve.proofs.points.earlier.Tie as tie
-use Rattle.floor_curve.proofs.points.earlier.Reads as reads
-use Rattle.floor_curve.proofs.points.earlier.Lts as lts
-use Rattle.floor_curve.proofs.points.wide.Reads as wide-reads
-use Rattle.floor_curve.proofs.points.x_or.Reads as x-or-reads
 
--- src/points.rt:46:8
 shared-slice-read-if1 : tie.Need-shared-slice-read-if1
 shared-slice-read-if1 c = search needs
 
--- src/points.rt:47:9
 returns : tie.Need-returns
 returns c = right-unset _ _ _ _ _ (omega arith)
 
--- src/points.rt:49:13
 mul-wide : tie.Need-mul-wide
 mul-wide c = search needs
 
--- src/points.rt:49:13
 shared-slice-read-wide : tie.Need-shared-slice-read-wide
 shared-slice-read-wide c = search needs
 
--- src/points.rt:49:8
 wide-requires : tie.Need-wide-requires
 wide-requires c κs = search needs
 
--- src/points.rt:50:9
 returns-2 : tie.Need-returns-2
 returns-2 c = right-left _ _ _ _ _ (omega arith) (omega arith) (omega arith)
 
--- src/points.rt:52:8
 x-or-requires : tie.Need-x-or-requires
 x-or-requires c κs = search needs
 
--- src/points.rt:52:30
 mul-wide-2 : tie.Need-mul-wide-2
 mul-wide-2 c = search needs
 
--- src/points.rt:52:30
 shared-slice-read-wide-2 : tie.Need-shared-slice-read-wide-2
 shared-slice-read-wide-2 c = search needs
 
--- src/points.rt:52:25
 wide-requires-2 : tie.Need-wide-requires-2
 wide-requires-2 c κs = search needs
 
--- src/points.rt:53:9
 returns-3 : tie.Need-returns-3
 returns-3 c = right-held _ _ _ _ _ (omega arith) (omega arith) (omega arith) (omega arith)
 
--- src/points.rt:42:1
 returns-4 : tie.Need-returns-4
 returns-4 c = right-takes _ _ _ _ _ (omega arith) (omega arith) (omega arith) (omega arith)
 

@@ -1,3 +1,4 @@
+-- `floor_curve::points::next_after` meets its contract. The loop keeps what the rest of the search gives. Assumes nothing.
 use Prim.Native.Nat.{ℕ, _+_, _-_, _≤_, _<_, max}
 use native.Mathlib.Omega.{arith}
 use mathlib.Core.Path.{_≡_, refl, sym, ap, _∙_}
@@ -9,9 +10,6 @@ use Rattle.floor_curve.proofs.PointLaws.{right-begun, is-next}
 use borrow.Author.Needs.{needs}
 use Rattle.floor_curve.proofs.points.next_after.Statement.{statement}
 use Rattle.floor_curve.proofs.points.next_after.Tie as tie
-use Rattle.floor_curve.proofs.points.next_after.Reads as reads
-use Rattle.floor_curve.proofs.points.next_after.Lts as lts
-use Rattle.floor_curve.proofs.points.earlier.Reads as earlier-reads
 
 abbrev Inv-loop : tie.InvT-loop
 Inv-loop x flags at held₀ j₀ held j = (j ≤ length x) × (held < length x + 1) × (searched (takesRight x flags at) held j (length x - j) ≡ nextAfter x flags at)
@@ -19,27 +17,21 @@ Inv-loop x flags at held₀ j₀ held j = (j ≤ length x) × (held < length x +
 abbrev μ-loop : tie.MeasureT-loop
 μ-loop x flags at held₀ j₀ held j = length x - j
 
--- src/points.rt:77:5
 loop-holds : tie.Need-loop-holds Inv-loop μ-loop
 loop-holds c = (omega arith, omega arith, right-begun _ _ _)
 
--- src/points.rt:78:9
 earlier-requires : tie.Need-earlier-requires Inv-loop μ-loop
 earlier-requires c κs = search needs
 
--- src/points.rt:79:13
 add-j : tie.Need-add-j Inv-loop μ-loop
 add-j c = search needs
 
--- src/points.rt:77:5
 loop-less : tie.Need-loop-less Inv-loop μ-loop
 loop-less c = search needs
 
--- src/points.rt:77:5
 loop-again : tie.Need-loop-again Inv-loop μ-loop
 loop-again c = (omega arith, turned-below (takesRight _ _ _) _ _ _ _ (c .earlier .ensures) (omega arith) (omega arith), turned (takesRight _ _ _) _ _ _ _ _ (c .earlier .ensures) (omega arith) (c .before .before .loop .inv .2))
 
--- src/points.rt:71:1
 returns : tie.Need-returns Inv-loop μ-loop
 returns c = let e = ended (takesRight _ _ _) _ _ _ _ (omega arith) (c .before .loop .inv .2) in (e, omega arith, is-next _ _ _ _ e)
 

@@ -1,3 +1,4 @@
+-- `floor_points::heights::begin_flags` meets its contract. Two stores after clearing. Assumes nothing.
 use Prim.Native.Nat.{ℕ}
 use mathlib.Core.List.{List}
 use mathlib.Core.Path.{ap}
@@ -5,27 +6,19 @@ use lib.ListN.{set}
 use borrow.Author.Needs.{needs}
 use Rattle.floor_points.proofs.heights.begin_flags.Statement.{statement}
 use Rattle.floor_points.proofs.heights.begin_flags.Tie as tie
-use Rattle.floor_points.proofs.heights.begin_flags.Reads as reads
-use Rattle.floor_points.proofs.heights.begin_flags.Lts as lts
-use Rattle.floor_points.proofs.heights.clear.Reads as clear-reads
 
--- src/heights.rt:102:5
 clear-requires : tie.Need-clear-requires
 clear-requires c κs = search needs
 
--- src/heights.rt:103:5
 slice-write-flags : tie.Need-slice-write-flags
 slice-write-flags c = search needs
 
--- src/heights.rt:104:5
 slice-write-flags-2 : tie.Need-slice-write-flags-2
 slice-write-flags-2 c = search needs
 
--- src/heights.rt:98:1
 same-length : tie.Need-same-length
 same-length c = search needs
 
--- src/heights.rt:98:1
 returns : tie.Need-returns
 returns c = ap (λ (l : List ℕ). set (set l 0 1) 1 1) (c .before .before .clear .ensures)
 

@@ -1,3 +1,4 @@
+-- `floor_points::heights::begin_heights` meets its contract. The loop fills the heights from the values, which are below 65,536. Assumes nothing.
 use Prim.Native.Nat.{ℕ, _+_, _≤_, _<_, _-_}
 use native.Mathlib.Omega.{arith}
 use mathlib.Core.Path.{_≡_, refl, sym, ap, _∙_}
@@ -8,9 +9,6 @@ use Rattle.floor_points.proofs.Stepping.{filled-bounded}
 use borrow.Author.Needs.{needs}
 use Rattle.floor_points.proofs.heights.begin_heights.Statement.{statement}
 use Rattle.floor_points.proofs.heights.begin_heights.Tie as tie
-use Rattle.floor_points.proofs.heights.begin_heights.Reads as reads
-use Rattle.floor_points.proofs.heights.begin_heights.Lts as lts
-use Rattle.floor_points.proofs.heights.wide.Reads as wide-reads
 
 abbrev Inv-loop : tie.InvT-loop
 Inv-loop values heights₀ i₀ heights i = Filling heightOf values heights i
@@ -18,51 +16,39 @@ Inv-loop values heights₀ i₀ heights i = Filling heightOf values heights i
 abbrev μ-loop : tie.MeasureT-loop
 μ-loop values heights₀ i₀ heights i = length values - i
 
--- src/heights.rt:81:5
 loop-holds : tie.Need-loop-holds Inv-loop μ-loop
 loop-holds c = fill-begin _ _ _ (c .before .before .pre)
 
--- src/heights.rt:82:35
 mul-wide : tie.Need-mul-wide Inv-loop μ-loop
 mul-wide c = search needs
 
--- src/heights.rt:82:35
 shared-slice-read-wide : tie.Need-shared-slice-read-wide Inv-loop μ-loop
 shared-slice-read-wide c = search needs
 
--- src/heights.rt:82:30
 wide-requires : tie.Need-wide-requires Inv-loop μ-loop
 wide-requires c κs = search needs
 
--- src/heights.rt:82:22
 add-heights : tie.Need-add-heights Inv-loop μ-loop
 add-heights c = omega (arith, c .before .before .before .before .before .shared-slice-known .given (c .before .before .before .loop .i))
 
--- src/heights.rt:82:9
 mul-heights : tie.Need-mul-heights Inv-loop μ-loop
 mul-heights c = search needs
 
--- src/heights.rt:82:9
 slice-write-heights : tie.Need-slice-write-heights Inv-loop μ-loop
 slice-write-heights c = search needs
 
--- src/heights.rt:83:13
 add-i : tie.Need-add-i Inv-loop μ-loop
 add-i c = search needs
 
--- src/heights.rt:81:5
 loop-less : tie.Need-loop-less Inv-loop μ-loop
 loop-less c = search needs
 
--- src/heights.rt:81:5
 loop-again : tie.Need-loop-again Inv-loop μ-loop
 loop-again c = fill-turn _ _ _ _ _ (c .before .before .before .loop .inv) (omega arith) (ap (λ (v : ℕ). 65536 + v) (c .wide .ensures))
 
--- src/heights.rt:76:1
 same-length : tie.Need-same-length Inv-loop μ-loop
 same-length c = omega arith
 
--- src/heights.rt:76:1
 returns : tie.Need-returns Inv-loop μ-loop
 returns c = (fill-end _ _ _ _ (c .before .loop .inv) (omega arith), filled-bounded _ _ _ (c .before .loop .inv) (omega arith) (λ k. omega (arith, c .before .before .before .shared-slice-known .given k)))
 

@@ -1,32 +1,25 @@
+-- `floor_points::heights::clamp` meets its contract. Each return is one way out of `clamped`. Assumes nothing.
 use Rattle.floor_points.proofs.Unwrapping.{clamp-below, clamp-within, clamp-past}
 use native.Mathlib.Omega.{arith}
 use borrow.Author.Needs.{needs}
 use Rattle.floor_points.proofs.heights.clamp.Statement.{statement}
 use Rattle.floor_points.proofs.heights.clamp.Tie as tie
-use Rattle.floor_points.proofs.heights.clamp.Reads as reads
-use Rattle.floor_points.proofs.heights.clamp.Lts as lts
 
--- src/heights.rt:49:9
 returns : tie.Need-returns
 returns c = clamp-below _ _ (omega arith)
 
--- src/heights.rt:52:16
 cast-result : tie.Need-cast-result
 cast-result c = search needs
 
--- src/heights.rt:52:9
 returns-2 : tie.Need-returns-2
 returns-2 c = clamp-within _ _ (omega arith) (omega arith)
 
--- src/heights.rt:54:6
 sub-result : tie.Need-sub-result
 sub-result c = search needs
 
--- src/heights.rt:54:5
 cast-result-2 : tie.Need-cast-result-2
 cast-result-2 c = search needs
 
--- src/heights.rt:44:1
 returns-3 : tie.Need-returns-3
 returns-3 c = clamp-past _ _ (omega arith) (omega arith)
 

@@ -1,3 +1,4 @@
+-- `floor_points::heights::clear` meets its contract. The loop fills the list with zeros. Assumes nothing.
 use Prim.Native.Nat.{ℕ, _+_, _≤_, _<_, _-_}
 use native.Mathlib.Omega.{arith}
 use mathlib.Core.Path.{_≡_, refl, sym, ap, _∙_}
@@ -6,8 +7,6 @@ use Rattle.floor_points.proofs.Filling.{Filling, fill-begin, fill-turn,
 use borrow.Author.Needs.{needs}
 use Rattle.floor_points.proofs.heights.clear.Statement.{statement}
 use Rattle.floor_points.proofs.heights.clear.Tie as tie
-use Rattle.floor_points.proofs.heights.clear.Reads as reads
-use Rattle.floor_points.proofs.heights.clear.Lts as lts
 
 abbrev Inv-loop : tie.InvT-loop
 Inv-loop flags₀ i₀ flags i = Filling (λ _. 0) flags₀ flags i
@@ -15,31 +14,24 @@ Inv-loop flags₀ i₀ flags i = Filling (λ _. 0) flags₀ flags i
 abbrev μ-loop : tie.MeasureT-loop
 μ-loop flags₀ i₀ flags i = length flags₀ - i
 
--- src/heights.rt:91:5
 loop-holds : tie.Need-loop-holds Inv-loop μ-loop
 loop-holds c = fill-begin _ _ _ refl
 
--- src/heights.rt:92:9
 slice-write-flags : tie.Need-slice-write-flags Inv-loop μ-loop
 slice-write-flags c = search needs
 
--- src/heights.rt:93:13
 add-i : tie.Need-add-i Inv-loop μ-loop
 add-i c = search needs
 
--- src/heights.rt:91:5
 loop-less : tie.Need-loop-less Inv-loop μ-loop
 loop-less c = search needs
 
--- src/heights.rt:91:5
 loop-again : tie.Need-loop-again Inv-loop μ-loop
 loop-again c = fill-turn _ _ _ _ _ (c .before .loop .inv) (omega arith) refl
 
--- src/heights.rt:87:1
 same-length : tie.Need-same-length Inv-loop μ-loop
 same-length c = omega arith
 
--- src/heights.rt:87:1
 returns : tie.Need-returns Inv-loop μ-loop
 returns c = cleared _ _ _ (c .before .loop .inv) (omega arith)
 

@@ -1,40 +1,31 @@
+-- `floor_points::heights::flag` meets its contract. Each return is one way out of `flagged`. Assumes nothing.
 use Rattle.floor_points.proofs.Unwrapping.{flag-unset, flag-set}
 use native.Mathlib.Omega.{arith}
 use borrow.Author.Needs.{needs}
 use Rattle.floor_points.proofs.heights.flag.Statement.{statement}
 use Rattle.floor_points.proofs.heights.flag.Tie as tie
-use Rattle.floor_points.proofs.heights.flag.Reads as reads
-use Rattle.floor_points.proofs.heights.flag.Lts as lts
 
--- src/heights.rt:63:9
 slice-write-flags : tie.Need-slice-write-flags
 slice-write-flags c = search needs
 
--- src/heights.rt:64:9
 same-length : tie.Need-same-length
 same-length c = search needs
 
--- src/heights.rt:64:9
 returns : tie.Need-returns
 returns c = flag-unset _ _ _ _ _ (omega arith)
 
--- src/heights.rt:66:5
 slice-write-flags-2 : tie.Need-slice-write-flags-2
 slice-write-flags-2 c = search needs
 
--- src/heights.rt:67:5
 slice-write-flags-3 : tie.Need-slice-write-flags-3
 slice-write-flags-3 c = search needs
 
--- src/heights.rt:68:5
 slice-write-flags-4 : tie.Need-slice-write-flags-4
 slice-write-flags-4 c = search needs
 
--- src/heights.rt:58:1
 same-length-2 : tie.Need-same-length-2
 same-length-2 c = search needs
 
--- src/heights.rt:58:1
 returns-2 : tie.Need-returns-2
 returns-2 c = flag-set _ _ _ _ _ (omega arith)
 

@@ -1,3 +1,4 @@
+-- `floor_points::heights::step` meets its contract. The point on the line between the neighbours stays below 131,072, and the parts make one step of the definition. Assumes nothing.
 use Prim.Native.Nat.{ℕ, _+_, _≤_, _<_, _-_}
 use native.Mathlib.Omega.{arith}
 use mathlib.Core.Path.{_≡_, refl, sym, ap, _∙_}
@@ -7,112 +8,79 @@ use Rattle.floor_points.proofs.Stepping.{point-bounded, point-made, ste
 use borrow.Author.Needs.{needs}
 use Rattle.floor_points.proofs.heights.step.Statement.{statement}
 use Rattle.floor_points.proofs.heights.step.Tie as tie
-use Rattle.floor_points.proofs.heights.step.Reads as reads
-use Rattle.floor_points.proofs.heights.step.Lts as lts
-use Rattle.floor_points.proofs.heights.flag.Reads as flag-reads
-use Rattle.floor_points.proofs.heights.unwrap.Reads as unwrap-reads
-use Rattle.floor_points.proofs.heights.wide.Reads as wide-reads
-use Rattle.floor_points.proofs.lines.line_height.Reads as line-height-reads
-use Rattle.floor_points.proofs.neighbours.high_neighbour.Reads as high-neighbour-reads
-use Rattle.floor_points.proofs.neighbours.low_neighbour.Reads as low-neighbour-reads
 
--- src/heights.rt:112:9
 low-neighbour-requires : tie.Need-low-neighbour-requires
 low-neighbour-requires c κs = search needs
 
--- src/heights.rt:113:9
 high-neighbour-requires : tie.Need-high-neighbour-requires
 high-neighbour-requires c κs = search needs
 
--- src/heights.rt:114:38
 mul-wide : tie.Need-mul-wide
 mul-wide c = search needs
 
--- src/heights.rt:114:38
 shared-slice-read-wide : tie.Need-shared-slice-read-wide
 shared-slice-read-wide c = search needs
 
--- src/heights.rt:114:33
 wide-requires : tie.Need-wide-requires
 wide-requires c κs = search needs
 
--- src/heights.rt:114:47
 mul-line-height : tie.Need-mul-line-height
 mul-line-height c = search needs
 
--- src/heights.rt:114:47
 slice-read-line-height : tie.Need-slice-read-line-height
 slice-read-line-height c = search needs
 
--- src/heights.rt:114:66
 mul-wide-2 : tie.Need-mul-wide-2
 mul-wide-2 c = search needs
 
--- src/heights.rt:114:66
 shared-slice-read-wide-2 : tie.Need-shared-slice-read-wide-2
 shared-slice-read-wide-2 c = search needs
 
--- src/heights.rt:114:61
 wide-requires-2 : tie.Need-wide-requires-2
 wide-requires-2 c κs = search needs
 
--- src/heights.rt:114:76
 mul-line-height-2 : tie.Need-mul-line-height-2
 mul-line-height-2 c = search needs
 
--- src/heights.rt:114:76
 slice-read-line-height-2 : tie.Need-slice-read-line-height-2
 slice-read-line-height-2 c = search needs
 
--- src/heights.rt:114:96
 mul-wide-3 : tie.Need-mul-wide-3
 mul-wide-3 c = search needs
 
--- src/heights.rt:114:96
 shared-slice-read-wide-3 : tie.Need-shared-slice-read-wide-3
 shared-slice-read-wide-3 c = search needs
 
--- src/heights.rt:114:91
 wide-requires-3 : tie.Need-wide-requires-3
 wide-requires-3 c κs = search needs
 
--- src/heights.rt:114:9
 line-height-requires : tie.Need-line-height-requires
 line-height-requires c κs = search needs
 
--- src/heights.rt:115:17
 mul-value : tie.Need-mul-value
 mul-value c = search needs
 
--- src/heights.rt:115:17
 shared-slice-read-value : tie.Need-shared-slice-read-value
 shared-slice-read-value c = search needs
 
--- src/heights.rt:116:18
 unwrap-requires : tie.Need-unwrap-requires
 unwrap-requires c κs = (omega arith, omega arith, point-bounded _ _ _ _ _ _ _ (c .before .before .before .before .before .before .before .before .before .before .before .before .before .before .before .before .pre .1) (c .before .line-height .ensures))
 
--- src/heights.rt:116:5
 mul-heights : tie.Need-mul-heights
 mul-heights c = search needs
 
--- src/heights.rt:116:5
 slice-write-heights : tie.Need-slice-write-heights
 slice-write-heights c = search needs
 
--- src/heights.rt:117:5
 flag-requires : tie.Need-flag-requires
 flag-requires c κs = search needs
 
--- src/heights.rt:108:1
 same-length : tie.Need-same-length
 same-length c = search needs
 
--- src/heights.rt:108:1
 same-length-2 : tie.Need-same-length-2
 same-length-2 c = search needs
 
--- src/heights.rt:108:1
 returns : tie.Need-returns
 returns c = (
   step-made (c .before .before .before .before .before .before .before .before .before .before .before .before .before .before .before .before .before .before .before .before .before .args .range) (c .before .before .before .before .before .before .before .before .before .before .before .before .before .before .before .before .before .before .before .before .before .args .x .now) (c .before .before .before .before .before .before .before .before .before .before .before .before .before .before .before .before .before .before .before .before .before .args .values .now) (c .before .before .before .before .before .before .before .before .before .before .before .before .before .before .before .before .before .before .before .before .before .args .heights .now) (c .before .before .before .before .before .before .before .before .before .before .before .before .before .before .before .before .before .before .before .before .before .args .flags .now) _ (c .before .before .before .before .before .before .before .before .before .before .before .before .before .before .before .before .before .before .before .before .before .args .i) (c .before .before .before .before .before .before .before .before .before .before .before .before .before .before .before .before .low-neighbour .result) (c .before .before .before .before .before .before .before .before .before .before .before .before .before .before .before .high-neighbour .result) (c .before .before .before .before .before .before .line-height .result) (c .before .before .before .before .unwrap .result)

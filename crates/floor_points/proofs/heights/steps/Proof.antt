@@ -1,3 +1,4 @@
+-- `floor_points::heights::steps` meets its contract. The loop keeps what the steps that are left give (`Going`). Assumes nothing.
 use Prim.Native.Nat.{ℕ, _+_, _≤_, _<_, _-_}
 use native.Mathlib.Omega.{arith}
 use mathlib.Core.Path.{_≡_, refl, sym, ap, _∙_}
@@ -7,9 +8,6 @@ use Rattle.floor_points.proofs.Stepping.{Going, going-begin, going-turn
 use borrow.Author.Needs.{needs}
 use Rattle.floor_points.proofs.heights.steps.Statement.{statement}
 use Rattle.floor_points.proofs.heights.steps.Tie as tie
-use Rattle.floor_points.proofs.heights.steps.Reads as reads
-use Rattle.floor_points.proofs.heights.steps.Lts as lts
-use Rattle.floor_points.proofs.heights.step.Reads as step-reads
 
 abbrev Inv-loop : tie.InvT-loop
 Inv-loop x values range heights₀ flags₀ i₀ heights flags i = Going x values range heights₀ flags₀ heights flags i
@@ -17,35 +15,27 @@ Inv-loop x values range heights₀ flags₀ i₀ heights flags i = Going x value
 abbrev μ-loop : tie.MeasureT-loop
 μ-loop x values range heights₀ flags₀ i₀ heights flags i = length x - i
 
--- src/heights.rt:126:5
 loop-holds : tie.Need-loop-holds Inv-loop μ-loop
 loop-holds c = going-begin _ _ _ _ _ (c .before .before .before .before .pre .0) (c .before .before .before .before .pre .1)
 
--- src/heights.rt:127:9
 step-requires : tie.Need-step-requires Inv-loop μ-loop
 step-requires c κs = (c .before .before .before .loop .inv .ready, c .before .before .before .loop .inv .bounded, omega (arith, c .before .before .before .loop .inv .from), omega arith)
 
--- src/heights.rt:128:13
 add-i : tie.Need-add-i Inv-loop μ-loop
 add-i c = search needs
 
--- src/heights.rt:126:5
 loop-less : tie.Need-loop-less Inv-loop μ-loop
 loop-less c = search needs
 
--- src/heights.rt:126:5
 loop-again : tie.Need-loop-again Inv-loop μ-loop
 loop-again c = going-turn _ _ _ _ _ _ _ _ _ _ (c .before .before .before .before .before .before .before .before .loop .inv) (omega arith) (c .before .before .before .before .step .ensures .0) (c .before .before .before .before .step .ensures .1) (omega arith) (omega arith)
 
--- src/heights.rt:121:1
 same-length : tie.Need-same-length Inv-loop μ-loop
 same-length c = omega arith
 
--- src/heights.rt:121:1
 same-length-2 : tie.Need-same-length-2 Inv-loop μ-loop
 same-length-2 c = omega arith
 
--- src/heights.rt:121:1
 returns : tie.Need-returns Inv-loop μ-loop
 returns c = going-end _ _ _ _ _ _ _ _ (c .before .loop .inv) (omega arith)
 

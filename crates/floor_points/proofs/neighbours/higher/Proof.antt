@@ -1,44 +1,34 @@
+-- `floor_points::neighbours::higher` meets its contract. Each return is one way out of `takesLow`. Assumes nothing.
 use Rattle.floor_points.proofs.Choosing.{low-not-below, low-not-greater, low-takes, high-not-above, high-not-less, high-takes}
 use native.Mathlib.Omega.{arith}
 use borrow.Author.Needs.{needs}
 use Rattle.floor_points.proofs.neighbours.higher.Statement.{statement}
 use Rattle.floor_points.proofs.neighbours.higher.Tie as tie
-use Rattle.floor_points.proofs.neighbours.higher.Reads as reads
-use Rattle.floor_points.proofs.neighbours.higher.Lts as lts
 
--- src/neighbours.rt:14:8
 mul-if1 : tie.Need-mul-if1
 mul-if1 c = search needs
 
--- src/neighbours.rt:14:8
 shared-slice-read-if1 : tie.Need-shared-slice-read-if1
 shared-slice-read-if1 c = search needs
 
--- src/neighbours.rt:15:9
 returns : tie.Need-returns
 returns c = low-not-below _ _ _ _ (omega arith)
 
--- src/neighbours.rt:17:8
 mul-if2 : tie.Need-mul-if2
 mul-if2 c = search needs
 
--- src/neighbours.rt:17:8
 shared-slice-read-if2 : tie.Need-shared-slice-read-if2
 shared-slice-read-if2 c = search needs
 
--- src/neighbours.rt:17:19
 mul-if2-2 : tie.Need-mul-if2-2
 mul-if2-2 c = search needs
 
--- src/neighbours.rt:17:19
 shared-slice-read-if2-2 : tie.Need-shared-slice-read-if2-2
 shared-slice-read-if2-2 c = search needs
 
--- src/neighbours.rt:18:9
 returns-2 : tie.Need-returns-2
 returns-2 c = low-not-greater _ _ _ _ (omega arith) (omega arith)
 
--- src/neighbours.rt:10:1
 returns-3 : tie.Need-returns-3
 returns-3 c = low-takes _ _ _ _ (omega arith) (omega arith)
 

@@ -1,3 +1,4 @@
+-- `floor_points::neighbours::low_neighbour` meets its contract. The loop keeps what the rest of the search gives; the search then holds the greatest X below. Assumes nothing.
 use Rattle.floor_points.proofs.Searching.{turned, turned-below, ended}
 use Rattle.floor_points.specs.FinalY.{takesLow, lowNeighbour}
 use Rattle.floor_points.specs.Search.{searched}
@@ -9,9 +10,6 @@ use native.Mathlib.Omega.{arith}
 use borrow.Author.Needs.{needs}
 use Rattle.floor_points.proofs.neighbours.low_neighbour.Statement.{statement}
 use Rattle.floor_points.proofs.neighbours.low_neighbour.Tie as tie
-use Rattle.floor_points.proofs.neighbours.low_neighbour.Reads as reads
-use Rattle.floor_points.proofs.neighbours.low_neighbour.Lts as lts
-use Rattle.floor_points.proofs.neighbours.higher.Reads as higher-reads
 
 abbrev Inv-loop : tie.InvT-loop
 Inv-loop x i top held₀ j₀ held j = (j ≤ i) × (held < i) × (searched (takesLow x (getD x i 0)) held j (i - j) ≡ lowNeighbour x i)
@@ -19,35 +17,27 @@ Inv-loop x i top held₀ j₀ held j = (j ≤ i) × (held < i) × (searched (tak
 abbrev μ-loop : tie.MeasureT-loop
 μ-loop x i top held₀ j₀ held j = i - j
 
--- src/neighbours.rt:41:15
 mul-top : tie.Need-mul-top Inv-loop μ-loop
 mul-top c = search needs
 
--- src/neighbours.rt:41:15
 shared-slice-read-top : tie.Need-shared-slice-read-top Inv-loop μ-loop
 shared-slice-read-top c = search needs
 
--- src/neighbours.rt:44:5
 loop-holds : tie.Need-loop-holds Inv-loop μ-loop
 loop-holds c = (omega arith, omega arith, low-begun _ _)
 
--- src/neighbours.rt:45:9
 higher-requires : tie.Need-higher-requires Inv-loop μ-loop
 higher-requires c κs = search needs
 
--- src/neighbours.rt:46:13
 add-j : tie.Need-add-j Inv-loop μ-loop
 add-j c = search needs
 
--- src/neighbours.rt:44:5
 loop-less : tie.Need-loop-less Inv-loop μ-loop
 loop-less c = search needs
 
--- src/neighbours.rt:44:5
 loop-again : tie.Need-loop-again Inv-loop μ-loop
 loop-again c = (omega arith, turned-below (takesLow _ _) _ _ _ _ (c .higher .ensures) (omega arith) (omega arith), turned (takesLow _ _) _ _ _ _ _ (c .higher .ensures) (omega arith) (c .before .before .loop .inv .2))
 
--- src/neighbours.rt:37:1
 returns : tie.Need-returns Inv-loop μ-loop
 returns c = let e = ended (takesLow _ _) _ _ _ _ (omega arith) (c .before .loop .inv .2) in (e, omega arith, λ h. is-low _ _ _ (omega arith) e h)
 
