@@ -28,20 +28,20 @@ module _ (xs ys fs : List ℕ) (m a x : ℕ) where
   curve-flat w e = rw (last-same xs fs a x w, next-same xs fs a x w, le-ltb (nextAfter xs fs a) (length xs) (omega arith))
 
 -- the curve is drawn up to a place, at which a point lies
-pub record Sketch (xs ys fs : List ℕ) (m : ℕ) (before now : List ℕ) (at : ℕ) : Type 0 where
+pub record DrawnUpTo (xs ys fs : List ℕ) (m : ℕ) (before now : List ℕ) (at : ℕ) : Type 0 where
   pub long : length now ≡ length before
   pub here : getD xs (lastAt xs fs at) 0 ≡ at
   pub on : (k : ℕ) → k < at → k < length before → getD now k 0 ≡ curveAt xs ys fs m k
 
-pub sketch-begin : (xs ys fs : List ℕ) (m : ℕ) (before : List ℕ) → Points xs ys fs → Sketch xs ys fs m before before 0
-sketch-begin xs ys fs m before p =
+pub up-to-begin : (xs ys fs : List ℕ) (m : ℕ) (before : List ℕ) → Points xs ys fs → DrawnUpTo xs ys fs m before before 0
+up-to-begin xs ys fs m before p =
     record { long = refl; here = omega (arith, last-le xs fs 0 (omega (arith, p .begins))); on = λ k h. absurd (omega arith) }
 
 module _ (xs ys fs : List ℕ) (m : ℕ) (before now after : List ℕ) (at l r : ℕ) where
   -- a line was drawn from the point at which the drawing stood to the next
-  pub sketch-line : (x0 y0 x1 y1 w : ℕ) → Points xs ys fs → Sketch xs ys fs m before now at → l ≡ lastAt xs fs at → r ≡ nextAfter xs fs at → r < length xs
-      → x0 ≡ getD xs l 0 → y0 ≡ heightAt ys m l → x1 ≡ getD xs r 0 → y1 ≡ heightAt ys m r → Drawn x0 y0 x1 y1 now after → w ≡ x1 → Sketch xs ys fs m before after w
-  sketch-line x0 y0 x1 y1 w p s el er h e0 f0 e1 f1 d ew =
+  pub up-to-line : (x0 y0 x1 y1 w : ℕ) → Points xs ys fs → DrawnUpTo xs ys fs m before now at → l ≡ lastAt xs fs at → r ≡ nextAfter xs fs at → r < length xs
+      → x0 ≡ getD xs l 0 → y0 ≡ heightAt ys m l → x1 ≡ getD xs r 0 → y1 ≡ heightAt ys m r → Drawn x0 y0 x1 y1 now after → w ≡ x1 → DrawnUpTo xs ys fs m before after w
+  up-to-line x0 y0 x1 y1 w p s el er h e0 f0 e1 f1 d ew =
       record { long = d .long ∙ s .long; here = rw ew (arrives (next-is xs fs at nh)); on = λ k i j. on k (omega arith) j (lt-or-le k at) }
     where
       nh : nextAfter xs fs at < length xs
@@ -70,9 +70,9 @@ module _ (xs ys fs : List ℕ) (m : ℕ) (before now after : List ℕ) (at l r :
           q
 
   -- the flat part was drawn, past the last point
-  pub sketch-flat : (y : ℕ) → ((k : ℕ) → getD xs k 0 < 65536) → Sketch xs ys fs m before now at → l ≡ lastAt xs fs at → r ≡ nextAfter xs fs at → r ≡ length xs
+  pub up-to-flat : (y : ℕ) → ((k : ℕ) → getD xs k 0 < 65536) → DrawnUpTo xs ys fs m before now at → l ≡ lastAt xs fs at → r ≡ nextAfter xs fs at → r ≡ length xs
       → y ≡ heightAt ys m l → Flat at y now after → after ≡ places (curveAt xs ys fs m) 0 (length before)
-  sketch-flat y small s el er h f d =
+  up-to-flat y small s el er h f d =
       are-places (curveAt xs ys fs m) (length before) after (d .long ∙ s .long) (λ k j. on k j (lt-or-le k at))
     where
       on : (k : ℕ) → k < length before → (k < at) ⊎ (at ≤ k) → getD after k 0 ≡ curveAt xs ys fs m k
@@ -82,9 +82,9 @@ module _ (xs ys fs : List ℕ) (m : ℕ) (before now after : List ℕ) (at l r :
           d .on k b (omega (arith, s .long)) ∙ rw (f, el) (curve-flat xs ys fs m at k (clear-past xs fs at k small b (sym er ∙ h)) (sym er ∙ h)))
           q
 
-pub sketch-end : (xs ys fs : List ℕ) (m : ℕ) (before now : List ℕ) (at : ℕ) → Sketch xs ys fs m before now at → length before ≤ at
+pub up-to-end : (xs ys fs : List ℕ) (m : ℕ) (before now : List ℕ) (at : ℕ) → DrawnUpTo xs ys fs m before now at → length before ≤ at
     → now ≡ places (curveAt xs ys fs m) 0 (length before)
-sketch-end xs ys fs m before now at s h = are-places (curveAt xs ys fs m) (length before) now (s .long) (λ k j. s .on k (omega arith) j)
+up-to-end xs ys fs m before now at s h = are-places (curveAt xs ys fs m) (length before) now (s .long) (λ k j. s .on k (omega arith) j)
 
 -- ---- lists that fit each other
 module _ (xs : List ℕ) (y f : ℕ) where

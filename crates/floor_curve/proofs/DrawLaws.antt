@@ -1,4 +1,4 @@
--- Laws of drawing: a loop that paints places from the left, and what a line or the flat part is then. Assumes nothing.
+-- Laws of drawing: a loop that draws places from the left, and what a line or the flat part is then. Assumes nothing.
 use Prim.Native.Nat.{ℕ, zero, suc, _+_, _-_, _*_, _≤_, _<_, min, max}
 use native.Mathlib.Nat.{eq-or-lt-of-le, mul-le-mul}
 use native.Mathlib.Omega.{arith}
@@ -34,21 +34,21 @@ pub height-made : (ys : List ℕ) (m j r : ℕ) → r ≡ min (getD ys j 0 * m) 
 unfolding heightAt
 height-made ys m j r e = e
 
--- ---- painting
+-- ---- a loop that draws
 -- the places from `from` up to k hold f, and the others are as before
-pub record Painting (f : ℕ → ℕ) (from : ℕ) (before now : List ℕ) (k : ℕ) : Type 0 where
+pub record DrawnSoFar (f : ℕ → ℕ) (from : ℕ) (before now : List ℕ) (k : ℕ) : Type 0 where
   pub long : length now ≡ length before
   pub since : from ≤ k
   pub on : (i : ℕ) → from ≤ i → i < k → i < length before → getD now i 0 ≡ f i
   pub left : (i : ℕ) → i < from → getD now i 0 ≡ getD before i 0
   pub right : (i : ℕ) → k ≤ i → getD now i 0 ≡ getD before i 0
 
-pub paint-begin : (f : ℕ → ℕ) (from : ℕ) (before : List ℕ) → Painting f from before before from
-paint-begin f from before = record { long = refl; since = omega arith; on = λ i a b c. absurd (omega arith); left = λ i a. refl; right = λ i a. refl }
+pub draw-begin : (f : ℕ → ℕ) (from : ℕ) (before : List ℕ) → DrawnSoFar f from before before from
+draw-begin f from before = record { long = refl; since = omega arith; on = λ i a b c. absurd (omega arith); left = λ i a. refl; right = λ i a. refl }
 
 module _ (f : ℕ → ℕ) (from : ℕ) (before now : List ℕ) where
-  pub paint-turn : (k v : ℕ) → Painting f from before now k → k < length before → v ≡ f k → Painting f from before (set now k v) (k + 1)
-  paint-turn k v w h e =
+  pub draw-turn : (k v : ℕ) → DrawnSoFar f from before now k → k < length before → v ≡ f k → DrawnSoFar f from before (set now k v) (k + 1)
+  draw-turn k v w h e =
       record {
         long = length-set now k v ∙ w .long;
         since = omega (arith, w .since);
@@ -65,7 +65,7 @@ drawn-rendered : (x0 y0 x1 y1 x : ℕ) → x0 ≤ x → x < x1 → pos (lineAt x
 drawn-rendered x0 y0 x1 y1 x h l =
     ap pos (line-height-at x0 y0 x1 y1 x) ∙ sym (line-pos x0 y0 x1 y1 x) ∙ sym (render-is-line x0 x1 x (pos y0) (pos y1) h l)
 
-pub drawn : (x0 y0 x1 y1 e k : ℕ) (before now : List ℕ) → Painting (λ i. lineAt x0 y0 x1 y1 i) x0 before now k → e ≡ min x1 (length before) → k ≤ max x0 e → e ≤ k → Drawn x0 y0 x1 y1 before now
+pub drawn : (x0 y0 x1 y1 e k : ℕ) (before now : List ℕ) → DrawnSoFar (λ i. lineAt x0 y0 x1 y1 i) x0 before now k → e ≡ min x1 (length before) → k ≤ max x0 e → e ≤ k → Drawn x0 y0 x1 y1 before now
 drawn x0 y0 x1 y1 e k before now w q u h =
     record {
       long = w .long;
@@ -75,7 +75,7 @@ drawn x0 y0 x1 y1 e k before now w q u h =
       right = λ i a. ⊎-elim (λ (p : i < x0). w .left i p) (λ (p : x0 ≤ i). w .right i (omega arith)) (lt-or-le i x0);
     }
 
-pub flat : (x y k : ℕ) (before now : List ℕ) → Painting (λ _. y) x before now k → length before ≤ k → Flat x y before now
+pub flat : (x y k : ℕ) (before now : List ℕ) → DrawnSoFar (λ _. y) x before now k → length before ≤ k → Flat x y before now
 flat x y k before now w h = record { long = w .long; on = λ i a b. w .on i a (omega arith) b; left = w .left }
 
 -- ---- the places of a list

@@ -1,5 +1,5 @@
--- Laws of the line rule: how the program computes it, that it stays between its ends, and that heights stand for Y values on it whatever the
--- ground. Assumes nothing.
+-- Laws of the line rule: how the program computes it, that it stays between its ends, and that heights stand for Y values on it, from
+-- whatever number they are counted. Assumes nothing.
 use Prim.Native.Nat.{ℕ, zero, suc, _+_, _-_, _*_, _/_, _≤_, _<_, min}
 use native.Mathlib.Nat.{div-le-of-le-mul, div-zero, zero-div, mul-zero, mul-comm, mul-le-mul, mul-le-mul-left, mul-div-cancel}
 use native.Mathlib.Omega.{arith}

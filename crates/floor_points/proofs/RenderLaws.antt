@@ -12,7 +12,7 @@ use lib.Signed.{ltZ, quotZ}
 use borrow.Author.Tests.{lt-ltb, le-ltb, le-leb, lt-leb}
 use Rattle.floor_points.specs.Line.{offset, line}
 use Rattle.floor_points.specs.Heights.{difference}
-use Rattle.floor_points.specs.RenderLine.{Pen, moved, drawnTo, baseOf, syOf, adyOf, renderLine}
+use Rattle.floor_points.specs.RenderLine.{State, nextState, stateAfter, baseOf, syOf, adyOf, renderLine}
 use Rattle.floor_points.proofs.Integers.{lt-or-le, same-ltb, pos-difference, neg-difference, minus-difference, ltZ-difference}
 use Rattle.floor_points.proofs.LineLaws.{offset-part}
 
@@ -42,7 +42,7 @@ module _ (a w : ℕ) (pw : 0 < w) where
       rest-lt : rest < w
       rest-lt = omega (arith, whole, div-add-mod' a w, mod-lt a pw)
 
--- ---- the pen after n places
+-- ---- the state after n places
 module _ (y0 : ℤ) (a w : ℕ) (pw : 0 < w) where
   add-twice : (k q : ℕ) → y0 +ℤ pos k +ℤ pos q ≡ y0 +ℤ pos (k + q)
   add-twice k q = +ℤ-assoc y0 (pos k) (pos q)
@@ -50,11 +50,11 @@ module _ (y0 : ℤ) (a w : ℕ) (pw : 0 < w) where
   take-twice : (k q : ℕ) → y0 -ℤ pos k +ℤ negℤ (pos q) ≡ y0 -ℤ pos (k + q)
   take-twice k q = +ℤ-assoc y0 (negℤ (pos k)) (negℤ (pos q)) ∙ ap (λ (z : ℤ). y0 +ℤ z) (sym (negℤ-+ℤ (pos k) (pos q)))
 
-  at : ℤ → ℕ → Pen
+  at : ℤ → ℕ → State
   at y e = record { y = y; err = e }
 
-  rises : (n : ℕ) → drawnTo y0 (pos (a / w)) (pos (a / w) +ℤ pos 1) (rest a w pw) w n ≡ at (y0 +ℤ pos (a * n / w)) (a * n % w)
-  unfolding drawnTo moved at
+  rises : (n : ℕ) → stateAfter y0 (pos (a / w)) (pos (a / w) +ℤ pos 1) (rest a w pw) w n ≡ at (y0 +ℤ pos (a * n / w)) (a * n % w)
+  unfolding stateAfter nextState at
   rises zero = rw (mul-zero a, zero-div w, zero-mod w) (ap (λ (z : ℤ). at z 0) (sym (+ℤ-idr y0)))
   rises (suc n) =
       rw (rises n)
@@ -67,8 +67,8 @@ module _ (y0 : ℤ) (a w : ℕ) (pw : 0 < w) where
       rw (le-leb w (a * n % w + rest a w pw) h, o .0, o .1) (ap (λ (z : ℤ). at z (a * n % w + rest a w pw - w)) (add-twice (a * n / w) (a / w + 1))))
       (lt-or-le (a * n % w + rest a w pw) w))
 
-  falls : (n : ℕ) → drawnTo y0 (negℤ (pos (a / w))) (negℤ (pos (a / w)) -ℤ pos 1) (rest a w pw) w n ≡ at (y0 -ℤ pos (a * n / w)) (a * n % w)
-  unfolding drawnTo moved at
+  falls : (n : ℕ) → stateAfter y0 (negℤ (pos (a / w))) (negℤ (pos (a / w)) -ℤ pos 1) (rest a w pw) w n ≡ at (y0 -ℤ pos (a * n / w)) (a * n % w)
+  unfolding stateAfter nextState at
   falls zero = rw (mul-zero a, zero-div w, zero-mod w) (ap (λ (z : ℤ). at z 0) (sym (+ℤ-idr y0)))
   falls (suc n) =
       rw (falls n)
@@ -111,40 +111,40 @@ abs-neg (suc k) = refl
 -- ---- the whole claim
 module _ (x0 x1 x : ℕ) (y0 y1 : ℤ) (h : x0 ≤ x) (l : x < x1) (a : ℕ) where
   -- for any dy
-  pen : ℤ → ℤ
-  pen d = drawnTo y0 (baseOf d (x1 - x0)) (syOf d (x1 - x0)) (adyOf d (x1 - x0)) (x1 - x0) (x - x0) .y
+  plotted : ℤ → ℤ
+  plotted d = stateAfter y0 (baseOf d (x1 - x0)) (syOf d (x1 - x0)) (adyOf d (x1 - x0)) (x1 - x0) (x - x0) .y
 
   sy-rises : syOf (pos a) (x1 - x0) ≡ pos (a / (x1 - x0)) +ℤ pos 1
   unfolding syOf baseOf
   sy-rises = rw (le-ltb a 0 (omega arith))
 
-  pen-rises : pen (pos a) ≡ y0 +ℤ pos (a * (x - x0) / (x1 - x0))
-  unfolding pen baseOf adyOf rest at
-  pen-rises =
-      ap (λ (z : ℤ). drawnTo y0 (pos (a / (x1 - x0))) z (a - a / (x1 - x0) * (x1 - x0)) (x1 - x0) (x - x0) .y) sy-rises
-      ∙ ap (λ (p : Pen). p .y) (rises y0 a (x1 - x0) (omega arith) (x - x0))
+  plotted-rises : plotted (pos a) ≡ y0 +ℤ pos (a * (x - x0) / (x1 - x0))
+  unfolding plotted baseOf adyOf rest at
+  plotted-rises =
+      ap (λ (z : ℤ). stateAfter y0 (pos (a / (x1 - x0))) z (a - a / (x1 - x0) * (x1 - x0)) (x1 - x0) (x - x0) .y) sy-rises
+      ∙ ap (λ (p : State). p .y) (rises y0 a (x1 - x0) (omega arith) (x - x0))
 
   ady-falls : adyOf (negsuc a) (x1 - x0) ≡ suc a - suc a / (x1 - x0) * (x1 - x0)
   unfolding adyOf baseOf
   ady-falls = ap (λ (k : ℕ). suc a - k * (x1 - x0)) (abs-neg (suc a / (x1 - x0)))
 
-  pen-falls : pen (negsuc a) ≡ y0 -ℤ pos (suc a * (x - x0) / (x1 - x0))
-  unfolding pen baseOf syOf rest at
-  pen-falls =
-      ap (λ (k : ℕ). drawnTo y0 (negℤ (pos (suc a / (x1 - x0)))) (negℤ (pos (suc a / (x1 - x0))) -ℤ pos 1) k (x1 - x0) (x - x0) .y) ady-falls
-      ∙ ap (λ (p : Pen). p .y) (falls y0 (suc a) (x1 - x0) (omega arith) (x - x0))
+  plotted-falls : plotted (negsuc a) ≡ y0 -ℤ pos (suc a * (x - x0) / (x1 - x0))
+  unfolding plotted baseOf syOf rest at
+  plotted-falls =
+      ap (λ (k : ℕ). stateAfter y0 (negℤ (pos (suc a / (x1 - x0)))) (negℤ (pos (suc a / (x1 - x0))) -ℤ pos 1) k (x1 - x0) (x - x0) .y) ady-falls
+      ∙ ap (λ (p : State). p .y) (falls y0 (suc a) (x1 - x0) (omega arith) (x - x0))
 
   render-rises : y1 -ℤ y0 ≡ pos a → renderLine x0 y0 x1 y1 x ≡ y0 +ℤ pos (offset x0 x1 a x)
-  unfolding renderLine pen
-  render-rises e = ap pen e ∙ pen-rises ∙ ap (λ (k : ℕ). y0 +ℤ pos k) (offset-part x0 x1 a x l)
+  unfolding renderLine plotted
+  render-rises e = ap plotted e ∙ plotted-rises ∙ ap (λ (k : ℕ). y0 +ℤ pos k) (offset-part x0 x1 a x l)
 
   line-rises : y1 -ℤ y0 ≡ pos a → line x0 y0 x1 y1 x ≡ y0 +ℤ pos (offset x0 x1 a x)
   unfolding line
   line-rises e = rw (sign y0 y1, e, le-ltb a 0 (omega arith))
 
   render-falls : y1 -ℤ y0 ≡ negsuc a → renderLine x0 y0 x1 y1 x ≡ y0 -ℤ pos (offset x0 x1 (suc a) x)
-  unfolding renderLine pen
-  render-falls e = ap pen e ∙ pen-falls ∙ ap (λ (k : ℕ). y0 -ℤ pos k) (offset-part x0 x1 (suc a) x l)
+  unfolding renderLine plotted
+  render-falls e = ap plotted e ∙ plotted-falls ∙ ap (λ (k : ℕ). y0 -ℤ pos k) (offset-part x0 x1 (suc a) x l)
 
   line-falls : y1 -ℤ y0 ≡ negsuc a → line x0 y0 x1 y1 x ≡ y0 -ℤ pos (offset x0 x1 (suc a) x)
   unfolding line

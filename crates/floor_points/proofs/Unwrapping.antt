@@ -1,4 +1,4 @@
--- Laws of the step from a predicted Y value and a value read to the Y value (004, steps 10 to 28) and of clamping, for heights above the ground at
+-- Laws of the step from a predicted Y value and a value read to the Y value (004, steps 10 to 28) and of clamping, for heights counted from
 -- -65,536: one law for each way out of the definition. Assumes nothing.
 use Prim.Native.Nat.{ℕ, zero, suc, _+_, _-_, _*_, _/_, _%_, _≤_, _<_, min}
 use native.Mathlib.Nat.{eq-or-lt-of-le}

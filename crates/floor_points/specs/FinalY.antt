@@ -25,17 +25,16 @@ takesLow xs x j held = ltb (xAt xs j) x && ltb (xAt xs held) (xAt xs j)
 unfoldable pub takesHigh : List ℕ → ℕ → ℕ → ℕ → Bool
 takesHigh xs x j held = ltb x (xAt xs j) && ltb (xAt xs j) (xAt xs held)
 
--- 7, low_neighbor: of the places before i, that of the greatest X below the X of i. Place 0 holds the least X of a floor, and stands where no X is
--- below
+-- 7, low_neighbor: of the places before i, that of the greatest X below the X of i. The search begins at place 0, which holds the least X of a floor
 unfoldable pub lowNeighbour : List ℕ → ℕ → ℕ
 lowNeighbour xs i = searched (takesLow xs (xAt xs i)) 0 0 i
 
--- 8, high_neighbor: of the places before i, that of the least X above the X of i. Place 1 holds the greatest X of a floor, and stands where no X
--- is above
+-- 8, high_neighbor: of the places before i, that of the least X above the X of i. The search begins at place 1, which holds the greatest X of a floor
 unfoldable pub highNeighbour : List ℕ → ℕ → ℕ
 highNeighbour xs i = searched (takesHigh xs (xAt xs i)) 1 0 i
 
--- the neighbours in 01's words: an earlier place, with an X below and none greater among such; with an X above and none less
+-- the neighbours in 01's words: an earlier place, with an X below and none greater among such; with an X above and none less. It is shown where the first X
+-- is the least and the second the greatest
 pub record IsLow (xs : List ℕ) (i r : ℕ) : Type 0 where
   pub earlier : r < i
   pub below : xAt xs r < xAt xs i

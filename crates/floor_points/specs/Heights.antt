@@ -1,5 +1,4 @@
--- How the program holds Y values, which may be negative: as heights, numbers counted from a ground that lies z below 0, so that height h is the
--- Y value h - z. Assumes nothing: these are definitions.
+-- How the program holds Y values, which may be negative: as heights, numbers counted from -z, so that height h is the Y value h - z. Assumes nothing: these are definitions.
 use Prim.Native.Nat.{ℕ, _+_, _-_, _≤_, _<_}
 use mathlib.Core.Bool.{cond}
 use mathlib.Core.List.{List, map}
@@ -14,11 +13,11 @@ use Rattle.floor_points.specs.FinalY.{Points, clamped}
 unfoldable pub difference : ℕ → ℕ → ℤ
 difference a b = subℕ a b
 
--- the height at x on the line from (x0, h0) to (x1, h1), whatever the ground
+-- the height at x on the line from (x0, h0) to (x1, h1), from whatever number heights are counted
 unfoldable pub lineHeight : ℕ → ℕ → ℕ → ℕ → ℕ → ℕ
 lineHeight x0 h0 x1 h1 x = cond (ltb h1 h0) (h0 - offset x0 x1 (h0 - h1) x) (h0 + offset x0 x1 (h1 - h0) x)
 
--- the Y value of a height above the ground at -65,536. Every Y value on the way lies above it, since a value read is below 65,536
+-- the Y value of a height counted from -65,536. Every Y value on the way is greater, since a value read is below 65,536
 abbrev pub yOf : ℕ → ℤ
 yOf h = difference h 65536
 

@@ -1,4 +1,4 @@
-// Y values as heights above -65,536, since they may be negative before they are clamped (specs/Heights.antt).
+// Y values as heights counted from -65,536, since they may be negative before they are clamped (specs/Heights.antt).
 ghost use mathlib.Core.Path.{_≡_};
 ghost use mathlib.Core.List.{map};
 ghost use Prim.Native.Nat.{_+_, _-_, _≤_, _<_};

@@ -20,7 +20,7 @@ fn offset(x0: u32, x1: u32, ady: u32, x: u32) -> u32
     (ady as u64 * (x - x0) as u64 / (x1 - x0) as u64) as u32
 }
 
-// The height at x on the line from (x0, h0) to (x1, h1): the line rule for Y values that are counted from any ground.
+// The height at x on the line from (x0, h0) to (x1, h1): the line rule for Y values counted from any number.
 pub fn line_height(x0: u32, h0: u32, x1: u32, h1: u32, x: u32) -> u32
     ensures { λ r. ⌜ r ≡ lineHeight x0 h0 x1 h1 x ⌝ }
 {

@@ -1,21 +1,21 @@
--- `floor_curve::draw_points` meets its contract. The loop keeps a sketch: the curve up to a place at which a point lies (`Sketch`). Each turn moves right, since the next point lies right of that place. Assumes nothing.
+-- `floor_curve::draw_points` meets its contract. The loop keeps what is drawn: the curve up to a place at which a point lies (`DrawnUpTo`). Each turn moves right, since the next point lies right of that place. Assumes nothing.
 use Prim.Native.Nat.{ℕ, _+_, _-_, _≤_, _<_}
 use native.Mathlib.Omega.{arith}
 use mathlib.Core.Path.{_≡_, refl, sym, ap, _∙_}
 use lib.ListN.{length, getD}
-use Rattle.floor_curve.proofs.CurveLaws.{Sketch, sketch-begin, sketch-line, sketch-flat, sketch-end, next-right}
+use Rattle.floor_curve.proofs.CurveLaws.{DrawnUpTo, up-to-begin, up-to-line, up-to-flat, up-to-end, next-right}
 use borrow.Author.Needs.{needs}
 use Rattle.floor_curve.proofs.draw_points.Statement.{statement}
 use Rattle.floor_curve.proofs.draw_points.Tie as tie
 
 abbrev Inv-loop : tie.InvT-loop
-Inv-loop x y flags multiplier out₀ at₀ out at = Sketch x y flags multiplier out₀ out at
+Inv-loop x y flags multiplier out₀ at₀ out at = DrawnUpTo x y flags multiplier out₀ out at
 
 abbrev μ-loop : tie.MeasureT-loop
 μ-loop x y flags multiplier out₀ at₀ out at = length out₀ - at
 
 loop-holds : tie.Need-loop-holds Inv-loop μ-loop
-loop-holds c = sketch-begin _ _ _ _ _ (c .before .before .before .before .pre)
+loop-holds c = up-to-begin _ _ _ _ _ (c .before .before .before .before .pre)
 
 last-at-requires : tie.Need-last-at-requires Inv-loop μ-loop
 last-at-requires c κs = search needs
@@ -33,7 +33,7 @@ same-length : tie.Need-same-length Inv-loop μ-loop
 same-length c = omega arith
 
 returns : tie.Need-returns Inv-loop μ-loop
-returns c = sketch-flat (c .before .before .before .before .before .before .before .before .before .before .before .before .before .before .args .x .now) (c .before .before .before .before .before .before .before .before .before .before .before .before .before .before .args .y .now) (c .before .before .before .before .before .before .before .before .before .before .before .before .before .before .args .flags .now) (c .before .before .before .before .before .before .before .before .before .before .before .before .before .before .args .multiplier) _ _ _ _ _ _ _ (λ k. omega (arith, c .before .before .before .before .before .before .before .before .before .before .before .before .before .shared-slice-known .given k)) (c .before .before .before .before .before .before .before .before .before .loop .inv) (c .before .before .before .before .before .before .before .last-at .ensures .0) (c .before .before .before .before .before .before .next-after .ensures .0) (c .before .before .before .before .before .if1 .taken) (c .before .before .before .height-at .ensures) (c .before .before .draw-flat .ensures)
+returns c = up-to-flat (c .before .before .before .before .before .before .before .before .before .before .before .before .before .before .args .x .now) (c .before .before .before .before .before .before .before .before .before .before .before .before .before .before .args .y .now) (c .before .before .before .before .before .before .before .before .before .before .before .before .before .before .args .flags .now) (c .before .before .before .before .before .before .before .before .before .before .before .before .before .before .args .multiplier) _ _ _ _ _ _ _ (λ k. omega (arith, c .before .before .before .before .before .before .before .before .before .before .before .before .before .shared-slice-known .given k)) (c .before .before .before .before .before .before .before .before .before .loop .inv) (c .before .before .before .before .before .before .before .last-at .ensures .0) (c .before .before .before .before .before .before .next-after .ensures .0) (c .before .before .before .before .before .if1 .taken) (c .before .before .before .height-at .ensures) (c .before .before .draw-flat .ensures)
 
 mul-draw-line : tie.Need-mul-draw-line Inv-loop μ-loop
 mul-draw-line c = search needs
@@ -69,13 +69,13 @@ loop-less : tie.Need-loop-less Inv-loop μ-loop
 loop-less c = let h = next-right (c .before .before .before .before .before .before .before .before .before .before .before .before .before .before .before .before .before .before .before .args .x .now) (c .before .before .before .before .before .before .before .before .before .before .before .before .before .before .before .before .before .before .before .args .flags .now) (c .before .before .before .before .before .before .before .before .before .before .before .before .before .before .loop .at) (c .before .before .before .before .before .before .before .before .before .before .before .next-after .result) (c .wide .result) (c .before .before .before .before .before .before .before .before .before .before .before .next-after .ensures .0) (omega arith) (c .wide .ensures) in omega arith
 
 loop-again : tie.Need-loop-again Inv-loop μ-loop
-loop-again c = sketch-line (c .before .before .before .before .before .before .before .before .before .before .before .before .before .before .before .before .before .before .before .args .x .now) (c .before .before .before .before .before .before .before .before .before .before .before .before .before .before .before .before .before .before .before .args .y .now) (c .before .before .before .before .before .before .before .before .before .before .before .before .before .before .before .before .before .before .before .args .flags .now) (c .before .before .before .before .before .before .before .before .before .before .before .before .before .before .before .before .before .before .before .args .multiplier) _ _ _ _ _ _ _ _ _ _ _ (c .before .before .before .before .before .before .before .before .before .before .before .before .before .before .before .before .before .before .before .pre) (c .before .before .before .before .before .before .before .before .before .before .before .before .before .before .loop .inv) (c .before .before .before .before .before .before .before .before .before .before .before .before .last-at .ensures .0) (c .before .before .before .before .before .before .before .before .before .before .before .next-after .ensures .0) (omega arith) refl (c .before .before .before .before .before .before .before .height-at2 .ensures) refl (c .before .before .before .before .before .height-at3 .ensures) (c .before .before .before .before .draw-line .ensures) (c .wide .ensures)
+loop-again c = up-to-line (c .before .before .before .before .before .before .before .before .before .before .before .before .before .before .before .before .before .before .before .args .x .now) (c .before .before .before .before .before .before .before .before .before .before .before .before .before .before .before .before .before .before .before .args .y .now) (c .before .before .before .before .before .before .before .before .before .before .before .before .before .before .before .before .before .before .before .args .flags .now) (c .before .before .before .before .before .before .before .before .before .before .before .before .before .before .before .before .before .before .before .args .multiplier) _ _ _ _ _ _ _ _ _ _ _ (c .before .before .before .before .before .before .before .before .before .before .before .before .before .before .before .before .before .before .before .pre) (c .before .before .before .before .before .before .before .before .before .before .before .before .before .before .loop .inv) (c .before .before .before .before .before .before .before .before .before .before .before .before .last-at .ensures .0) (c .before .before .before .before .before .before .before .before .before .before .before .next-after .ensures .0) (omega arith) refl (c .before .before .before .before .before .before .before .height-at2 .ensures) refl (c .before .before .before .before .before .height-at3 .ensures) (c .before .before .before .before .draw-line .ensures) (c .wide .ensures)
 
 same-length-2 : tie.Need-same-length-2 Inv-loop μ-loop
 same-length-2 c = omega arith
 
 returns-2 : tie.Need-returns-2 Inv-loop μ-loop
-returns-2 c = sketch-end _ _ _ _ _ _ _ (c .before .loop .inv) (omega arith)
+returns-2 c = up-to-end _ _ _ _ _ _ _ (c .before .loop .inv) (omega arith)
 
 pub draw-points-spec : {M : Type 1} → statement M
 draw-points-spec =

@@ -1,16 +1,16 @@
--- `floor_curve::lines::draw_line` meets its contract. The loop paints the places from the left (`Painting`), up to the lesser of x1 and the length. Assumes nothing.
+-- `floor_curve::lines::draw_line` meets its contract. The loop draws the places from the left (`DrawnSoFar`), up to the lesser of x1 and the length. Assumes nothing.
 use Prim.Native.Nat.{ℕ, _+_, _-_, _≤_, _<_, max}
 use native.Mathlib.Omega.{arith}
 use mathlib.Core.Path.{_≡_, refl, sym, ap, _∙_}
 use lib.ListN.{length, getD}
 use Rattle.floor_curve.specs.Curve.{lineAt}
-use Rattle.floor_curve.proofs.DrawLaws.{Painting, paint-begin, paint-turn, drawn}
+use Rattle.floor_curve.proofs.DrawLaws.{DrawnSoFar, draw-begin, draw-turn, drawn}
 use borrow.Author.Needs.{needs}
 use Rattle.floor_curve.proofs.lines.draw_line.Statement.{statement}
 use Rattle.floor_curve.proofs.lines.draw_line.Tie as tie
 
 abbrev Inv-loop : tie.InvT-loop
-Inv-loop out₀ x0 y0 x1 y1 end x₀ out x = Painting (λ i. lineAt x0 y0 x1 y1 i) x0 out₀ out x × (x ≤ max x0 end)
+Inv-loop out₀ x0 y0 x1 y1 end x₀ out x = DrawnSoFar (λ i. lineAt x0 y0 x1 y1 i) x0 out₀ out x × (x ≤ max x0 end)
 
 abbrev μ-loop : tie.MeasureT-loop
 μ-loop out₀ x0 y0 x1 y1 end x₀ out x = end - x
@@ -19,7 +19,7 @@ lesser-requires : tie.Need-lesser-requires Inv-loop μ-loop
 lesser-requires c κs = search needs
 
 loop-holds : tie.Need-loop-holds Inv-loop μ-loop
-loop-holds c = (paint-begin _ _ _, omega arith)
+loop-holds c = (draw-begin _ _ _, omega arith)
 
 line-at-requires : tie.Need-line-at-requires Inv-loop μ-loop
 line-at-requires c κs = omega arith
@@ -34,7 +34,7 @@ loop-less : tie.Need-loop-less Inv-loop μ-loop
 loop-less c = omega arith
 
 loop-again : tie.Need-loop-again Inv-loop μ-loop
-loop-again c = (paint-turn _ _ _ _ _ _ (c .before .before .loop .inv .0) (omega arith) (c .line-at .ensures), omega arith)
+loop-again c = (draw-turn _ _ _ _ _ _ (c .before .before .loop .inv .0) (omega arith) (c .line-at .ensures), omega arith)
 
 same-length : tie.Need-same-length Inv-loop μ-loop
 same-length c = omega arith
