@@ -1,0 +1,24 @@
+-- `floor_curve::points::x_or` meets its contract. One return for a place in the list, one for a place past it. Assumes nothing.
+use native.Mathlib.Omega.{arith}
+use Rattle.floor_curve.proofs.PointLaws.{x-within, x-past}
+use borrow.Author.Needs.{needs}
+use Rattle.floor_curve.proofs.points.x_or.Statement.{statement}
+use Rattle.floor_curve.proofs.points.x_or.Tie as tie
+
+mul-wide : tie.Need-mul-wide
+mul-wide c = search needs
+
+shared-slice-read-wide : tie.Need-shared-slice-read-wide
+shared-slice-read-wide c = search needs
+
+wide-requires : tie.Need-wide-requires
+wide-requires c κs = search needs
+
+returns : tie.Need-returns
+returns c = x-within (c .before .before .before .before .args .x .now) (c .before .before .before .before .args .j) _ (omega arith) (c .wide .ensures)
+
+returns-2 : tie.Need-returns-2
+returns-2 c = x-past (c .before .before .args .x .now) (c .before .before .args .j) (omega arith)
+
+pub x-or-spec : {M : Type 1} → statement M
+x-or-spec = tie.close (tie.spec mul-wide shared-slice-read-wide wide-requires returns returns-2)

@@ -1,0 +1,68 @@
+// Floor 1: the curve that joins the flagged points (004, "curve computation", step 2; 01, "Audio order" 3).
+pub mod lines;
+mod points;
+
+use lines::draw_flat;
+use lines::draw_line;
+use points::height_at;
+use points::last_at;
+use points::next_after;
+use points::wide;
+ghost use mathlib.Core.Path.{_≡_};
+ghost use lib.ListN.{length, replicate};
+ghost use Rattle.floor_curve.specs.Curve as drawing;
+ghost use Rattle.floor_curve.specs.Curve.{left, places, curveAt, Bytes};
+ghost use Rattle.floor_curve.specs.Drawing.{Points};
+
+// Line by line, from each flagged point to the next, as far as `out` has places; past the last point flat.
+fn draw_points(x: &[u16], y: &[u8], flags: &[u8], multiplier: u8, out: &mut [u8])
+    requires { ⌜ Points (now x) (now y) (now flags) ⌝ }
+    ensures { λ _. ⌜ now (out .exit) ≡ places (curveAt (now (x .entry)) (now (y .entry)) (now (flags .entry)) multiplier) 0 (length (now (out .entry))) ⌝ }
+{
+    let mut at: usize = 0;
+    while at < out.len() {
+        let l = last_at(x, flags, at);
+        let r = next_after(x, flags, at);
+        if r == x.len() {
+            draw_flat(out, at, height_at(y, multiplier, l));
+            return;
+        }
+        draw_line(
+            out,
+            x[l],
+            height_at(y, multiplier, l),
+            x[r],
+            height_at(y, multiplier, r),
+        );
+        at = wide(x[r]);
+    }
+}
+
+// Whether there are as many X, Y and flags, at least one, and the first X is 0.
+fn fitting(x: &[u16], y: usize, flags: usize) -> bool
+    ensures { λ r. ⌜ r ≡ drawing.fitting (now (x .entry)) y flags ⌝ }
+{
+    if x.len() == 0 {
+        return false;
+    }
+    if x[0] != 0 {
+        return false;
+    }
+    if y != x.len() {
+        return false;
+    }
+    flags == x.len()
+}
+
+// The curve's first `out.len()` places. True where there are as many X, Y and flags, at least one, and the first X is 0. Otherwise false, and `out` is all
+// zero.
+pub fn curve(x: &[u16], y: &[u8], flags: &[u8], multiplier: u8, out: &mut [u8]) -> bool
+    ensures { λ r. ⌜ (left r (now (out .exit)) ≡ drawing.curve (now (x .entry)) (now (y .entry)) (now (flags .entry)) multiplier (length (now (out .entry)))) × Bytes (curveAt (now (x .entry)) (now (y .entry)) (now (flags .entry)) multiplier) ⌝ }
+{
+    if fitting(x, y.len(), flags.len()) {
+        draw_points(x, y, flags, multiplier, out);
+        return true;
+    }
+    draw_flat(out, 0, 0);
+    false
+}

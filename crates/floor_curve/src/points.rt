@@ -1,0 +1,100 @@
+// The flagged points around a place: the last at or left of it, and the next right of it.
+ghost use mathlib.Core.Path.{_≡_};
+ghost use mathlib.Core.Bool.{cond};
+ghost use Prim.Native.Nat.{_*_, _≤_, _<_, min};
+ghost use lib.ListN.{length, getD};
+ghost use Rattle.floor_curve.specs.Curve.{xOr, takesLeft, takesRight, lastAt, nextAfter, IsLast, IsNext, heightAt};
+
+pub fn wide(x: u16) -> usize
+    ensures { λ r. ⌜ r ≡ x ⌝ }
+{
+    x as usize
+}
+
+// The X of a place; 65,536 past the list.
+fn x_or(x: &[u16], j: usize) -> usize
+    ensures { λ r. ⌜ r ≡ xOr (now (x .entry)) j ⌝ }
+{
+    if j < x.len() {
+        return wide(x[j]);
+    }
+    65536
+}
+
+// Place j, where it is flagged, at or left of `at`, and right of the place held; else the place held.
+fn later(x: &[u16], flags: &[u8], at: usize, j: usize, held: usize) -> usize
+    requires { ⌜ (j < length (now x)) × (held < length (now x)) × (j < length (now flags)) ⌝ }
+    ensures { λ r. ⌜ r ≡ cond (takesLeft (now (x .entry)) (now (flags .entry)) at j held) j held ⌝ }
+{
+    if flags[j] == 0 {
+        return held;
+    }
+    if at < wide(x[j]) {
+        return held;
+    }
+    if x[held] >= x[j] {
+        return held;
+    }
+    j
+}
+
+// Place j, where it is flagged, right of `at`, and left of the place held; else the place held.
+fn earlier(x: &[u16], flags: &[u8], at: usize, j: usize, held: usize) -> usize
+    requires { ⌜ (j < length (now x)) × (j < length (now flags)) ⌝ }
+    ensures { λ r. ⌜ r ≡ cond (takesRight (now (x .entry)) (now (flags .entry)) at j held) j held ⌝ }
+{
+    if flags[j] == 0 {
+        return held;
+    }
+    if wide(x[j]) <= at {
+        return held;
+    }
+    if x_or(x, held) <= wide(x[j]) {
+        return held;
+    }
+    j
+}
+
+pub fn last_at(x: &[u16], flags: &[u8], at: usize) -> usize
+    requires { ⌜ (0 < length (now x)) × (length (now flags) ≡ length (now x)) ⌝ }
+    ensures { λ r. ⌜ (r ≡ lastAt (now (x .entry)) (now (flags .entry)) at) × (r < length (now (x .entry))) × (getD (now (x .entry)) 0 0 ≤ at → IsLast (now (x .entry)) (now (flags .entry)) at r) ⌝ }
+{
+    let mut held: usize = 0;
+    let mut j: usize = 0;
+    while j < x.len() {
+        held = later(x, flags, at, j, held);
+        j = j + 1;
+    }
+    held
+}
+
+pub fn next_after(x: &[u16], flags: &[u8], at: usize) -> usize
+    requires { ⌜ length (now flags) ≡ length (now x) ⌝ }
+    ensures { λ r. ⌜ (r ≡ nextAfter (now (x .entry)) (now (flags .entry)) at) × (r ≤ length (now (x .entry))) × IsNext (now (x .entry)) (now (flags .entry)) at r ⌝ }
+{
+    let mut held = x.len();
+    let mut j: usize = 0;
+    while j < x.len() {
+        held = earlier(x, flags, at, j, held);
+        j = j + 1;
+    }
+    held
+}
+
+// Y times the multiplier, at most 255.
+fn times(y: u8, multiplier: u8) -> u8
+    ensures { λ r. ⌜ r ≡ min (y * multiplier) 255 ⌝ }
+{
+    let product = y as u32 * multiplier as u32;
+    if product < 255 {
+        return product as u8;
+    }
+    255
+}
+
+pub fn height_at(y: &[u8], multiplier: u8, j: usize) -> u8
+    requires { ⌜ j < length (now y) ⌝ }
+    ensures { λ r. ⌜ r ≡ heightAt (now (y .entry)) multiplier j ⌝ }
+{
+    times(y[j], multiplier)
+}

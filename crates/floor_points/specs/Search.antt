@@ -1,0 +1,8 @@
+-- A search along the places of a list. Assumes nothing: these are definitions.
+use Prim.Native.Nat.{ℕ, zero, suc}
+use mathlib.Core.Bool.{Bool, cond}
+
+-- the place that is held after the n places from j on, where a place k takes the place of the one held, h, when `takes k h`
+unfoldable pub searched : (ℕ → ℕ → Bool) → ℕ → ℕ → ℕ → ℕ
+searched takes held j zero = held
+searched takes held j (suc n) = searched takes (cond (takes j held) j held) (suc j) n
