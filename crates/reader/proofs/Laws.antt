@@ -1,4 +1,7 @@
 -- The front door's answers, as the code asks them; an accepted identity is sound and a refusal's is not. Assumes nothing.
+use Rattle.codespace.specs.Book as B
+use Rattle.codespace.specs.Book.{assigned, written}
+use Rattle.codespace.specs.declared.book.Assigned.{Assigned}
 use Prim.Native.Nat.{ℕ, _≤_}
 use native.Mathlib.Omega.{arith}
 use borrow.Author.Needs.{needs}
@@ -51,3 +54,8 @@ pub sound-standard : {most : ℕ} (i : Identity) (b : Bool) → most ≡ 8 → (
 sound-standard i b e w = rw e at w
 
 pub ruleset door-laws = (needs, answer-accepted, answer-refused, sound-standard)
+
+-- the codewords' call: its number and its list are both by the definition's answer
+pub codewords-answer : (ls : List ℕ) (places : ℕ) (out : List ℕ) (r : Assigned) (n : ℕ) → r ≡ assigned ls places → out ≡ written r ls places → n ≡ B.refusal r
+    → (n ≡ B.refusal (assigned ls places)) × (out ≡ written (assigned ls places) ls places)
+codewords-answer ls places out r n p q e = (e ∙ ap B.refusal p, q ∙ ap (λ (a : Assigned). written a ls places) p)

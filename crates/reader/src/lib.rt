@@ -1,5 +1,8 @@
 // THE FRONT DOOR: the public calls, exported for C and Rust. Each is a thin function over the crates below; its contract has no
 // `requires` and settles the whole answer for every input. include/torchvalley.h declares them for C.
+pub mod codewords;
+pub mod floor;
+
 use bits::Refusal;
 use identification::Identified;
 use identification::Identity;

@@ -1,0 +1,28 @@
+use borrow.Author.Needs.{needs}
+use Rattle.reader.proofs.Laws.{codewords-answer}
+use Rattle.reader.proofs.codewords.torchvalley_codewords.Statement.{statement}
+use Rattle.reader.proofs.codewords.torchvalley_codewords.Tie as tie
+use Rattle.reader.proofs.codewords.torchvalley_codewords.Reads as reads
+use Rattle.reader.proofs.codewords.torchvalley_codewords.Lts as lts
+use Rattle.codespace.proofs.book.assign_codewords.Reads as assign-codewords-reads
+use Rattle.reader.proofs.codewords.number_of.Reads as number-of-reads
+
+-- src/codewords.rt:14:15
+assign-codewords-requires : tie.Need-assign-codewords-requires
+assign-codewords-requires c κs = search needs
+
+-- src/codewords.rt:14:5
+number-of-requires : tie.Need-number-of-requires
+number-of-requires c κs = search needs
+
+-- src/codewords.rt:9:1
+same-length : tie.Need-same-length
+same-length c = search needs
+
+-- src/codewords.rt:9:1
+returns : tie.Need-returns
+returns c = codewords-answer _ _ _ _ _ (c .before .before .before .assign-codewords .ensures .0 .0) (c .before .before .before .assign-codewords .ensures .0 .1) (c .number-of .ensures)
+
+pub torchvalley-codewords-spec : {M : Type 1} → statement M
+torchvalley-codewords-spec =
+    tie.close (tie.spec assign-codewords-requires number-of-requires same-length returns)
