@@ -6,3 +6,5 @@ pub mod Least
 pub mod Lent
 pub mod Tabulate
 pub mod Tables
+pub mod Stands
+pub mod Accepted
