@@ -4,7 +4,9 @@ ghost use mathlib.Core.Path.{_≡_};
 ghost use mathlib.Core.Bool.{true};
 ghost use mathlib.Core.Logic.{_↔_};
 ghost use lib.ListN.{getD};
-ghost use Rattle.modes.specs.Stand.{ModesStand, validNumbers};
+ghost use Rattle.modes.specs.Stand.{ModesStand};
+ghost use Rattle.modes.specs.Decode.{modeOf};
+ghost use Rattle.modes.specs.Valid.{ValidMode};
 
 // Whether the two numbers are those of a mode that meets every rule.
 fn is_mode(blockflag: u8, mapping: u8, mappings: u32) -> bool
@@ -31,7 +33,7 @@ pub fn are_modes(modes: &[u8], count: usize, mappings: u32) -> bool
         }
         i = i + 1;
     }
-    reading::buffers::zeros_u8(modes, 2 * count)
+    reading::zeros::zeros_u8(modes, 2 * count)
 }
 
 // The block flag of a mode: 0 for a short block, 1 for a long one.
