@@ -8,3 +8,4 @@ pub mod Tabulate
 pub mod Tables
 pub mod Stands
 pub mod Accepted
+pub mod PairRows

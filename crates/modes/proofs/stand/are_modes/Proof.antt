@@ -1,5 +1,7 @@
+use Rattle.reading.proofs.PairRows.{Finding}
+use Rattle.modes.specs.Valid.{ValidMode}
 use Prim.Native.Nat.{_-_, _≤_}
-use Rattle.modes.proofs.StandLaws.{Finding, stand-laws}
+use Rattle.modes.proofs.StandLaws.{mode-pairs, stand-laws}
 use borrow.Author.Needs.{needs}
 use Rattle.modes.proofs.stand.are_modes.Statement.{statement}
 use Rattle.modes.proofs.stand.are_modes.Tie as tie
@@ -9,7 +11,7 @@ use Rattle.modes.proofs.stand.is_mode.Reads as is-mode-reads
 use Rattle.reading.proofs.zeros.zeros_u8.Reads as zeros-u8-reads
 
 abbrev Inv-loop : tie.InvT-loop
-Inv-loop modes count mappings i₀ i = Finding mappings count modes i
+Inv-loop modes count mappings i₀ i = (count ≤ 64) × Finding (ValidMode mappings) mode-pairs count modes i
 
 abbrev μ-loop : tie.MeasureT-loop
 μ-loop modes count mappings i₀ i = count - i
