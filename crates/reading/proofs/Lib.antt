@@ -9,3 +9,4 @@ pub mod Tables
 pub mod Stands
 pub mod Accepted
 pub mod PairRows
+pub mod Runs

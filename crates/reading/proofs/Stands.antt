@@ -79,6 +79,12 @@ module _ {A : Type 0} (row : A → List ℕ) (Valid : A → Type 0) where
       none [] n w = w ∙ pad-nil (length cells)
       none (a ∷ l) n w = absurd (omega arith)
 
+  -- a part of a buffer that is given by its items and its length
+  pub stands-pad : (n N : ℕ) (l : List A) (cells : List ℕ) → cells ≡ pad N (rows row l) → length l ≡ n → Each Valid l → length (rows row l) ≤ N → Stands row Valid n cells
+  stands-pad n N l cells e k v f =
+      let h : length cells ≡ N = ap length e ∙ length-pad N (rows row l) in
+      record { items = l; number = k; valid = v; fits = omega arith; written = rw h e }
+
   module _ (w : ℕ) (wide : (a : A) → length (row a) ≡ w) where
     pub rows-length : (l : List A) → length (rows row l) ≡ w * length l
     unfolding rows
