@@ -6,3 +6,4 @@ pub mod Steps
 pub mod Cuts
 pub mod Ilogs
 pub mod Signeds
+pub mod Written

@@ -1,1 +1,9 @@
-
+pub mod Fillings
+pub mod CountLaws
+pub mod CouplingLaws
+pub mod SubmapLaws
+pub mod RowLaws
+pub mod MappingLaws
+pub mod Laws
+pub mod StandLaws
+pub mod Places

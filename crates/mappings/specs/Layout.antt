@@ -4,12 +4,17 @@
 use Prim.Native.Nat.{ℕ, suc, _/_, _%_}
 use mathlib.Core.List.{List, [], _∷_, _++_, map}
 use lib.ListN.{length}
+use lib.Seq.{sets}
 use Rattle.reading.specs.Pad.{pad}
 use Rattle.reading.specs.Lists.{rows}
 use Rattle.mappings.specs.Content.{Coupling, Submap, Mapping}
 
 unfoldable pub couplingRow : Coupling → List ℕ
 couplingRow c = c .magnitude ∷ c .angle ∷ []
+
+-- a channel's submap, plus one
+unfoldable pub multiplexRow : ℕ → List ℕ
+multiplexRow v = suc v ∷ []
 
 unfoldable pub submapRow : Submap → List ℕ
 submapRow m = m .floor ∷ m .residue ∷ []
@@ -20,3 +25,7 @@ unfoldable pub mappingRow : Mapping → List ℕ
 mappingRow m =
     (length (m .couplings) % 256 ∷ length (m .couplings) / 256 ∷ length (m .submaps) ∷ 0 ∷ [])
     ++ (pad 512 (rows couplingRow (m .couplings)) ++ (pad 256 (map suc (m .multiplex)) ++ pad 32 (rows submapRow (m .submaps))))
+
+-- where the parts of a mapping go in a row whose counts stand already
+unfoldable pub partsInto : List ℕ → Mapping → List ℕ
+partsInto row m = sets (sets (sets row 4 (rows couplingRow (m .couplings))) 516 (rows multiplexRow (m .multiplex))) 772 (rows submapRow (m .submaps))

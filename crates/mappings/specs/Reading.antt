@@ -8,12 +8,7 @@ use Rattle.reading.specs.Reader.{Reader, judged, mapped, many}
 use Rattle.bits.specs.Field.{field}
 use Rattle.bits.specs.Ilog.{ilog}
 use Rattle.mappings.specs.Content.{Coupling, Submap, Mapping}
-
--- what a mapping is judged against: the identity's channels, and how many floors and residues are set up
-pub record Known : Type 0 where
-  pub channels : ℕ
-  pub floors : ℕ
-  pub residues : ℕ
+use Rattle.mappings.specs.declared.Known.{Known}
 
 -- the number of submaps: one, or 4 bits plus one behind a set flag
 unfoldable pub submapCount : Reader ℕ
@@ -34,9 +29,13 @@ coupling channels s k =
     then (judged (λ v. not (eqb v (magnitude .0))) 11 (channel channels) s (magnitude .1)) (λ angle.
     ok (record { magnitude = magnitude .0; angle = angle .0 }, angle .1)))
 
--- each channel's submap, where there is more than one; 11 where there is no such submap
+-- a channel's submap; 11 where there is no such submap
+unfoldable pub multiplex : ℕ → Reader ℕ
+multiplex submaps = judged (λ v. ltb v submaps) 11 (field 4)
+
+-- each channel's submap, where there is more than one
 unfoldable pub multiplexes : ℕ → ℕ → Reader (List ℕ)
-multiplexes channels submaps s k = cond (leb submaps 1) (ok ([], k)) (many (judged (λ v. ltb v submaps) 11 (field 4)) channels s k)
+multiplexes channels submaps s k = cond (leb submaps 1) (ok ([], k)) (many (multiplex submaps) channels s k)
 
 -- a submap: 8 bits that are discarded, then its floor and its residue; 11 where one is not set up
 unfoldable pub submap : Known → Reader Submap
@@ -46,14 +45,19 @@ submap known s k =
     then (judged (λ v. ltb v (known .residues)) 11 (field 8) s (floor .1)) (λ residue.
     ok (record { floor = floor .0; residue = residue .0 }, residue .1))))
 
--- a mapping: type (9), submaps and couplings, the reserved field (9), the multiplex, the submaps
+-- what follows a mapping's counts: the coupling steps, the reserved field (9), the multiplex, the submaps
+unfoldable pub parts : Known → ℕ → ℕ → Reader Mapping
+parts known submaps steps s k =
+    then (many (coupling (known .channels)) steps s k) (λ couplings.
+    then (judged (λ v. eqb v 0) 9 (field 2) s (couplings .1)) (λ reserved.
+    then (multiplexes (known .channels) submaps s (reserved .1)) (λ multiplex.
+    then (many (submap known) submaps s (multiplex .1)) (λ list.
+    ok (record { couplings = couplings .0; multiplex = multiplex .0; submaps = list .0 }, list .1)))))
+
+-- a mapping: type (9), the number of submaps and that of coupling steps, then its parts. `Known` is what it is judged against
 unfoldable pub mapping : Known → Reader Mapping
 mapping known s k =
     then (judged (λ v. eqb v 0) 9 (field 16) s k) (λ type.
     then (submapCount s (type .1)) (λ submaps.
     then (couplingCount s (submaps .1)) (λ steps.
-    then (many (coupling (known .channels)) (steps .0) s (steps .1)) (λ couplings.
-    then (judged (λ v. eqb v 0) 9 (field 2) s (couplings .1)) (λ reserved.
-    then (multiplexes (known .channels) (submaps .0) s (reserved .1)) (λ multiplex.
-    then (many (submap known) (submaps .0) s (multiplex .1)) (λ list.
-    ok (record { couplings = couplings .0; multiplex = multiplex .0; submaps = list .0 }, list .1))))))))
+    parts known (submaps .0) (steps .0) s (steps .1))))

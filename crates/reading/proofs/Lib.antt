@@ -6,3 +6,7 @@ pub mod Least
 pub mod Lent
 pub mod Tabulate
 pub mod Tables
+pub mod Stands
+pub mod Accepted
+pub mod PairRows
+pub mod Runs

@@ -1,0 +1,190 @@
+-- Laws of reading a mapping as the code asks them, and of the loop over the mappings. Assumes nothing.
+use Prim.Native.Nat.{ℕ, _+_, _*_, _/_, _%_, _≤_, _<_}
+use native.Mathlib.Omega.{arith}
+use borrow.Author.Needs.{needs}
+use borrow.Author.Tests.{eq-eqb, ne-eqb}
+use mathlib.Core.Bool.{Bool, true, false, cond}
+use mathlib.Core.List.{List, []}
+use mathlib.Core.Path.{_≡_, refl, sym, ap, subst, _∙_}
+use lib.Dec.{eqb, leb}
+use lib.ListN.{length, set, replicate}
+use lib.Seq.{sets}
+use Rattle.reading.specs.Lists.{rows}
+use Rattle.reading.specs.Outcome.{Outcome, ok, bad, then}
+use Rattle.reading.specs.Reader.{many, mapped, judged, into, into1}
+use Rattle.reading.specs.Table.{Table, table, putRow}
+use Rattle.reading.proofs.Outcomes.{then-ok}
+use Rattle.reading.proofs.Accepted.{many-number}
+use Rattle.bits.specs.declared.Cursor.{Cursor}
+use Rattle.bits.specs.declared.Refusal.{Refusal}
+use Rattle.bits.specs.declared.Field.{Field}
+use Rattle.bits.specs.declared.Field.the-variants.{Value, Refused}
+use Rattle.bits.specs.declared.Step.{Step}
+use Rattle.bits.specs.declared.Step.the-variants as S
+use Rattle.bits.specs.Cursors.{position, refusalOf, outcome, Wrote}
+use Rattle.bits.specs.Field.{field}
+use Rattle.bits.proofs.Answers.{value-is, refused-is}
+use Rattle.bits.proofs.Steps.{wrote-refused, wrote-next, Rest, loop-start, loop-next, loop-refused, loop-done}
+use Rattle.bits.proofs.Written.{got, stopped}
+use Rattle.mappings.specs.Content.{Coupling, Submap, Mapping}
+use Rattle.mappings.specs.declared.Known.{Known}
+use Rattle.mappings.specs.Reading.{submapCount, couplingCount, coupling, multiplex, multiplexes, submap, parts, mapping}
+use Rattle.mappings.specs.Layout.{couplingRow, multiplexRow, submapRow, mappingRow, partsInto}
+use Rattle.mappings.proofs.CountLaws.{submaps-few, steps-few, submaps-few-here, steps-few-here}
+use Rattle.mappings.proofs.RowLaws.{mapping-wide, row-made}
+
+abbrev at : ℕ → Cursor → Refusal
+at n c = record { number = n; place = c }
+
+-- the last part read makes the whole
+finish : {B T : Type 0} (o : Outcome (B × ℕ)) (f : B → Mapping) (g : Mapping → T) (h : B → T) → ((b : B) → h b ≡ g (f b)) → {r : Step} {t : T}
+    → Wrote (mapped h o) r t → Wrote (mapped g (then o (λ x. ok (f (x .0), x .1)))) r t
+unfolding mapped
+finish (ok x) f g h same w = record { step = w .step; value = λ y e. let p : (g (f (x .0)), x .1) ≡ y = cc in ap (λ z. z .0) (sym p) ∙ sym (same (x .0)) ∙ w .value (h (x .0), x .1) refl }
+finish (bad z) f g h same w = record { step = w .step; value = λ y e. let n : _≡_ {A = ℕ} 0 1 = cc in absurd (omega arith) }
+
+abbrev partsRead : List ℕ → Known → ℕ → ℕ → List ℕ → Cursor → Outcome (List ℕ × ℕ)
+partsRead row known submaps steps s k = mapped (partsInto row) (parts known submaps steps s (position k))
+
+module _ (known : Known) (submaps steps : ℕ) (s : List ℕ) (k : Cursor) (row : List ℕ) {row₁ : List ℕ} {r₁ : Step}
+    (p₁ : Wrote (mapped (λ l. sets row 4 (rows couplingRow l)) (many (coupling (known .channels)) steps s (position k))) r₁ row₁) where
+  pub couplings-refused : {z : Refusal} → r₁ ≡ S.Refused z → (u : List ℕ) → Wrote (partsRead row known submaps steps s k) (S.Refused z) u
+  unfolding mapped parts
+  couplings-refused {z} q u = let c : many (coupling (known .channels)) steps s (position k) ≡ bad (refusalOf z) = stopped (λ l. sets row 4 (rows couplingRow l)) (many (coupling (known .channels)) steps s (position k)) p₁ q in wrote-refused u (rw c)
+
+  module _ {k₁ : Cursor} (q₁ : r₁ ≡ S.Next k₁) {r₂ : Field} (p₂ : outcome r₂ ≡ field 2 s (position k₁)) where
+    pub reserved-cut : {z : Refusal} → r₂ ≡ Refused z → (u : List ℕ) → Wrote (partsRead row known submaps steps s k) (S.Refused z) u
+    unfolding mapped parts
+    reserved-cut q u = let g = got (λ l. sets row 4 (rows couplingRow l)) (many (coupling (known .channels)) steps s (position k)) p₁ q₁ in wrote-refused u (rw (g .read, refused-is p₂ q))
+
+    module _ {reserved : ℕ} {k₂ : Cursor} (q₂ : r₂ ≡ Value reserved k₂) where
+      pub reserved-wrong : (reserved ≡ 0 → ⊥) → (u : List ℕ) → Wrote (partsRead row known submaps steps s k) (S.Refused (at 9 k₁)) u
+      unfolding mapped parts
+      reserved-wrong n u = let g = got (λ l. sets row 4 (rows couplingRow l)) (many (coupling (known .channels)) steps s (position k)) p₁ q₁ in wrote-refused u (rw (g .read, value-is p₂ q₂, ne-eqb _ _ n))
+
+      module _ (e : reserved ≡ 0) {row₂ : List ℕ} {r₃ : Step}
+          (p₃ : Wrote (mapped (λ l. sets row₁ 516 (rows multiplexRow l)) (multiplexes (known .channels) submaps s (position k₂))) r₃ row₂) where
+        pub multiplexes-refused : {z : Refusal} → r₃ ≡ S.Refused z → (u : List ℕ) → Wrote (partsRead row known submaps steps s k) (S.Refused z) u
+        unfolding mapped parts
+        multiplexes-refused {z} q u =
+            let g = got (λ l. sets row 4 (rows couplingRow l)) (many (coupling (known .channels)) steps s (position k)) p₁ q₁ in
+            let c : multiplexes (known .channels) submaps s (position k₂) ≡ bad (refusalOf z) = stopped (λ l. sets row₁ 516 (rows multiplexRow l)) (multiplexes (known .channels) submaps s (position k₂)) p₃ q in
+            wrote-refused u (rw (g .read, value-is p₂ q₂, eq-eqb _ _ e, c))
+
+        pub parts-whole : {k₃ : Cursor} → r₃ ≡ S.Next k₃ → {row₃ : List ℕ} {r₄ : Step}
+            → Wrote (mapped (λ l. sets row₂ 772 (rows submapRow l)) (many (submap known) submaps s (position k₃))) r₄ row₃ → Wrote (partsRead row known submaps steps s k) r₄ row₃
+        unfolding parts partsInto
+        parts-whole {k₃} q₃ p₄ =
+            let a = got (λ l. sets row 4 (rows couplingRow l)) (many (coupling (known .channels)) steps s (position k)) p₁ q₁ in
+            let b = got (λ l. sets row₁ 516 (rows multiplexRow l)) (multiplexes (known .channels) submaps s (position k₂)) p₃ q₃ in
+            rw (a .read, value-is p₂ q₂, eq-eqb _ _ e, b .read)
+            (finish (many (submap known) submaps s (position k₃)) (λ l. record { couplings = a .value; multiplex = b .value; submaps = l }) (partsInto row) (λ l. sets row₂ 772 (rows submapRow l))
+             (λ l. ap (λ (t : List ℕ). sets t 772 (rows submapRow l)) (sym (b .made) ∙ ap (λ (t : List ℕ). sets t 516 (rows multiplexRow (b .value))) (sym (a .made)))) p₄)
+
+-- how many items each part has
+pub record Sizes (known : Known) (few steps : ℕ) (m : Mapping) : Type 0 where
+  pub couplings : length (m .couplings) ≡ steps
+  pub multiplex : length (m .multiplex) ≡ cond (leb few 1) 0 (known .channels)
+  pub submaps : length (m .submaps) ≡ few
+
+multiplex-size : (channels submaps : ℕ) (s : List ℕ) (k : ℕ) (x : List ℕ × ℕ) → multiplexes channels submaps s k ≡ ok x → length (x .0) ≡ cond (leb submaps 1) 0 channels
+unfolding multiplexes
+multiplex-size channels submaps s k x e = go (leb submaps 1) e
+  where
+    go : (t : Bool) → cond t (ok ([], k)) (many (multiplex submaps) channels s k) ≡ ok x → length (x .0) ≡ cond t 0 channels
+    go true e = let p : ([], k) ≡ x = cc in ap (λ (y : List ℕ × ℕ). length (y .0)) (sym p)
+    go false e = many-number (multiplex submaps) s channels k e
+
+module _ (known : Known) (submaps steps : ℕ) (s : List ℕ) (k : ℕ) where
+  pub parts-sizes : {x : Mapping × ℕ} → parts known submaps steps s k ≡ ok x → Sizes known submaps steps (x .0)
+  unfolding parts
+  parts-sizes {x} e =
+      let a = then-ok (many (coupling (known .channels)) steps s k) _ e in
+      let b = then-ok (judged (λ v. eqb v 0) 9 (field 2) s (a .0 .1)) _ (a .2) in
+      let c = then-ok (multiplexes (known .channels) submaps s (b .0 .1)) _ (b .2) in
+      let d = then-ok (many (submap known) submaps s (c .0 .1)) _ (c .2) in
+      let same : _≡_ {A = Mapping × ℕ} (record { couplings = a .0 .0; multiplex = c .0 .0; submaps = d .0 .0 }, d .0 .1) x = cc in
+      subst (λ (y : Mapping × ℕ). Sizes known submaps steps (y .0)) same
+      (record {
+        couplings = many-number (coupling (known .channels)) s steps k (a .1);
+        multiplex = multiplex-size (known .channels) submaps s (b .0 .1) (c .0) (c .1);
+        submaps = many-number (submap known) s submaps (c .0 .1) (d .1);
+      })
+
+size-most : (t : Bool) (channels : ℕ) → channels ≤ 255 → cond t 0 channels ≤ 256
+size-most true channels h = omega arith
+size-most false channels h = omega arith
+
+abbrev mappingInto : Known → List ℕ → Cursor → Table → Outcome (Table × ℕ)
+mappingInto known s k t = into1 (putRow mappingRow) (mapping known s (position k)) t
+
+module _ (known : Known) (s : List ℕ) (k : Cursor) {r : Field} (p : outcome r ≡ field 16 s (position k)) where
+  pub type-cut : {z : Refusal} → r ≡ Refused z → (t u : Table) → Wrote (mappingInto known s k t) (S.Refused z) u
+  unfolding into1 mapped mapping
+  type-cut q t u = wrote-refused u (rw (refused-is p q))
+
+  module _ {kind : ℕ} {k₁ : Cursor} (q : r ≡ Value kind k₁) where
+    pub type-wrong : (kind ≡ 0 → ⊥) → (t u : Table) → Wrote (mappingInto known s k t) (S.Refused (at 9 k)) u
+    unfolding into1 mapped mapping
+    type-wrong n t u = wrote-refused u (rw (value-is p q, ne-eqb _ _ n))
+
+    module _ (e : kind ≡ 0) {r₁ : Field} (p₁ : outcome r₁ ≡ submapCount s (position k₁)) where
+      pub submap-count-refused : {z : Refusal} → r₁ ≡ Refused z → (t u : Table) → Wrote (mappingInto known s k t) (S.Refused z) u
+      unfolding into1 mapped mapping
+      submap-count-refused q₁ t u = wrote-refused u (rw (value-is p q, eq-eqb _ _ e, refused-is p₁ q₁))
+
+      module _ {submaps : ℕ} {k₂ : Cursor} (q₁ : r₁ ≡ Value submaps k₂) {r₂ : Field} (p₂ : outcome r₂ ≡ couplingCount s (position k₂)) where
+        pub step-count-refused : {z : Refusal} → r₂ ≡ Refused z → (t u : Table) → Wrote (mappingInto known s k t) (S.Refused z) u
+        unfolding into1 mapped mapping
+        step-count-refused q₂ t u = wrote-refused u (rw (value-is p q, eq-eqb _ _ e, value-is p₁ q₁, refused-is p₂ q₂))
+
+        module _ {steps : ℕ} {k₃ : Cursor} (q₂ : r₂ ≡ Value steps k₃) where
+          is-parts : mapping known s (position k) ≡ parts known submaps steps s (position k₃)
+          unfolding mapping
+          is-parts = rw (value-is p q, eq-eqb _ _ e, value-is p₁ q₁, value-is p₂ q₂)
+
+          module _ (row : List ℕ) {row′ : List ℕ} {r₃ : Step} (p₃ : Wrote (partsRead row known submaps steps s k₃) r₃ row′) where
+            pub parts-refused : {z : Refusal} → r₃ ≡ S.Refused z → (t u : Table) → Wrote (mappingInto known s k t) (S.Refused z) u
+            unfolding into1 mapped
+            parts-refused {z} q₃ t u = let c : parts known submaps steps s (position k₃) ≡ bad (refusalOf z) = stopped (partsInto row) (parts known submaps steps s (position k₃)) p₃ q₃ in wrote-refused u (rw (is-parts, c))
+
+            pub mapping-whole : {k₄ : Cursor} → r₃ ≡ S.Next k₄ → known .channels ≤ 255 → row ≡ set (set (set (replicate 804 0) 0 (steps % 256)) 1 (steps / 256)) 2 submaps
+                → (cells : List ℕ) (i : ℕ) {cells′ : List ℕ} → cells′ ≡ sets cells i row′ → Wrote (mappingInto known s k (table cells i)) (S.Next k₄) (table cells′ (i + 804))
+            unfolding into1 mapped putRow
+            mapping-whole q₃ h f cells i g =
+                let a = got (partsInto row) (parts known submaps steps s (position k₃)) p₃ q₃ in
+                let z = parts-sizes known submaps steps s (position k₃) (a .read) in
+                let l = z .multiplex in
+                let n = size-most (leb submaps 1) (known .channels) h in
+                let m = steps-few-here s k₂ p₂ q₂ in
+                let made : mappingRow (a .value) ≡ row′ = sym (row-made (a .value) submaps steps (z .couplings) (z .submaps) m (omega arith)) ∙ ap (λ (t : List ℕ). partsInto t (a .value)) (sym f) ∙ a .made in
+                wrote-next (rw (g, is-parts, a .read, mapping-wide (a .value), made))
+
+-- the loop: i mappings are done
+pub record Reading (known : Known) (s : List ℕ) (n : ℕ) (W : Outcome (Table × ℕ)) (i : ℕ) (k : Cursor) (cells : List ℕ) : Type 0 where
+  pub within : i ≤ n
+  pub rest : Rest (putRow mappingRow) (mapping known) s n W i k (table cells (804 * i))
+
+module _ (known : Known) (s : List ℕ) (n : ℕ) where
+  pub mappings-start : (k : Cursor) (cells : List ℕ) → Reading known s n (into (putRow mappingRow) (many (mapping known) n s (position k)) (table cells 0)) 0 k cells
+  mappings-start k cells = record { within = omega arith; rest = loop-start _ _ _ _ _ k _ refl }
+
+  module _ (W : Outcome (Table × ℕ)) (i : ℕ) (k : Cursor) (cells : List ℕ) (w : Reading known s n W i k cells) where
+    pub mappings-done : n ≤ i → Wrote W (S.Next k) (table cells (804 * n))
+    mappings-done h =
+        let b = w .within in
+        let e : i ≡ n = omega arith in
+        subst (λ (j : ℕ). Wrote W (S.Next k) (table cells (804 * j))) e (loop-done _ _ _ _ _ i k _ (w .rest) h)
+
+    module _ (h : i < n) {st : Step} {cells′ : List ℕ} (one : Wrote (mappingInto known s k (table cells (804 * i))) st (table cells′ (804 * i + 804))) where
+      pub mappings-refused : {z : Refusal} → st ≡ S.Refused z → (u : Table) → Wrote W (S.Refused z) u
+      mappings-refused q u = loop-refused _ _ _ _ _ i k _ (w .rest) h one q u
+
+      pub mappings-next : {k′ : Cursor} → st ≡ S.Next k′ → Reading known s n W (i + 1) k′ cells′
+      mappings-next {k′} q =
+          let e : 804 * i + 804 ≡ 804 * (i + 1) = omega arith in
+          record { within = omega arith; rest = subst (λ (j : ℕ). Rest (putRow mappingRow) (mapping known) s n W (i + 1) k′ (table cells′ j)) e (loop-next _ _ _ _ _ i k _ (w .rest) h one q) }
+
+pub ruleset parts-laws = (needs, couplings-refused, reserved-cut, reserved-wrong, multiplexes-refused, parts-whole)
+pub ruleset mapping-laws = (needs, submaps-few-here, steps-few-here, type-cut, type-wrong, submap-count-refused, step-count-refused, parts-refused, mapping-whole)
+pub ruleset mappings-laws = (needs, mappings-start, mappings-done, mappings-refused, mappings-next)

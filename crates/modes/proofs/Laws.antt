@@ -1,0 +1,73 @@
+-- Laws of modes that other crates cite: a row's width; what is accepted is valid; one row for one mode; what a place of the table holds.
+-- Assumes nothing.
+use Prim.Native.Nat.{ℕ, _+_, _*_, _≤_, _<_}
+use native.Mathlib.Nat.{add-zero}
+use native.Mathlib.Omega.{arith}
+use borrow.Author.Tests.{ltb-true}
+use mathlib.Core.Bool.{Bool, true}
+use mathlib.Core.List.{List}
+use mathlib.Core.Path.{_≡_, refl, sym, ap, subst, _∙_}
+use lib.Dec.{eqb, ltb}
+use lib.ListN.{length, getD}
+use Rattle.reading.specs.Outcome.{Outcome, ok, then}
+use Rattle.reading.specs.Reader.{many, judged}
+use Rattle.reading.specs.Stand.{Each, Stands}
+use Rattle.reading.proofs.Outcomes.{then-ok, judged-ok}
+use Rattle.reading.proofs.Accepted.{many-each, many-number}
+use Rattle.reading.proofs.Stands.{row-place, rows-length, stands-same}
+use Rattle.bits.specs.Field.{field}
+use Rattle.bits.proofs.Fields.{field-ok}
+use Rattle.modes.specs.Content.{Mode}
+use Rattle.modes.specs.Reading.{mode}
+use Rattle.modes.specs.Layout.{modeRow}
+use Rattle.modes.specs.Valid.{ValidMode}
+use Rattle.modes.specs.Decode.{decodeMode}
+use Rattle.modes.specs.Stand.{ModesStand}
+
+pub mode-wide : (m : Mode) → length (modeRow m) ≡ 2
+unfolding modeRow
+mode-wide m = refl
+
+pub decode-mode : (m : Mode) → decodeMode (modeRow m) ≡ m
+unfolding modeRow decodeMode
+decode-mode m = refl
+
+-- an accepted mode meets every rule
+pub mode-valid : (mappings : ℕ) (s : List ℕ) (k : ℕ) (x : Mode × ℕ) → mode mappings s k ≡ ok x → ValidMode mappings (x .0)
+unfolding mode
+mode-valid mappings s k x e =
+    let flag = then-ok (field 1 s k) _ e in
+    let window = then-ok (judged (λ v. eqb v 0) 9 (field 16) s (flag .0 .1)) _ (flag .2) in
+    let transform = then-ok (judged (λ v. eqb v 0) 9 (field 16) s (window .0 .1)) _ (window .2) in
+    let mapping = then-ok (judged (λ v. ltb v mappings) 11 (field 8) s (transform .0 .1)) _ (transform .2) in
+    let j = judged-ok (λ v. ltb v mappings) 11 (field 8) s (transform .0 .1) (mapping .1) in
+    let f = field-ok s k 1 (flag .1) in
+    let b = f .below in
+    let same : _≡_ {A = Mode × ℕ} (record { blockflag = flag .0 .0; mapping = mapping .0 .0 }, mapping .0 .1) x = cc in
+    let valid : ValidMode mappings (record { blockflag = flag .0 .0; mapping = mapping .0 .0 }) = record { blockflag = omega arith; mapping = ltb-true _ _ (j .1) } in
+    subst (λ (y : Mode × ℕ). ValidMode mappings (y .0)) same valid
+
+pub modes-valid : (mappings : ℕ) (s : List ℕ) (n k : ℕ) (x : List Mode × ℕ) → many (mode mappings) n s k ≡ ok x → (length (x .0) ≡ n) × Each (ValidMode mappings) (x .0)
+modes-valid mappings s n k x e = (many-number (mode mappings) s n k e, many-each (mode mappings) s (ValidMode mappings) (mode-valid mappings s) n k e)
+
+-- no other modes share a table
+pub one-content : (mappings n : ℕ) (cells : List ℕ) (a b : ModesStand mappings n cells) → a .items ≡ b .items
+one-content mappings n cells a b = stands-same modeRow (ValidMode mappings) 2 mode-wide decodeMode (λ m v. decode-mode m) n cells a b
+
+-- what stands in the table of mode i of n; d stands for a mode past the last
+module _ {mappings n : ℕ} {cells : List ℕ} (stand : ModesStand mappings n cells) (i : ℕ) (h : i < n) (d : Mode) where
+  place : (j : ℕ) → j < 2 → getD cells (2 * i + j) 0 ≡ getD (modeRow (getD (stand .items) i d)) j 0
+  place j g =
+      let a = stand .number in
+      let f = stand .fits in
+      let l = rows-length modeRow (ValidMode mappings) 2 mode-wide (stand .items) in
+      ap (λ (t : List ℕ). getD t (2 * i + j) 0) (stand .written)
+      ∙ row-place modeRow (ValidMode mappings) 2 mode-wide (stand .items) (length cells) i j d (omega arith) g (omega arith)
+
+  pub blockflag-is : getD cells (2 * i) 0 ≡ getD (stand .items) i d .blockflag
+  unfolding modeRow
+  blockflag-is = rw add-zero at (place 0 (omega arith))
+
+  pub mapping-is : getD cells (2 * i + 1) 0 ≡ getD (stand .items) i d .mapping
+  unfolding modeRow
+  mapping-is = place 1 (omega arith)
