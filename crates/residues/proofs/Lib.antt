@@ -1,1 +1,4 @@
-
+pub mod PowerLaws
+pub mod HeadLaws
+pub mod CascadeLaws
+pub mod SlotLaws

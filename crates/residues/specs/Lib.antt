@@ -3,3 +3,5 @@ pub mod Reading
 pub mod Layout
 pub mod Valid
 pub mod FromTable
+pub mod Heads
+pub mod Slots
