@@ -2,3 +2,9 @@ pub mod PowerLaws
 pub mod HeadLaws
 pub mod CascadeLaws
 pub mod SlotLaws
+pub mod PlanLaws
+pub mod RowsLaws
+pub mod FitsLaws
+pub mod ReadLaws
+pub mod HeadSound
+pub mod ResidueLaws

@@ -1,5 +1,6 @@
 -- What reading the fields before the plan answers, and the second half of them.
 use Prim.Native.Nat.{ℕ, _+_}
+use mathlib.Core.List.{List, [], _∷_}
 use lib.Dec.{ltb}
 use Rattle.reading.specs.Outcome.{Outcome, ok, bad, then}
 use Rattle.reading.specs.Reader.{Reader, judged}
@@ -24,3 +25,7 @@ headFrom count type begin end s k =
     then (field 6 s (size .1)) (λ classifications.
     then (judged (λ v. ltb v count) 11 (field 8) s (classifications .1)) (λ classbook.
     ok (record { type = type; begin = begin; end = end; size = size .0 + 1; classifications = classifications .0 + 1; classbook = classbook .0 }, classbook .1))))
+
+-- the numbers of the residue's row in the table of residues
+abbrev pub headNumbers : Head → List ℕ
+headNumbers h = h .type ∷ h .begin ∷ h .end ∷ h .size ∷ h .classifications ∷ h .classbook ∷ []

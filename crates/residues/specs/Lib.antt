@@ -5,3 +5,4 @@ pub mod Valid
 pub mod FromTable
 pub mod Heads
 pub mod Slots
+pub mod Plans

@@ -5,23 +5,15 @@ use bits::Refusal;
 use bits::Step;
 ghost use mathlib.Core.Path.{_≡_};
 ghost use Prim.Native.Nat.{_≤_};
-ghost use lib.ListN.{take, replicate};
 ghost use lib.Seq.{sets};
-ghost use Rattle.reading.specs.Reader.{each, mapped};
 ghost use Rattle.reading.specs.Lists.{rows};
 ghost use Rattle.bits.specs.Cursors.{position, outcome, Wrote};
 ghost use Rattle.residues.specs.Reading.{planBook, planRow};
-ghost use Rattle.residues.specs.Slots.{padWith};
+ghost use Rattle.residues.specs.Plans.{Grid};
 
 // A class's row of the plan, and where reading goes on. On a refusal the row means nothing.
 pub struct Row {
     pub books: [u16; 8],
-    pub step: Step,
-}
-
-// The rows of the classes and empty rows behind them, and where reading goes on. On a refusal they mean nothing.
-pub struct Plan {
-    pub books: [[u16; 8]; 64],
     pub step: Step,
 }
 
@@ -64,34 +56,9 @@ pub fn read_row(packet: &[u8], from: Cursor, count: u32, cascade: u32) -> Row
     Row { books, step: Step::Next(at) }
 }
 
-pub fn read_plan(packet: &[u8], from: Cursor, count: u32, classes: usize, cascades: [u32; 64]) -> Plan
-    requires { ⌜ classes ≤ 64 ⌝ }
-    ensures { λ r. ⌜ Wrote (mapped (padWith (replicate 8 0) 64) (each (planRow count) (take classes cascades) (now (packet .entry)) (position from))) (r .step) (r .books) ⌝ }
-{
-    let empty = [0u16; 8];
-    let mut books = [empty; 64];
-    let mut at = from;
-    let mut i: usize = 0;
-    while i < classes {
-        let row = read_row(packet, at, count, cascades[i]);
-        let step = row.step;
-        match step {
-            Step::Refused(z) => {
-                return Plan { books, step: Step::Refused(z) };
-            }
-            Step::Next(next) => {
-                books[i] = row.books;
-                at = next;
-            }
-        }
-        i = i + 1;
-    }
-    Plan { books, step: Step::Next(at) }
-}
-
 // The plan goes to the 512 places from `at` on, class after class.
 pub fn write_plan(plans: &mut [u16], at: usize, plan: [[u16; 8]; 64])
-    requires { ⌜ at ≤ 32768 ⌝ }
+    requires { ⌜ (at ≤ 32768) × Grid plan ⌝ }
     ensures { λ _. ⌜ now (plans .exit) ≡ sets (now (plans .entry)) at (rows (λ row. row) plan) ⌝ }
 {
     let mut i: usize = 0;

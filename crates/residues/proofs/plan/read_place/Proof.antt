@@ -1,3 +1,4 @@
+use Rattle.residues.proofs.PlanLaws.{place-laws}
 use borrow.Author.Needs.{needs}
 use Rattle.residues.proofs.plan.read_place.Statement.{statement}
 use Rattle.residues.proofs.plan.read_place.Tie as tie
@@ -7,7 +8,7 @@ use Rattle.bits.proofs.Cursor.field.Reads as field-reads
 
 -- src/plan.rt:33:9
 returns : tie.Need-returns
-returns c = search needs
+returns c = search place-laws
 
 -- src/plan.rt:35:11
 field-requires : tie.Need-field-requires
@@ -23,19 +24,19 @@ enum-known-book c = search needs
 
 -- src/plan.rt:39:17
 returns-2 : tie.Need-returns-2
-returns-2 c = search needs
+returns-2 c = search place-laws
 
 -- src/plan.rt:41:26
 add-t13 : tie.Need-add-t13
-add-t13 c = search needs
+add-t13 c = search place-laws
 
 -- src/plan.rt:29:1
 returns-3 : tie.Need-returns-3
-returns-3 c = search needs
+returns-3 c = search place-laws
 
 -- src/plan.rt:29:1
 returns-4 : tie.Need-returns-4
-returns-4 c = search needs
+returns-4 c = search place-laws
 
 pub read-place-spec : {M : Type 1} → statement M
 read-place-spec =

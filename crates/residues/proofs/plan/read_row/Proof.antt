@@ -1,3 +1,5 @@
+use Prim.Native.Nat.{_-_}
+use Rattle.residues.proofs.PlanLaws.{RowFilling, row-laws}
 use borrow.Author.Needs.{needs}
 use Rattle.residues.proofs.plan.read_row.Statement.{statement}
 use Rattle.residues.proofs.plan.read_row.Tie as tie
@@ -6,14 +8,14 @@ use Rattle.residues.proofs.plan.read_row.Lts as lts
 use Rattle.residues.proofs.plan.read_place.Reads as read-place-reads
 
 abbrev Inv-loop : tie.InvT-loop
-Inv-loop packet count cascade books₀ at₀ j₀ books at j = ?
+Inv-loop packet count cascade books₀ at₀ j₀ books at j = RowFilling packet count cascade at₀ books at j
 
 abbrev μ-loop : tie.MeasureT-loop
-μ-loop packet count cascade books₀ at₀ j₀ books at j = ?
+μ-loop packet count cascade books₀ at₀ j₀ books at j = 8 - j
 
 -- src/plan.rt:52:5
 loop-holds : tie.Need-loop-holds Inv-loop μ-loop
-loop-holds c = search needs
+loop-holds c = search row-laws
 
 -- src/plan.rt:53:57
 cast-read-place : tie.Need-cast-read-place Inv-loop μ-loop
@@ -33,7 +35,7 @@ enum-known-z c = search needs
 
 -- src/plan.rt:55:17
 returns : tie.Need-returns Inv-loop μ-loop
-returns c = search needs
+returns c = search row-laws
 
 -- src/plan.rt:57:26
 enum-known-v : tie.Need-enum-known-v Inv-loop μ-loop
@@ -41,7 +43,7 @@ enum-known-v c = search needs
 
 -- src/plan.rt:58:28
 cast-books : tie.Need-cast-books Inv-loop μ-loop
-cast-books c = search needs
+cast-books c = search row-laws
 
 -- src/plan.rt:58:17
 mul-books : tie.Need-mul-books Inv-loop μ-loop
@@ -61,11 +63,11 @@ loop-less c = search needs
 
 -- src/plan.rt:52:5
 loop-again : tie.Need-loop-again Inv-loop μ-loop
-loop-again c = search needs
+loop-again c = search row-laws
 
 -- src/plan.rt:46:1
 returns-2 : tie.Need-returns-2 Inv-loop μ-loop
-returns-2 c = search needs
+returns-2 c = search row-laws
 
 pub read-row-spec : {M : Type 1} → statement M
 read-row-spec =
