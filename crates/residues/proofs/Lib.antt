@@ -1,1 +1,10 @@
-
+pub mod PowerLaws
+pub mod HeadLaws
+pub mod CascadeLaws
+pub mod SlotLaws
+pub mod PlanLaws
+pub mod RowsLaws
+pub mod FitsLaws
+pub mod ReadLaws
+pub mod HeadSound
+pub mod ResidueLaws

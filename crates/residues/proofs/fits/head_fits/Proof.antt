@@ -1,0 +1,34 @@
+use Rattle.residues.proofs.FitsLaws.{head-fits-laws}
+use borrow.Author.Needs.{needs}
+use Rattle.residues.proofs.fits.head_fits.Statement.{statement}
+use Rattle.residues.proofs.fits.head_fits.Tie as tie
+use Rattle.residues.proofs.fits.head_fits.Reads as reads
+use Rattle.residues.proofs.fits.head_fits.Lts as lts
+use Rattle.book.proofs.dimensions.Reads as dimensions-reads
+use Rattle.book.proofs.entries.Reads as entries-reads
+use Rattle.residues.proofs.power.power_within.Reads as power-within-reads
+
+-- src/fits.rt:23:9
+returns : tie.Need-returns
+returns c = search head-fits-laws
+
+-- src/fits.rt:25:9
+dimensions-requires : tie.Need-dimensions-requires
+dimensions-requires c κs = search needs
+
+-- src/fits.rt:26:9
+entries-requires : tie.Need-entries-requires
+entries-requires c κs = search needs
+
+-- src/fits.rt:27:5
+power-within-requires : tie.Need-power-within-requires
+power-within-requires c κs = search needs
+
+-- src/fits.rt:19:1
+returns-2 : tie.Need-returns-2
+returns-2 c = search head-fits-laws
+
+pub head-fits-spec : {M : Type 1} → statement M
+head-fits-spec =
+    tie.close
+    (tie.spec returns dimensions-requires entries-requires power-within-requires returns-2)

@@ -1,0 +1,81 @@
+use Prim.Native.Nat.{_-_}
+use Rattle.residues.proofs.RowsLaws.{WritingRows, writing-laws}
+use borrow.Author.Needs.{needs}
+use Rattle.residues.proofs.plan.write_plan.Statement.{statement}
+use Rattle.residues.proofs.plan.write_plan.Tie as tie
+use Rattle.residues.proofs.plan.write_plan.Reads as reads
+use Rattle.residues.proofs.plan.write_plan.Lts as lts
+use Rattle.reading.proofs.buffers.write_u16.Reads as write-u16-reads
+
+abbrev Inv-loop : tie.InvT-loop
+Inv-loop plans₀ at plan i₀ plans i = WritingRows plans₀ at plan plans i
+
+abbrev μ-loop : tie.MeasureT-loop
+μ-loop plans₀ at plan i₀ plans i = 64 - i
+
+-- src/plan.rt:65:5
+loop-holds : tie.Need-loop-holds Inv-loop μ-loop
+loop-holds c = search writing-laws
+
+-- src/plan.rt:66:19
+mul-row : tie.Need-mul-row Inv-loop μ-loop
+mul-row c = search needs
+
+-- src/plan.rt:66:19
+array-copy-out-row : tie.Need-array-copy-out-row Inv-loop μ-loop
+array-copy-out-row c = search needs
+
+-- src/plan.rt:67:49
+mul-write-u16 : tie.Need-mul-write-u16 Inv-loop μ-loop
+mul-write-u16 c = search needs
+
+-- src/plan.rt:67:44
+add-write-u16 : tie.Need-add-write-u16 Inv-loop μ-loop
+add-write-u16 c = search needs
+
+-- src/plan.rt:67:56
+slice-aggregate-write-u16 : tie.Need-slice-aggregate-write-u16 Inv-loop μ-loop
+slice-aggregate-write-u16 c = search writing-laws
+
+-- src/plan.rt:67:9
+write-u16-requires : tie.Need-write-u16-requires Inv-loop μ-loop
+write-u16-requires c κs = search needs
+
+-- src/plan.rt:68:13
+add-i : tie.Need-add-i Inv-loop μ-loop
+add-i c = search needs
+
+-- src/plan.rt:65:5
+loop-less : tie.Need-loop-less Inv-loop μ-loop
+loop-less c = search needs
+
+-- src/plan.rt:65:5
+loop-again : tie.Need-loop-again Inv-loop μ-loop
+loop-again c = search writing-laws
+
+-- src/plan.rt:60:1
+same-length : tie.Need-same-length Inv-loop μ-loop
+same-length c = search needs
+
+-- src/plan.rt:60:1
+returns : tie.Need-returns Inv-loop μ-loop
+returns c = search writing-laws
+
+pub write-plan-spec : {M : Type 1} → statement M
+write-plan-spec =
+    tie.close
+    (tie.spec
+    Inv-loop
+    μ-loop
+    loop-holds
+    mul-row
+    array-copy-out-row
+    mul-write-u16
+    add-write-u16
+    slice-aggregate-write-u16
+    write-u16-requires
+    add-i
+    loop-less
+    loop-again
+    same-length
+    returns)

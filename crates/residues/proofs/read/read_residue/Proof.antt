@@ -1,0 +1,80 @@
+use Rattle.residues.proofs.ResidueLaws.{residue-laws}
+use borrow.Author.Needs.{needs}
+use Rattle.residues.proofs.read.read_residue.Statement.{statement}
+use Rattle.residues.proofs.read.read_residue.Tie as tie
+use Rattle.residues.proofs.read.read_residue.Reads as reads
+use Rattle.residues.proofs.read.read_residue.Lts as lts
+use Rattle.residues.proofs.cascade.read_cascades.Reads as read-cascades-reads
+use Rattle.residues.proofs.head.read_head.Reads as read-head-reads
+use Rattle.residues.proofs.read.read_plan.Reads as read-plan-reads
+use Rattle.residues.proofs.read.wide.Reads as wide-reads
+
+-- src/read.rt:73:11
+read-head-requires : tie.Need-read-head-requires
+read-head-requires c κs = search needs
+
+-- src/read.rt:74:27
+enum-known-z : tie.Need-enum-known-z
+enum-known-z c = search needs
+
+-- src/read.rt:75:25
+enum-known-head : tie.Need-enum-known-head
+enum-known-head c = search needs
+
+-- src/read.rt:76:79
+wide-requires : tie.Need-wide-requires
+wide-requires c κs = search needs
+
+-- src/read.rt:76:17
+read-cascades-requires : tie.Need-read-cascades-requires
+read-cascades-requires c κs = search residue-laws
+
+-- src/read.rt:80:31
+enum-known-step : tie.Need-enum-known-step
+enum-known-step c = search needs
+
+-- src/read.rt:81:28
+enum-known-step-2 : tie.Need-enum-known-step-2
+enum-known-step-2 c = search needs
+
+-- src/read.rt:81:40
+read-plan-requires : tie.Need-read-plan-requires
+read-plan-requires c κs = search residue-laws
+
+-- src/read.rt:69:1
+returns : tie.Need-returns
+returns c = search residue-laws
+
+-- src/read.rt:69:1
+returns-2 : tie.Need-returns-2
+returns-2 c = search residue-laws
+
+-- src/read.rt:69:1
+same-length : tie.Need-same-length
+same-length c = search needs
+
+-- src/read.rt:69:1
+same-length-2 : tie.Need-same-length-2
+same-length-2 c = search needs
+
+-- src/read.rt:69:1
+returns-3 : tie.Need-returns-3
+returns-3 c = search residue-laws
+
+pub read-residue-spec : {M : Type 1} → statement M
+read-residue-spec =
+    tie.close
+    (tie.spec
+    read-head-requires
+    enum-known-z
+    enum-known-head
+    wide-requires
+    read-cascades-requires
+    enum-known-step
+    enum-known-step-2
+    read-plan-requires
+    returns
+    returns-2
+    same-length
+    same-length-2
+    returns-3)
