@@ -1,1 +1,4 @@
-
+pub mod HeadLaws
+pub mod RootLaws
+pub mod Filling
+pub mod LengthLaws

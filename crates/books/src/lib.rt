@@ -1,1 +1,4 @@
 // Codebooks in a setup packet: their rules, their tables, reading them.
+pub mod head; // pattern, dimensions, entries
+pub mod lengths; // the codeword lengths
+pub mod root; // how many multiplicands a lookup of type 1 has
