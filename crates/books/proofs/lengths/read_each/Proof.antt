@@ -36,7 +36,7 @@ same-length c = search needs
 
 -- src/lengths.rt:52:34
 returns : tie.Need-returns Inv-loop μ-loop
-returns c = filling-refused _ _ _ _ (c .before .before .before .before .before .loop .inv) (search needs) (refused-is (c .before .before .before .read-length .ensures) (c .known-told .given)) _
+returns c = filling-refused _ _ _ _ (c .before .before .before .before .before .loop .inv) (search needs) (refused-is (c .before .before .before .read-length .ensures) (c .before .z .given .1)) _
 
 -- src/lengths.rt:53:26
 enum-known-bits : tie.Need-enum-known-bits Inv-loop μ-loop
@@ -60,7 +60,7 @@ loop-less c = search needs
 
 -- src/lengths.rt:50:5
 loop-again : tie.Need-loop-again Inv-loop μ-loop
-loop-again c = filling-next _ _ _ _ (c .before .before .before .before .before .loop .inv) (search needs) (value-is (c .before .before .before .read-length .ensures) (c .known-told2 .given))
+loop-again c = filling-next _ _ _ _ (c .before .before .before .before .before .loop .inv) (search needs) (value-is (c .before .before .before .read-length .ensures) (c .before .bits .given .1))
 
 -- src/lengths.rt:45:1
 same-length-2 : tie.Need-same-length-2 Inv-loop μ-loop
