@@ -105,3 +105,6 @@ module _ {T U : Type 0} (f : T → U) where
       go : (o : Outcome (T × ℕ)) → stepped r ≡ then o (λ x. ok (x .1)) → ((x : T × ℕ) → o ≡ ok x → x .0 ≡ t) → Wrote (mapped f o) r (f t)
       go (ok x) e v = record { step = e; value = λ y q. let p : y .0 ≡ f (x .0) = cc in p ∙ ap f (v x refl) }
       go (bad z) e v = record { step = e; value = λ y q. let n : _≡_ {A = ℕ} 0 1 = cc in absurd (omega arith) }
+
+pub wrote-as : {T : Type 0} {o o′ : Outcome (T × ℕ)} {r : Step} {t t′ : T} → o ≡ o′ → t ≡ t′ → Wrote o r t → Wrote o′ r t′
+wrote-as {T} {o} {o′} {r} {t} {t′} e f w = rw (← e, ← f) w
