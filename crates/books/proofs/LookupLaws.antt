@@ -174,11 +174,12 @@ module _ (place : Cursor) (type count first most : ℕ) (s : List ℕ) (k : ℕ)
         (mapped-then (laid m first) (withValues type (fromAnswer a)) (many (field (a .width)) count s (position c)))
 
     pub values-whole : count ≤ most - first → first + count ≤ length m → {n : ℕ} → n ≡ count → {st : Step} {part : List ℕ}
-        → Wrote (many (field (a .width)) n s (position c)) st part → length part ≡ count → {d : ℕ} → d ≡ count
+        → Wrote (many (field (a .width)) n s (position c)) st part → length part ≡ count
         → Wrote (mapped (laid m first) (values (position place) type count (most - first) s k)) st
-        (type ∷ a .minimum ∷ a .delta ∷ a .width ∷ a .sequence ∷ count ∷ [], take first m ++ (part ++ drop d (drop first m)))
-    values-whole h g {n} e {st} {part} w l {d} f =
-        let b : sets m first part ≡ take first m ++ (part ++ drop d (drop first m))
+        (type ∷ a .minimum ∷ a .delta ∷ a .width ∷ a .sequence ∷ count ∷ [], take first m ++ (part ++ drop (first + count - first) (drop first m)))
+    values-whole h g {n} e {st} {part} w l =
+        let f : first + count - first ≡ count = omega arith in
+        let b : sets m first part ≡ take first m ++ (part ++ drop (first + count - first) (drop first m))
             = part-back m first part (omega arith) ∙ ap (λ (x : ℕ). take first m ++ (part ++ drop x (drop first m))) (l ∙ sym f) in
         wrote-as
         (sym (values-list h ∙ ap (λ (x : ℕ). mapped (λ list. laid m first (withValues type (fromAnswer a) list)) (many (field (a .width)) x s (position c))) (sym e)))

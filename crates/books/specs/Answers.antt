@@ -5,6 +5,7 @@ use Rattle.reading.specs.Outcome.{Outcome, ok, bad}
 use Rattle.bits.specs.Cursors.{position, refusalOf}
 use Rattle.books.specs.Reading.{Before, Head}
 use Rattle.books.specs.Parts.{Parameters}
+use Rattle.books.specs.declared.head.Head as D
 use Rattle.books.specs.declared.head.HeadRead.{HeadRead}
 use Rattle.books.specs.declared.head.HeadRead.the-variants as H
 use Rattle.books.specs.declared.lookup.ParametersRead.{ParametersRead}
@@ -15,8 +16,11 @@ use Rattle.books.specs.declared.lookup.LookupRead.{LookupRead}
 abbrev pub totals : ℕ → ℕ → Before
 totals entries values = record { entries = entries; values = values }
 
+abbrev pub headOf : D.Head → Head
+headOf h = record { dimensions = h .dimensions; entries = h .entries }
+
 unfoldable pub headRead : HeadRead → Outcome (Head × ℕ)
-headRead (H.Value h c) = ok (record { dimensions = h .dimensions; entries = h .entries }, position c)
+headRead (H.Value h c) = ok (headOf h, position c)
 headRead (H.Refused z) = bad (refusalOf z)
 
 unfoldable pub parametersRead : ParametersRead → Outcome (Parameters × ℕ)

@@ -4,3 +4,4 @@ pub mod lengths; // the codeword lengths
 pub mod entries; // the lengths with their codewords
 pub mod root; // how many multiplicands a lookup of type 1 has
 pub mod lookup; // the lookup and its multiplicands
+pub mod read; // one book, and the section of books
