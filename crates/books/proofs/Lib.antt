@@ -1,1 +1,6 @@
-
+pub mod HeadLaws
+pub mod RootLaws
+pub mod Filling
+pub mod LengthLaws
+pub mod EntryLaws
+pub mod LookupLaws

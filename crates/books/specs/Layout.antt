@@ -18,6 +18,17 @@ pub record Tables : Type 0 where
   pub count : ℕ
   pub before : Before
 
+abbrev pub tables : List ℕ → List ℕ → List ℕ → List ℕ → ℕ → ℕ → ℕ → Tables
+tables books lengths words multiplicands count entries values =
+    record {
+      books = books;
+      lengths = lengths;
+      codewords = words;
+      multiplicands = multiplicands;
+      count = count;
+      before = record { entries = entries; values = values }
+    }
+
 unfoldable pub putBook : Book → Tables → Tables
 putBook b t =
     record {

@@ -1,4 +1,7 @@
 pub mod Reading
+pub mod Parts
+pub mod Answers
 pub mod Layout
+pub mod Lent
 pub mod Valid
 pub mod Vectors

@@ -1,0 +1,91 @@
+use Rattle.bits.proofs.Answers.{value-is, refused-is}
+use Prim.Native.Nat.{_-_}
+use lib.ListN.{length}
+use Rattle.bits.specs.Cursors.{position}
+use Rattle.books.specs.Reading.{entryLength}
+use Rattle.books.proofs.Filling.{Filling, filling-start, filling-refused, filling-next, filling-done}
+use Rattle.books.proofs.LengthLaws.{length-laws}
+use borrow.Author.Needs.{needs}
+use Rattle.books.proofs.lengths.read_each.Statement.{statement}
+use Rattle.books.proofs.lengths.read_each.Tie as tie
+use Rattle.books.proofs.lengths.read_each.Reads as reads
+use Rattle.books.proofs.lengths.read_each.Lts as lts
+use Rattle.books.proofs.lengths.read_length.Reads as read-length-reads
+
+abbrev Inv-loop : tie.InvT-loop
+Inv-loop packet sparse part₀ at₀ i₀ part at i = Filling (entryLength sparse) packet (position at₀) part₀ at part i
+
+abbrev μ-loop : tie.MeasureT-loop
+μ-loop packet sparse part₀ at₀ i₀ part at i = length part₀ - i
+
+-- src/lengths.rt:50:5
+loop-holds : tie.Need-loop-holds Inv-loop μ-loop
+loop-holds c = filling-start _ _ _ _
+
+-- src/lengths.rt:51:15
+read-length-requires : tie.Need-read-length-requires Inv-loop μ-loop
+read-length-requires c κs = search needs
+
+-- src/lengths.rt:52:28
+enum-known-z : tie.Need-enum-known-z Inv-loop μ-loop
+enum-known-z c = search needs
+
+-- src/lengths.rt:52:34
+same-length : tie.Need-same-length Inv-loop μ-loop
+same-length c = search needs
+
+-- src/lengths.rt:52:34
+returns : tie.Need-returns Inv-loop μ-loop
+returns c = filling-refused _ _ _ _ (c .before .before .before .before .before .loop .inv) (search needs) (refused-is (c .before .before .before .read-length .ensures) (c .before .z .given .1)) _
+
+-- src/lengths.rt:53:26
+enum-known-bits : tie.Need-enum-known-bits Inv-loop μ-loop
+enum-known-bits c = search needs
+
+-- src/lengths.rt:54:27
+cast-part : tie.Need-cast-part Inv-loop μ-loop
+cast-part c = search length-laws
+
+-- src/lengths.rt:54:17
+slice-write-part : tie.Need-slice-write-part Inv-loop μ-loop
+slice-write-part c = search needs
+
+-- src/lengths.rt:56:17
+add-i : tie.Need-add-i Inv-loop μ-loop
+add-i c = search needs
+
+-- src/lengths.rt:50:5
+loop-less : tie.Need-loop-less Inv-loop μ-loop
+loop-less c = search needs
+
+-- src/lengths.rt:50:5
+loop-again : tie.Need-loop-again Inv-loop μ-loop
+loop-again c = filling-next _ _ _ _ (c .before .before .before .before .before .loop .inv) (search needs) (value-is (c .before .before .before .read-length .ensures) (c .before .bits .given .1))
+
+-- src/lengths.rt:45:1
+same-length-2 : tie.Need-same-length-2 Inv-loop μ-loop
+same-length-2 c = search needs
+
+-- src/lengths.rt:45:1
+returns-2 : tie.Need-returns-2 Inv-loop μ-loop
+returns-2 c = filling-done _ _ _ _ (c .before .loop .inv) (search needs)
+
+pub read-each-spec : {M : Type 1} → statement M
+read-each-spec =
+    tie.close
+    (tie.spec
+    Inv-loop
+    μ-loop
+    loop-holds
+    read-length-requires
+    enum-known-z
+    same-length
+    returns
+    enum-known-bits
+    cast-part
+    slice-write-part
+    add-i
+    loop-less
+    loop-again
+    same-length-2
+    returns-2)

@@ -1,0 +1,48 @@
+use Rattle.books.proofs.LengthLaws.{length-laws}
+use borrow.Author.Needs.{needs}
+use Rattle.books.proofs.lengths.read_unordered.Statement.{statement}
+use Rattle.books.proofs.lengths.read_unordered.Tie as tie
+use Rattle.books.proofs.lengths.read_unordered.Reads as reads
+use Rattle.books.proofs.lengths.read_unordered.Lts as lts
+use Rattle.bits.proofs.Cursor.field.Reads as field-reads
+use Rattle.books.proofs.lengths.read_each.Reads as read-each-reads
+
+-- src/lengths.rt:120:11
+field-requires : tie.Need-field-requires
+field-requires c κs = search needs
+
+-- src/lengths.rt:121:24
+enum-known-z : tie.Need-enum-known-z
+enum-known-z c = search needs
+
+-- src/lengths.rt:122:22
+enum-known-sparse : tie.Need-enum-known-sparse
+enum-known-sparse c = search needs
+
+-- src/lengths.rt:122:39
+read-each-requires : tie.Need-read-each-requires
+read-each-requires c κs = search needs
+
+-- src/lengths.rt:117:1
+returns : tie.Need-returns
+returns c = search length-laws
+
+-- src/lengths.rt:117:1
+same-length : tie.Need-same-length
+same-length c = search needs
+
+-- src/lengths.rt:117:1
+returns-2 : tie.Need-returns-2
+returns-2 c = search length-laws
+
+pub read-unordered-spec : {M : Type 1} → statement M
+read-unordered-spec =
+    tie.close
+    (tie.spec
+    field-requires
+    enum-known-z
+    enum-known-sparse
+    read-each-requires
+    returns
+    same-length
+    returns-2)

@@ -1,0 +1,31 @@
+use Rattle.books.proofs.LookupLaws.{lookup-laws}
+use borrow.Author.Needs.{needs}
+use Rattle.books.proofs.lookup.value_count.Statement.{statement}
+use Rattle.books.proofs.lookup.value_count.Tie as tie
+use Rattle.books.proofs.lookup.value_count.Reads as reads
+use Rattle.books.proofs.lookup.value_count.Lts as lts
+use Rattle.books.proofs.root.lookup1_values.Reads as lookup1-values-reads
+
+-- src/lookup.rt:66:16
+lookup1-values-requires : tie.Need-lookup1-values-requires
+lookup1-values-requires c κs = search needs
+
+-- src/lookup.rt:66:16
+cast-result : tie.Need-cast-result
+cast-result c = search needs
+
+-- src/lookup.rt:66:9
+returns : tie.Need-returns
+returns c = search lookup-laws
+
+-- src/lookup.rt:68:5
+mul-result : tie.Need-mul-result
+mul-result c = search lookup-laws
+
+-- src/lookup.rt:62:1
+returns-2 : tie.Need-returns-2
+returns-2 c = search lookup-laws
+
+pub value-count-spec : {M : Type 1} → statement M
+value-count-spec =
+    tie.close (tie.spec lookup1-values-requires cast-result returns mul-result returns-2)

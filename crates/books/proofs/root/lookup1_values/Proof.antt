@@ -1,0 +1,71 @@
+use Prim.Native.Nat.{_-_}
+use Rattle.books.proofs.RootLaws.{Halving, halving}
+use borrow.Author.Needs.{needs}
+use Rattle.books.proofs.root.lookup1_values.Statement.{statement}
+use Rattle.books.proofs.root.lookup1_values.Tie as tie
+use Rattle.books.proofs.root.lookup1_values.Reads as reads
+use Rattle.books.proofs.root.lookup1_values.Lts as lts
+use Rattle.power.proofs.power_within.Reads as power-within-reads
+
+abbrev Inv-loop : tie.InvT-loop
+Inv-loop entries dimensions low₀ high₀ low high = Halving entries dimensions low high
+
+abbrev μ-loop : tie.MeasureT-loop
+μ-loop entries dimensions low₀ high₀ low high = high - low
+
+-- src/root.rt:11:5
+loop-holds : tie.Need-loop-holds Inv-loop μ-loop
+loop-holds c = search halving
+
+-- src/root.rt:12:30
+sub-middle : tie.Need-sub-middle Inv-loop μ-loop
+sub-middle c = search needs
+
+-- src/root.rt:12:22
+sub-middle-2 : tie.Need-sub-middle-2 Inv-loop μ-loop
+sub-middle-2 c = search needs
+
+-- src/root.rt:13:12
+power-within-requires : tie.Need-power-within-requires Inv-loop μ-loop
+power-within-requires c κs = search needs
+
+-- src/root.rt:11:5
+loop-less : tie.Need-loop-less Inv-loop μ-loop
+loop-less c = search needs
+
+-- src/root.rt:11:5
+loop-again : tie.Need-loop-again Inv-loop μ-loop
+loop-again c = search halving
+
+-- src/root.rt:16:20
+sub-high : tie.Need-sub-high Inv-loop μ-loop
+sub-high c = search needs
+
+-- src/root.rt:11:5
+loop-less-2 : tie.Need-loop-less-2 Inv-loop μ-loop
+loop-less-2 c = search needs
+
+-- src/root.rt:11:5
+loop-again-2 : tie.Need-loop-again-2 Inv-loop μ-loop
+loop-again-2 c = search halving
+
+-- src/root.rt:6:1
+returns : tie.Need-returns Inv-loop μ-loop
+returns c = search halving
+
+pub lookup1-values-spec : {M : Type 1} → statement M
+lookup1-values-spec =
+    tie.close
+    (tie.spec
+    Inv-loop
+    μ-loop
+    loop-holds
+    sub-middle
+    sub-middle-2
+    power-within-requires
+    loop-less
+    loop-again
+    sub-high
+    loop-less-2
+    loop-again-2
+    returns)
