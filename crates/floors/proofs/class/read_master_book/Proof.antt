@@ -1,3 +1,4 @@
+use Rattle.floors.proofs.ClassLaws.{master-laws}
 use borrow.Author.Needs.{needs}
 use Rattle.floors.proofs.class.read_master_book.Statement.{statement}
 use Rattle.floors.proofs.class.read_master_book.Tie as tie
@@ -7,7 +8,7 @@ use Rattle.bits.proofs.Cursor.field.Reads as field-reads
 
 -- src/class.rt:24:9
 returns : tie.Need-returns
-returns c = search needs
+returns c = search master-laws
 
 -- src/class.rt:26:11
 field-requires : tie.Need-field-requires
@@ -23,7 +24,7 @@ enum-known-v c = search needs
 
 -- src/class.rt:30:17
 returns-2 : tie.Need-returns-2
-returns-2 c = search needs
+returns-2 c = search master-laws
 
 -- src/class.rt:32:26
 add-t13 : tie.Need-add-t13
@@ -31,11 +32,11 @@ add-t13 c = search needs
 
 -- src/class.rt:19:1
 returns-3 : tie.Need-returns-3
-returns-3 c = search needs
+returns-3 c = search master-laws
 
 -- src/class.rt:19:1
 returns-4 : tie.Need-returns-4
-returns-4 c = search needs
+returns-4 c = search master-laws
 
 pub read-master-book-spec : {M : Type 1} → statement M
 read-master-book-spec =

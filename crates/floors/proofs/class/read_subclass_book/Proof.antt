@@ -1,3 +1,4 @@
+use Rattle.floors.proofs.ClassLaws.{book-laws}
 use borrow.Author.Needs.{needs}
 use Rattle.floors.proofs.class.read_subclass_book.Statement.{statement}
 use Rattle.floors.proofs.class.read_subclass_book.Tie as tie
@@ -21,11 +22,11 @@ enum-known-v c = search needs
 
 -- src/class.rt:45:17
 returns : tie.Need-returns
-returns c = search needs
+returns c = search book-laws
 
 -- src/class.rt:47:40
 narrow-requires : tie.Need-narrow-requires
-narrow-requires c κs = search needs
+narrow-requires c κs = search book-laws
 
 -- src/class.rt:47:13
 put-u16-requires : tie.Need-put-u16-requires
@@ -33,7 +34,7 @@ put-u16-requires c κs = search needs
 
 -- src/class.rt:38:1
 returns-2 : tie.Need-returns-2
-returns-2 c = search needs
+returns-2 c = search book-laws
 
 -- src/class.rt:38:1
 same-length : tie.Need-same-length
@@ -41,7 +42,7 @@ same-length c = search needs
 
 -- src/class.rt:38:1
 returns-3 : tie.Need-returns-3
-returns-3 c = search needs
+returns-3 c = search book-laws
 
 pub read-subclass-book-spec : {M : Type 1} → statement M
 read-subclass-book-spec =

@@ -1,3 +1,4 @@
+use Rattle.floors.proofs.ClassLaws.{one-shifted}
 use borrow.Author.Needs.{needs}
 use Rattle.floors.proofs.numbers.power.Statement.{statement}
 use Rattle.floors.proofs.numbers.power.Tie as tie
@@ -14,7 +15,7 @@ shl-result c = search needs
 
 -- src/numbers.rt:103:1
 returns : tie.Need-returns
-returns c = search needs
+returns c = search (needs, one-shifted)
 
 pub power-spec : {M : Type 1} → statement M
 power-spec = tie.close (tie.spec cast-result shl-result returns)

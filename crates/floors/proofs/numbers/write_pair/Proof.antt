@@ -1,3 +1,4 @@
+use Rattle.floors.proofs.Collected.{two-runs}
 use borrow.Author.Needs.{needs}
 use Rattle.floors.proofs.numbers.write_pair.Statement.{statement}
 use Rattle.floors.proofs.numbers.write_pair.Tie as tie
@@ -23,7 +24,7 @@ same-length c = search needs
 
 -- src/numbers.rt:111:1
 returns : tie.Need-returns
-returns c = search needs
+returns c = search (needs, two-runs)
 
 pub write-pair-spec : {M : Type 1} → statement M
 write-pair-spec =
