@@ -1,1 +1,4 @@
-
+pub mod Loops
+pub mod Collected
+pub mod NumberLaws
+pub mod ClassLaws

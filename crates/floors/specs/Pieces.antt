@@ -1,0 +1,58 @@
+-- The reading of a floor in the pieces in which the program reads it: each is a part of a definition of Reading, or a function of the numbers
+-- as they lie in the program's buffers.
+use Prim.Native.Nat.{ℕ, zero, suc, _+_, _*_, _^_, max}
+use mathlib.Core.List.{List, [], _∷_, _++_, map}
+use lib.ListN.{length, getD}
+use Rattle.reading.specs.Outcome.{refusal, ok, then, need}
+use Rattle.reading.specs.Reader.{Reader, many}
+use Rattle.reading.specs.Lists.{distinct}
+use Rattle.reading.specs.Pad.{pad}
+use Rattle.floors.specs.Content.{Class, Floor, xList, classCount, valueCount}
+use Rattle.floors.specs.Layout.{classRow}
+use Rattle.floors.specs.Reading.{class, xValues, Ends, ends}
+
+-- the count of classes that the first n partitions name
+unfoldable pub classesTo : List ℕ → ℕ → ℕ
+classesTo partitions zero = 0
+classesTo partitions (suc n) = max (classesTo partitions n) (suc (getD partitions n 0))
+
+-- the count of X values of the first n partitions, where `classes` holds the rows of the classes
+unfoldable pub valuesTo : List ℕ → List ℕ → ℕ → ℕ
+valuesTo classes partitions zero = 0
+valuesTo classes partitions (suc n) = valuesTo classes partitions n + getD classes (11 * getD partitions n 0) 0
+
+-- the row of a class whose books were read last
+unfoldable pub classRowOf : ℕ → ℕ → ℕ → List ℕ → List ℕ
+classRowOf dimensions subclasses master books = classRow (record { dimensions = dimensions; subclasses = subclasses; master = master; books = books })
+
+-- what follows multiplier and range bits (004, steps 15 to 22)
+unfoldable pub endsFrom : ℕ → ℕ → ℕ → ℕ → Reader Ends
+endsFrom place n multiplier rangebits s k =
+    then (xValues place rangebits n s k) (λ xs.
+    need (distinct (xList rangebits (xs .0))) (refusal 12 place)
+    (ok (record { multiplier = multiplier; rangebits = rangebits; xs = xs .0 }, xs .1)))
+
+-- the ends of a floor as the program holds them: the X list in a buffer of 65 places
+pub record Held : Type 0 where
+  pub multiplier : ℕ
+  pub rangebits : ℕ
+  pub list : List ℕ
+
+abbrev pub held : ℕ → ℕ → List ℕ → Held
+held multiplier rangebits list = record { multiplier = multiplier; rangebits = rangebits; list = list }
+
+unfoldable pub hold : Ends → Held
+hold e = held (e .multiplier) (e .rangebits) (pad 65 (xList (e .rangebits) (e .xs)))
+
+-- a floor's row, where partitions and classes lie in their buffers
+unfoldable pub rowOf : ℕ → ℕ → List ℕ → List ℕ → Ends → List ℕ
+rowOf count classCount partitions classes e =
+    (count ∷ classCount ∷ e .multiplier ∷ e .rangebits ∷ (2 + length (e .xs)) ∷ [])
+    ++ (partitions ++ (classes ++ pad 65 (xList (e .rangebits) (e .xs))))
+
+-- what follows the partitions
+unfoldable pub floorFrom : ℕ → ℕ → List ℕ → Reader Floor
+floorFrom books place partitions s k =
+    then (many (class books) (classCount partitions) s k) (λ classes.
+    then (ends place (valueCount (map (λ c. c .dimensions) (classes .0)) partitions) s (classes .1)) (λ e.
+    ok (record { partitions = partitions; classes = classes .0; multiplier = e .0 .multiplier; rangebits = e .0 .rangebits; xs = e .0 .xs }, e .1)))
