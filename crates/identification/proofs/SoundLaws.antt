@@ -20,7 +20,8 @@ use Rattle.bits.specs.Cursors.{refusalOf}
 use Rattle.header.specs.Header.{commonHeader, framing}
 use Rattle.identification.specs.Identification.{stream, bitrates, blockSize, blockSizes, identification}
 use Rattle.identification.specs.Answers.{identified}
-use Rattle.identification.specs.Sound.{listed, allowedSizes, Sound, AcceptedSound}
+use Rattle.reading.specs.Lists.{listed}
+use Rattle.identification.specs.Sound.{allowedSizes, Sound, AcceptedSound}
 use Rattle.identification.specs.declared.Identity.{Identity}
 use Rattle.identification.specs.declared.Identified.{Identified}
 use Rattle.identification.specs.declared.Identified.the-variants.{Accepted, Refused}

@@ -1,17 +1,12 @@
 -- When an identity is sound: refusals 4 and 14 would not refuse it (01, "What the reader takes and gives").
 use Prim.Native.Nat.{ℕ, _≤_}
-use mathlib.Core.Bool.{Bool, true, false, _||_}
+use mathlib.Core.Bool.{true}
 use mathlib.Core.List.{List, [], _∷_}
 use mathlib.Core.Path.{_≡_}
-use lib.Dec.{eqb}
+use Rattle.reading.specs.Lists.{listed}
 use Rattle.identification.specs.declared.Identity.{Identity}
 use Rattle.identification.specs.declared.Identified.{Identified}
 use Rattle.identification.specs.declared.Identified.the-variants.{Accepted, Refused}
-
--- n stands in the list
-unfoldable pub listed : ℕ → List ℕ → Bool
-listed n [] = false
-listed n (x ∷ xs) = eqb n x || listed n xs
 
 -- the block sizes that Vorbis I allows (003, 4.2.2)
 abbrev pub allowedSizes : List ℕ

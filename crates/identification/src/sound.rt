@@ -4,7 +4,8 @@ use limits::Limits;
 ghost use mathlib.Core.Path.{_≡_};
 ghost use mathlib.Core.Bool.{true};
 ghost use mathlib.Core.Logic.{_↔_};
-ghost use Rattle.identification.specs.Sound.{listed, allowedSizes, Sound};
+ghost use Rattle.reading.specs.Lists.{listed};
+ghost use Rattle.identification.specs.Sound.{allowedSizes, Sound};
 
 // Whether n is one of the eight block sizes.
 pub fn is_block_size(n: u32) -> bool

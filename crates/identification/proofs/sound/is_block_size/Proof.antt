@@ -5,7 +5,8 @@ use mathlib.Core.Path.{_≡_, refl, sym, _∙_}
 use native.Mathlib.Omega.{arith}
 use lib.ListN.{drop}
 use borrow.Author.Needs.{needs}
-use Rattle.identification.specs.Sound.{listed, allowedSizes}
+use Rattle.reading.specs.Lists.{listed}
+use Rattle.identification.specs.Sound.{allowedSizes}
 use Rattle.identification.proofs.SoundLaws.{listed-end, listed-here, listed-later}
 use Rattle.identification.proofs.sound.is_block_size.Statement.{statement}
 use Rattle.identification.proofs.sound.is_block_size.Tie as tie
