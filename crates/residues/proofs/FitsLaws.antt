@@ -134,8 +134,8 @@ module _ (f : ℕ → Bool) (plan : List (List ℕ)) (classes : ℕ) where
     pub rows-failed : not r ≡ true → false ≡ all f (rows (λ row. row) (take classes plan))
     rows-failed q =
         let d : take classes plan ≡ take (i + 1) plan ++ take (classes - (i + 1)) (drop (i + 1) plan) =
-            let e : classes ≡ (i + 1) + (classes - (i + 1)) = omega arith in
-            ap (λ (n : ℕ). take n plan) e ∙ take-add (i + 1) (classes - (i + 1)) plan in
+        let e : classes ≡ (i + 1) + (classes - (i + 1)) = omega arith in
+        ap (λ (n : ℕ). take n plan) e ∙ take-add (i + 1) (classes - (i + 1)) plan in
         let no : all f (rows (λ row. row) (take (i + 1) plan)) ≡ false = one-more ∙ not-true r q in
         sym
         (ap (λ (l : List (List ℕ)). all f (rows (λ row. row) l)) d

@@ -91,24 +91,24 @@ residue-valid books s k x e =
     let g : _≡_ {A = Residue × ℕ} (withPlan (a .0 .0) (c .0 .0), c .0 .1) x = same-ok (ok (withPlan (a .0 .0) (c .0 .0), c .0 .1)) refl (d .1) in
     let h = head-sound (books .count) s k {h = a .0 .0} {n = a .0 .1} (a .1) in
     let m : length (b .0 .0) ≡ a .0 .0 .classifications =
-        long-ok (a .0 .0 .classifications) (many cascade (a .0 .0 .classifications) s (a .0 .1)) (many-long cascade (a .0 .0 .classifications) s (a .0 .1)) (b .0) (b .1) in
+    long-ok (a .0 .0 .classifications) (many cascade (a .0 .0 .classifications) s (a .0 .1)) (many-long cascade (a .0 .0 .classifications) s (a .0 .1)) (b .0) (b .1) in
     let n : length (c .0 .0) ≡ length (b .0 .0) =
-        long-ok (length (b .0 .0)) (each (planRow (books .count)) (b .0 .0) s (b .0 .1)) (each-long (planRow (books .count)) (b .0 .0) s (b .0 .1)) (c .0) (c .1) in
+    long-ok (length (b .0 .0)) (each (planRow (books .count)) (b .0 .0) s (b .0 .1)) (each-long (planRow (books .count)) (b .0 .0) s (b .0 .1)) (c .0) (c .1) in
     let valid : ValidResidue books (withPlan (a .0 .0) (c .0 .0)) =
-        record {
-          type = h .type;
-          begin = h .begin;
-          end = h .end;
-          size-low = h .size-low;
-          size-high = h .size-high;
-          classes-low = h .classes-low;
-          classes-high = h .classes-high;
-          classbook = h .classbook;
-          plan = n ∙ m;
-          passes = rows8 (b .0 .0) (b .0 .1) (c .0) (c .1);
-          set-up = set-up (b .0 .0) (b .0 .1) (c .0) (c .1);
-          fits = d .0;
-        } in
+    record {
+      type = h .type;
+      begin = h .begin;
+      end = h .end;
+      size-low = h .size-low;
+      size-high = h .size-high;
+      classes-low = h .classes-low;
+      classes-high = h .classes-high;
+      classbook = h .classbook;
+      plan = n ∙ m;
+      passes = rows8 (b .0 .0) (b .0 .1) (c .0) (c .1);
+      set-up = set-up (b .0 .0) (b .0 .1) (c .0) (c .1);
+      fits = d .0;
+    } in
     rw (ap (λ (z : Residue × ℕ). z .0) (sym g)) valid
   where
     rows8 : (l : List ℕ) (j : ℕ) (y : List (List ℕ) × ℕ) → each (planRow (books .count)) l s j ≡ ok y → Rows8 (y .0)
@@ -121,6 +121,7 @@ residue-valid books s k x e =
         (planRow (books .count))
         s
         (λ c j y f. row-read-long (books .count) c s j f)
+
     set-up : (l : List ℕ) (j : ℕ) (y : List (List ℕ) × ℕ) → each (planRow (books .count)) l s j ≡ ok y → SetUp (books .count) (rows (λ row. row) (y .0))
     set-up =
         each-all
@@ -172,10 +173,10 @@ pub decode-rows : (books : Books) (r : Residue) → ValidResidue books r → (h 
 unfolding decodeResidue headRow
 decode-rows books r v h p =
     let e : chunks (r .classifications) (planTable r ++ p) ≡ r .plan =
-        ap (λ (l : List ℕ). chunks (r .classifications) (l ++ p)) (planTable-is books r v)
-        ∙ ap (chunks (r .classifications)) (append-assoc (rows (λ row. row) (r .plan)) (pad (512 - 8 * r .classifications) []) p)
-        ∙ ap (λ (n : ℕ). chunks n (rows (λ row. row) (r .plan) ++ (pad (512 - 8 * r .classifications) [] ++ p))) (sym (v .plan))
-        ∙ chunks-rows (r .plan) (pad (512 - 8 * r .classifications) [] ++ p) (v .passes) in
+    ap (λ (l : List ℕ). chunks (r .classifications) (l ++ p)) (planTable-is books r v)
+    ∙ ap (chunks (r .classifications)) (append-assoc (rows (λ row. row) (r .plan)) (pad (512 - 8 * r .classifications) []) p)
+    ∙ ap (λ (n : ℕ). chunks n (rows (λ row. row) (r .plan) ++ (pad (512 - 8 * r .classifications) [] ++ p))) (sym (v .plan))
+    ∙ chunks-rows (r .plan) (pad (512 - 8 * r .classifications) [] ++ p) (v .passes) in
     λ j. record { type = r .type; begin = r .begin; end = r .end; size = r .size; classifications = r .classifications; classbook = r .classbook; plan = e j }
 
 pub decode-row : (books : Books) (r : Residue) → ValidResidue books r → decodeResidue (headRow r) (planTable r) ≡ r

@@ -182,12 +182,12 @@ module _ (s : List ℕ) (count classes : ℕ) (cascades : List ℕ) (k₀ : Curs
           pub residue-written : not rp ≡ false → (residues plans : List ℕ) (index : ℕ) {residues′ plans′ : List ℕ} → residues′ ≡ sets residues (6 * index) (headNumbers hd)
               → plans′ ≡ sets plans (512 * index) (rows (λ row. row) plan)
               → Wrote (into1 putResidue (residueFrom (booksOf count t) (position place) hd (take classes cascades) s (position k₀)) (tablesAt residues plans index)) (Next c)
-                  (tablesAt residues′ plans′ (index + 1))
+              (tablesAt residues′ plans′ (index + 1))
           unfolding residueFrom into1 mapped putResidue putRow headRow planTable
           residue-written q residues plans index {residues′} {plans′} a b =
               let f : residueFits (booksOf count t) (withPlan hd (read .0)) ≡ true = whole-fits ∙ not-false rp q in
               let g : rows (λ row. row) plan ≡ pad 512 (rows (λ row. row) (read .0)) =
-                  ap (rows (λ row. row)) (sym (read .2)) ∙ rows-padWith 64 512 (read .0) refl (rw (← read-is) (rows8-take plan classes (w .grid .passes))) in
+              ap (rows (λ row. row)) (sym (read .2)) ∙ rows-padWith 64 512 (read .0) refl (rw (← read-is) (rows8-take plan classes (w .grid .passes))) in
               let m : 6 * index + 6 ≡ 6 * (index + 1) = omega arith in
               let n : 512 * index + length (pad 512 (rows (λ row. row) (read .0))) ≡ 512 * (index + 1) = rw length-pad (omega arith) in
               let o : sets plans (512 * index) (pad 512 (rows (λ row. row) (read .0))) ≡ plans′ = ap (sets plans (512 * index)) (sym g) ∙ sym b in

@@ -58,7 +58,7 @@ module _ (t : List ℕ) (count : ℕ) (s : List ℕ) (k : Cursor) (T U : Tables)
         let few = head-sound count s (position k) (head-is p q) .classes-high in
         let l : length (m .0) ≡ classes = long (many cascade classes s (position k₁)) (many-long cascade classes s (position k₁)) (m .1) in
         let f : take (h .classifications) numbers ≡ m .0 =
-            ap (λ (j : ℕ). take j numbers) (sym e ∙ sym l) ∙ ap (take (length (m .0))) (sym (m .2)) ∙ take-padWith 0 64 (m .0) (omega arith) in
+        ap (λ (j : ℕ). take j numbers) (sym e ∙ sym l) ∙ ap (take (length (m .0))) (sym (m .2)) ∙ take-padWith 0 64 (m .0) (omega arith) in
         let g : many cascade (h .classifications) s (position k₁) ≡ ok (m .0, position k₂) = ap (λ (j : ℕ). many cascade j s (position k₁)) (sym e) ∙ m .1 in
         rw (head-is p q, g, ← f) x
       where

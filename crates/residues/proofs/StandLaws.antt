@@ -147,7 +147,7 @@ module _ (books : Books) (n : ℕ) (residues plans : List ℕ) where
   module _ {i : ℕ} (w : Standing i) where
     turn : i < n
         → residuesTest books (n - i) (drop (6 * i) residues) (drop (512 * i) plans)
-            ≡ residueTest books (drop (6 * i) residues) (drop (512 * i) plans) && residuesTest books (n - (i + 1)) (drop (6 * (i + 1)) residues) (drop (512 * (i + 1)) plans)
+        ≡ residueTest books (drop (6 * i) residues) (drop (512 * i) plans) && residuesTest books (n - (i + 1)) (drop (6 * (i + 1)) residues) (drop (512 * (i + 1)) plans)
     unfolding residuesTest
     turn h =
         let e : n - i ≡ suc (n - (i + 1)) = omega arith in
@@ -162,7 +162,7 @@ module _ (books : Books) (n : ℕ) (residues plans : List ℕ) where
       pub standing-next : not r ≡ false → Standing (i + 1)
       standing-next q =
           let k : residuesTest books (n - (i + 1)) (drop (6 * (i + 1)) residues) (drop (512 * (i + 1)) plans) ≡ residuesTest books (n - i) (drop (6 * i) residues) (drop (512 * i) plans) =
-              sym (turn h ∙ rw (← p, not-false r q)) in
+          sym (turn h ∙ rw (← p, not-false r q)) in
           record { within = omega arith; rest = k ∙ w .rest }
 
     -- the zeros behind the last residue
@@ -186,5 +186,5 @@ module _ (books : Books) (n : ℕ) (residues plans : List ℕ) where
             → residuesTest books n residues plans ≡ r₂
         tail-judged q {m₂} e {r₂} p₂ =
             let s : r₂ ≡ all (λ b. eqb b 0) (take (length plans - 512 * m) (drop (512 * m) plans)) =
-                p₂ ∙ ap (λ (k : ℕ). all (λ b. eqb b 0) (take (length plans - 512 * k) (drop (512 * k) plans))) (e ∙ sym em) in
+            p₂ ∙ ap (λ (k : ℕ). all (λ b. eqb b 0) (take (length plans - 512 * k) (drop (512 * k) plans))) (e ∙ sym em) in
             behind ∙ rw (← p, not-false r q) (sym s)

@@ -139,11 +139,11 @@ residue-passes books r v h p =
     let whole : planTable r ++ p ≡ rows (λ row. row) (r .plan) ++ (z ++ p) = ap (λ (l : List ℕ). l ++ p) (planTable-is books r v) ∙ append-assoc (rows (λ row. row) (r .plan)) z p in
     let long : length (rows (λ row. row) (r .plan)) ≡ 8 * r .classifications = rows8-long (r .plan) (v .passes) ∙ ap (λ (n : ℕ). 8 * n) (v .plan) in
     let front : take (8 * r .classifications) (planTable r ++ p) ≡ rows (λ row. row) (r .plan) =
-        ap (take (8 * r .classifications)) whole ∙ take-at (rows (λ row. row) (r .plan)) (z ++ p) (8 * r .classifications) long in
+    ap (take (8 * r .classifications)) whole ∙ take-at (rows (λ row. row) (r .plan)) (z ++ p) (8 * r .classifications) long in
     let back : take (512 - 8 * r .classifications) (drop (8 * r .classifications) (planTable r ++ p)) ≡ z =
-        ap (λ (l : List ℕ). take (512 - 8 * r .classifications) (drop (8 * r .classifications) l)) whole
-        ∙ ap (take (512 - 8 * r .classifications)) (drop-at (rows (λ row. row) (r .plan)) (z ++ p) (8 * r .classifications) long)
-        ∙ take-at z p (512 - 8 * r .classifications) (length-pad (512 - 8 * r .classifications) []) in
+    ap (λ (l : List ℕ). take (512 - 8 * r .classifications) (drop (8 * r .classifications) l)) whole
+    ∙ ap (take (512 - 8 * r .classifications)) (drop-at (rows (λ row. row) (r .plan)) (z ++ p) (8 * r .classifications) long)
+    ∙ take-at z p (512 - 8 * r .classifications) (length-pad (512 - 8 * r .classifications) []) in
     rw
     (le-leb (r .type) 2 (v .type), lt-ltb (r .begin) (2 ^ 24) (v .begin), lt-ltb (r .end) (2 ^ 24) (v .end), le-leb 1 (r .size) (v .size-low), le-leb (r .size) (2 ^ 24) (v .size-high), le-leb 1 (r .classifications) (v .classes-low), le-leb (r .classifications) 64 (v .classes-high), lt-ltb (r .classbook) (books .count) (v .classbook), f .0, g .0, front, v .set-up, g .1, back)
     (pad-zeros (512 - 8 * r .classifications))
@@ -160,19 +160,21 @@ content books (suc n) h p room room-p e =
     let r : Residue = decodeResidue h p in
     let i = content books n (drop 6 h) (drop 512 p) (simp length-drop (omega arith)) (simp length-drop (omega arith)) (a .1) in
     let x : length h ≡ length (headRow r) + length (drop 6 h) = rw length-headRow (simp length-drop (omega arith)) in
-    let y : length p ≡ length (planTable r) + length (drop 512 p) = rw length-planTable (simp length-drop (omega arith)) in
-    (r ∷ i .0, record {
-      count = ap suc (i .1 .count);
-      valid = (d .valid, i .1 .valid);
-      head-rows =
-          sym (take-append-drop 6 h)
-          ∙ (λ j. sym (d .head-row) j ++ i .1 .head-rows j)
-          ∙ sym (pad-cat (length h) (headRow r) (rows headRow (i .0)) (length (drop 6 h)) x);
-      plan-rows =
-          sym (take-append-drop 512 p)
-          ∙ (λ j. sym (d .plan-row) j ++ i .1 .plan-rows j)
-          ∙ sym (pad-cat (length p) (planTable r) (rows planTable (i .0)) (length (drop 512 p)) y);
-    })
+    let y : length p ≡ length (planTable r) + length (drop 512 p) = rw length-planTable (simp length-drop (omega arith)) in (
+      r ∷ i .0,
+      record {
+        count = ap suc (i .1 .count);
+        valid = (d .valid, i .1 .valid);
+        head-rows =
+            sym (take-append-drop 6 h)
+            ∙ (λ j. sym (d .head-row) j ++ i .1 .head-rows j)
+            ∙ sym (pad-cat (length h) (headRow r) (rows headRow (i .0)) (length (drop 6 h)) x);
+        plan-rows =
+            sym (take-append-drop 512 p)
+            ∙ (λ j. sym (d .plan-row) j ++ i .1 .plan-rows j)
+            ∙ sym (pad-cat (length p) (planTable r) (rows planTable (i .0)) (length (drop 512 p)) y);
+      },
+    )
 
 -- tables that hold a content pass
 passes-all : (books : Books) (rs : List Residue) (n a b : ℕ) → length rs ≡ n → AllValid books rs → 6 * n ≤ a → 512 * n ≤ b
@@ -184,7 +186,7 @@ passes-all books (r ∷ rs) zero a b e v h g = absurd (omega arith)
 passes-all books (r ∷ rs) (suc n) a b e v h g =
     let x : pad a (headRow r ++ rows headRow rs) ≡ headRow r ++ pad (a - 6) (rows headRow rs) = pad-cat a (headRow r) (rows headRow rs) (a - 6) (rw length-headRow (omega arith)) in
     let y : pad b (planTable r ++ rows planTable rs) ≡ planTable r ++ pad (b - 512) (rows planTable rs) =
-        pad-cat b (planTable r) (rows planTable rs) (b - 512) (rw length-planTable (omega arith)) in
+    pad-cat b (planTable r) (rows planTable rs) (b - 512) (rw length-planTable (omega arith)) in
     rw
     (x, y, drop-at (headRow r) (pad (a - 6) (rows headRow rs)) 6 (length-headRow r), drop-at (planTable r) (pad (b - 512) (rows planTable rs)) 512 (length-planTable r))
     (both (residue-passes books r (v .0) (pad (a - 6) (rows headRow rs)) (pad (b - 512) (rows planTable rs))) (passes-all books rs n (a - 6) (b - 512) (omega arith) (v .1) (omega arith) (omega arith)))
@@ -198,11 +200,12 @@ module _ (books : Books) (n : ℕ) (residues plans : List ℕ) where
   short-plans h = (λ e. let z : _≡_ {A = ℕ} 0 1 = cc in absurd (omega arith), λ s. let r = s .room-plans in absurd (omega arith))
 
   pub stand-iff : n ≤ 64 → 384 ≤ length residues → 32768 ≤ length plans → {r : Bool} → residuesTest books n residues plans ≡ r → (r ≡ true) ↔ ResiduesStand books n residues plans
-  stand-iff few a b {r} e =
-      (λ t.
-      let c = content books n residues plans (omega arith) (omega arith) (e ∙ t) in
-      record { room = a; room-plans = b; content = c .0; holds = c .1 }
-      , λ s.
-      sym e
-      ∙ (λ j. residuesTest books n (s .holds .head-rows j) (s .holds .plan-rows j))
-      ∙ passes-all books (s .content) n (length residues) (length plans) (s .holds .count) (s .holds .valid) (omega arith) (omega arith))
+  stand-iff few a b {r} e = (
+    λ t.
+        let c = content books n residues plans (omega arith) (omega arith) (e ∙ t) in
+        record { room = a; room-plans = b; content = c .0; holds = c .1 },
+    λ s.
+        sym e
+        ∙ (λ j. residuesTest books n (s .holds .head-rows j) (s .holds .plan-rows j))
+        ∙ passes-all books (s .content) n (length residues) (length plans) (s .holds .count) (s .holds .valid) (omega arith) (omega arith),
+  )

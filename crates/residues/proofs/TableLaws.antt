@@ -71,14 +71,14 @@ module _ (rs : List Residue) (d : Residue) (i : ℕ) (h : i < length rs) where
   -- the fields before the plan
   pub head-stands-at : (t : List ℕ) (n : ℕ) → 6 * length rs ≤ n → t ≡ pad n (rows headRow rs)
       → headAt t i
-          ≡ record {
-            type = getD rs i d .type;
-            begin = getD rs i d .begin;
-            end = getD rs i d .end;
-            size = getD rs i d .size;
-            classifications = getD rs i d .classifications;
-            classbook = getD rs i d .classbook;
-          }
+      ≡ record {
+        type = getD rs i d .type;
+        begin = getD rs i d .begin;
+        end = getD rs i d .end;
+        size = getD rs i d .size;
+        classifications = getD rs i d .classifications;
+        classbook = getD rs i d .classbook;
+      }
   unfolding headRow
   head-stands-at t n room e =
       λ j. record {

@@ -8,3 +8,4 @@ pub mod Slots
 pub mod Plans
 pub mod Decode
 pub mod Stand
+pub mod Vectors

@@ -67,7 +67,14 @@ pub fn head(residues: &[u32], residue: u32) -> Head
     let size = size(residues, residue);
     let classifications = classifications(residues, residue);
     let classbook = classbook(residues, residue);
-    Head { kind, begin, end, size, classifications, classbook }
+    Head {
+        kind,
+        begin,
+        end,
+        size,
+        classifications,
+        classbook,
+    }
 }
 
 // The place of a class and a pass in a residue's plan: a book's number plus one, or 0 for nothing.
