@@ -20,7 +20,7 @@ use Rattle.residues.specs.Reading.{Books, Head, cascade, passes, planBoo
 use Rattle.residues.specs.Layout.{headRow, planTable}
 use Rattle.residues.specs.Valid.{Rows8, ValidResidue}
 use Rattle.residues.specs.Decode.{chunks, decodeResidue}
-use Rattle.residues.specs.Stand.{AllValid}
+use Rattle.residues.specs.Stand.{AllValid, AcceptedValid}
 use Rattle.residues.proofs.PlanLaws.{place-sound}
 use Rattle.residues.proofs.RowsLaws.{all-append}
 use Rattle.residues.proofs.HeadSound.{head-sound}
@@ -144,6 +144,9 @@ residues-valid books s =
     (residue books)
     s
     (λ k x e. residue-valid books s k x e)
+
+pub accepted-valid : (books : Books) (n : ℕ) (s : List ℕ) (k : ℕ) → AcceptedValid books n s k
+accepted-valid books n s k = record { valid = λ x e. residues-valid books s n k x e }
 
 -- rows of 8 that begin a list are its chunks
 pub chunks-rows : (plan : List (List ℕ)) (rest : List ℕ) → Rows8 plan → chunks (length plan) (rows (λ row. row) plan ++ rest) ≡ plan

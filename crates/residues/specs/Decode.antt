@@ -24,3 +24,8 @@ headAt t i =
 
 unfoldable pub decodeResidue : List ℕ → List ℕ → Residue
 decodeResidue h p = withPlan (headAt h 0) (chunks (headAt h 0 .classifications) p)
+
+-- n residues
+unfoldable pub decodeResidues : ℕ → List ℕ → List ℕ → List Residue
+decodeResidues zero h p = []
+decodeResidues (suc n) h p = decodeResidue h p ∷ decodeResidues n (drop 6 h) (drop 512 p)

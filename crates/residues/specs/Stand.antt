@@ -5,14 +5,16 @@ use mathlib.Core.List.{List, [], _∷_}
 use mathlib.Core.Path.{_≡_}
 use lib.Dec.{eqb, leb, ltb}
 use lib.ListN.{length, take, drop}
+use Rattle.reading.specs.Outcome.{ok}
+use Rattle.reading.specs.Reader.{many}
 use Rattle.reading.specs.Pad.{pad}
 use Rattle.reading.specs.Lists.{all, rows}
 use Rattle.residues.specs.Content.{Residue}
-use Rattle.residues.specs.Reading.{Books, Head, placeFits}
+use Rattle.residues.specs.Reading.{Books, Head, placeFits, residue}
 use Rattle.residues.specs.Layout.{headRow, planTable}
 use Rattle.residues.specs.Valid.{ValidResidue}
 use Rattle.residues.specs.Plans.{headFits}
-use Rattle.residues.specs.Decode.{headAt}
+use Rattle.residues.specs.Decode.{headAt, decodeResidues}
 
 unfoldable pub AllValid : Books → List Residue → Type 0
 AllValid books [] = Unit {0}
@@ -31,6 +33,14 @@ pub record ResiduesStand (books : Books) (n : ℕ) (residues plans : List ℕ) :
   pub room-plans : 32768 ≤ length plans
   pub content : List Residue
   pub holds : Holds books n residues plans content
+
+-- the content is decided by the tables: no two contents share their rows
+pub record OneContent (books : Books) (n : ℕ) (residues plans : List ℕ) : Type 0 where
+  pub decoded : (s : ResiduesStand books n residues plans) → s .content ≡ decodeResidues n residues plans
+
+-- residues that a packet is accepted with meet every rule
+pub record AcceptedValid (books : Books) (n : ℕ) (packet : List ℕ) (k : ℕ) : Type 0 where
+  pub valid : (x : List Residue × ℕ) → many (residue books) n packet k ≡ ok x → AllValid books (x .0)
 
 -- the same as a test along the tables: every number within its field, refusals 10, 11 and 13
 unfoldable pub headTest : Books → Head → Bool

@@ -15,6 +15,7 @@ ghost use Rattle.residues.specs.Layout.{putResidue};
 ghost use Rattle.residues.specs.FromTable.{booksOf};
 ghost use Rattle.residues.specs.Heads.{headOf, headNumbers};
 ghost use Rattle.residues.specs.Plans.{residueFrom, tablesAt};
+ghost use Rattle.residues.specs.Stand.{AcceptedValid};
 
 fn wide(x: u32) -> usize
     ensures { λ r. ⌜ r ≡ x ⌝ }
@@ -137,6 +138,7 @@ pub fn read_residues(
 ) -> Step
     requires { ⌜ n ≤ 64 ⌝ }
     ensures { λ r. ⌜ Wrote (into putResidue (many (residue (booksOf count (now (books .entry)))) n (now (packet .entry)) (position from)) (tablesAt (now (residues .entry)) (now (plans .entry)) 0)) r (tablesAt (now (residues .exit)) (now (plans .exit)) n) ⌝ }
+    ensures { λ _. ⌜ AcceptedValid (booksOf count (now (books .entry))) n (now (packet .entry)) (position from) ⌝ }
 {
     let mut at = from;
     let mut i: usize = 0;

@@ -9,7 +9,7 @@ ghost use lib.ListN.{take, drop};
 ghost use Rattle.reading.specs.Lists.{all};
 ghost use Rattle.residues.specs.FromTable.{booksOf};
 ghost use Rattle.residues.specs.Heads.{headOf};
-ghost use Rattle.residues.specs.Stand.{headTest, residueTest, ResiduesStand};
+ghost use Rattle.residues.specs.Stand.{headTest, residueTest, ResiduesStand, OneContent};
 
 fn wide(x: u32) -> usize
     ensures { λ r. ⌜ r ≡ x ⌝ }
@@ -130,6 +130,7 @@ fn stands(residues: &[u32], plans: &[u16], index: u32, count: u32, books: &[u32]
 pub fn are_residues(residues: &[u32], plans: &[u16], n: u32, count: u32, books: &[u32]) -> bool
     requires { ⌜ n ≤ 64 ⌝ }
     ensures { λ r. ⌜ (r ≡ true) ↔ ResiduesStand (booksOf count (now (books .entry))) n (now (residues .entry)) (now (plans .entry)) ⌝ }
+    ensures { λ _. ⌜ OneContent (booksOf count (now (books .entry))) n (now (residues .entry)) (now (plans .entry)) ⌝ }
 {
     if residues.len() < 384 {
         return false;

@@ -1,7 +1,7 @@
 use Prim.Native.Nat.{_-_}
 use Rattle.residues.specs.FromTable.{booksOf}
 use Rattle.residues.proofs.StandLaws.{Standing, standing-start, standing-next, standing-failed, tail-failed, tail-judged}
-use Rattle.residues.proofs.StandTheorem.{short, short-plans, stand-iff}
+use Rattle.residues.proofs.StandTheorem.{one-content, short, short-plans, stand-iff}
 use borrow.Author.Needs.{needs}
 use Rattle.residues.proofs.stand.are_residues.Statement.{statement}
 use Rattle.residues.proofs.stand.are_residues.Tie as tie
@@ -20,11 +20,11 @@ abbrev μ-loop : tie.MeasureT-loop
 
 -- src/stand.rt:135:9
 returns : tie.Need-returns Inv-loop μ-loop
-returns c = short (booksOf (c .before .before .before .before .args .count) (c .before .before .before .before .args .books .now)) (c .before .before .before .before .args .n) (c .before .before .before .before .args .residues .now) (c .before .before .before .before .args .plans .now) (search needs)
+returns c = (short (booksOf (c .before .before .before .before .args .count) (c .before .before .before .before .args .books .now)) (c .before .before .before .before .args .n) (c .before .before .before .before .args .residues .now) (c .before .before .before .before .args .plans .now) (search needs), one-content (booksOf (c .before .before .before .before .args .count) (c .before .before .before .before .args .books .now)) (c .before .before .before .before .args .n) (c .before .before .before .before .args .residues .now) (c .before .before .before .before .args .plans .now) (c .before .before .before .before .pre))
 
 -- src/stand.rt:138:9
 returns-2 : tie.Need-returns-2 Inv-loop μ-loop
-returns-2 c = short-plans (booksOf (c .before .before .before .before .before .args .count) (c .before .before .before .before .before .args .books .now)) (c .before .before .before .before .before .args .n) (c .before .before .before .before .before .args .residues .now) (c .before .before .before .before .before .args .plans .now) (search needs)
+returns-2 c = (short-plans (booksOf (c .before .before .before .before .before .args .count) (c .before .before .before .before .before .args .books .now)) (c .before .before .before .before .before .args .n) (c .before .before .before .before .before .args .residues .now) (c .before .before .before .before .before .args .plans .now) (search needs), one-content (booksOf (c .before .before .before .before .before .args .count) (c .before .before .before .before .before .args .books .now)) (c .before .before .before .before .before .args .n) (c .before .before .before .before .before .args .residues .now) (c .before .before .before .before .before .args .plans .now) (c .before .before .before .before .before .pre))
 
 -- src/stand.rt:141:5
 loop-holds : tie.Need-loop-holds Inv-loop μ-loop
@@ -36,7 +36,7 @@ stands-requires c κs = search needs
 
 -- src/stand.rt:143:13
 returns-3 : tie.Need-returns-3 Inv-loop μ-loop
-returns-3 c = stand-iff (booksOf (c .before .before .before .before .before .before .before .before .before .args .count) (c .before .before .before .before .before .before .before .before .before .args .books .now)) (c .before .before .before .before .before .before .before .before .before .args .n) (c .before .before .before .before .before .before .before .before .before .args .residues .now) (c .before .before .before .before .before .before .before .before .before .args .plans .now) (c .before .before .before .before .before .before .before .before .before .pre) (search needs) (search needs) (standing-failed _ _ _ _ (c .before .before .before .loop .inv) (search needs) (c .before .stands .ensures) (c .if3 .taken))
+returns-3 c = (stand-iff (booksOf (c .before .before .before .before .before .before .before .before .before .args .count) (c .before .before .before .before .before .before .before .before .before .args .books .now)) (c .before .before .before .before .before .before .before .before .before .args .n) (c .before .before .before .before .before .before .before .before .before .args .residues .now) (c .before .before .before .before .before .before .before .before .before .args .plans .now) (c .before .before .before .before .before .before .before .before .before .pre) (search needs) (search needs) (standing-failed _ _ _ _ (c .before .before .before .loop .inv) (search needs) (c .before .stands .ensures) (c .if3 .taken)), one-content (booksOf (c .before .before .before .before .before .before .before .before .before .args .count) (c .before .before .before .before .before .before .before .before .before .args .books .now)) (c .before .before .before .before .before .before .before .before .before .args .n) (c .before .before .before .before .before .before .before .before .before .args .residues .now) (c .before .before .before .before .before .before .before .before .before .args .plans .now) (c .before .before .before .before .before .before .before .before .before .pre))
 
 -- src/stand.rt:145:13
 add-i : tie.Need-add-i Inv-loop μ-loop
@@ -64,7 +64,7 @@ zeros-wide-requires c κs = search needs
 
 -- src/stand.rt:148:9
 returns-4 : tie.Need-returns-4 Inv-loop μ-loop
-returns-4 c = stand-iff (booksOf (c .before .before .before .before .before .before .before .before .before .before .args .count) (c .before .before .before .before .before .before .before .before .before .before .args .books .now)) (c .before .before .before .before .before .before .before .before .before .before .args .n) (c .before .before .before .before .before .before .before .before .before .before .args .residues .now) (c .before .before .before .before .before .before .before .before .before .before .args .plans .now) (c .before .before .before .before .before .before .before .before .before .before .pre) (search needs) (search needs) (tail-failed _ _ _ _ (c .before .before .before .before .loop .inv) (search needs) (c .before .before .wide .ensures) (c .before .zeros-wide .ensures) (c .if4 .taken))
+returns-4 c = (stand-iff (booksOf (c .before .before .before .before .before .before .before .before .before .before .args .count) (c .before .before .before .before .before .before .before .before .before .before .args .books .now)) (c .before .before .before .before .before .before .before .before .before .before .args .n) (c .before .before .before .before .before .before .before .before .before .before .args .residues .now) (c .before .before .before .before .before .before .before .before .before .before .args .plans .now) (c .before .before .before .before .before .before .before .before .before .before .pre) (search needs) (search needs) (tail-failed _ _ _ _ (c .before .before .before .before .loop .inv) (search needs) (c .before .before .wide .ensures) (c .before .zeros-wide .ensures) (c .if4 .taken)), one-content (booksOf (c .before .before .before .before .before .before .before .before .before .before .args .count) (c .before .before .before .before .before .before .before .before .before .before .args .books .now)) (c .before .before .before .before .before .before .before .before .before .before .args .n) (c .before .before .before .before .before .before .before .before .before .before .args .residues .now) (c .before .before .before .before .before .before .before .before .before .before .args .plans .now) (c .before .before .before .before .before .before .before .before .before .before .pre))
 
 -- src/stand.rt:150:24
 wide-requires-2 : tie.Need-wide-requires-2 Inv-loop μ-loop
@@ -80,7 +80,7 @@ zeros-requires c κs = search needs
 
 -- src/stand.rt:130:1
 returns-5 : tie.Need-returns-5 Inv-loop μ-loop
-returns-5 c = stand-iff (booksOf (c .before .before .before .before .before .before .before .before .before .before .before .before .args .count) (c .before .before .before .before .before .before .before .before .before .before .before .before .args .books .now)) (c .before .before .before .before .before .before .before .before .before .before .before .before .args .n) (c .before .before .before .before .before .before .before .before .before .before .before .before .args .residues .now) (c .before .before .before .before .before .before .before .before .before .before .before .before .args .plans .now) (c .before .before .before .before .before .before .before .before .before .before .before .before .pre) (search needs) (search needs) (tail-judged _ _ _ _ (c .before .before .before .before .before .before .loop .inv) (search needs) (c .before .before .before .before .wide .ensures) (c .before .before .before .zeros-wide .ensures) (c .before .before .if4 .left) (c .before .wide2 .ensures) (c .zeros .ensures))
+returns-5 c = (stand-iff (booksOf (c .before .before .before .before .before .before .before .before .before .before .before .before .args .count) (c .before .before .before .before .before .before .before .before .before .before .before .before .args .books .now)) (c .before .before .before .before .before .before .before .before .before .before .before .before .args .n) (c .before .before .before .before .before .before .before .before .before .before .before .before .args .residues .now) (c .before .before .before .before .before .before .before .before .before .before .before .before .args .plans .now) (c .before .before .before .before .before .before .before .before .before .before .before .before .pre) (search needs) (search needs) (tail-judged _ _ _ _ (c .before .before .before .before .before .before .loop .inv) (search needs) (c .before .before .before .before .wide .ensures) (c .before .before .before .zeros-wide .ensures) (c .before .before .if4 .left) (c .before .wide2 .ensures) (c .zeros .ensures)), one-content (booksOf (c .before .before .before .before .before .before .before .before .before .before .before .before .args .count) (c .before .before .before .before .before .before .before .before .before .before .before .before .args .books .now)) (c .before .before .before .before .before .before .before .before .before .before .before .before .args .n) (c .before .before .before .before .before .before .before .before .before .before .before .before .args .residues .now) (c .before .before .before .before .before .before .before .before .before .before .before .before .args .plans .now) (c .before .before .before .before .before .before .before .before .before .before .before .before .pre))
 
 pub are-residues-spec : {M : Type 1} → statement M
 are-residues-spec =
