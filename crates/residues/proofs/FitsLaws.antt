@@ -1,19 +1,19 @@
 -- Laws of rule 13 as the code asks them. Assumes nothing.
-use Prim.Native.Nat.{ℕ, zero, suc, _+_, _-_, _*_, _/_, _%_, _^_, _≤_, _<_}
+use Prim.Native.Nat.{ℕ, suc, _+_, _-_, _%_, _^_, _≤_, _<_}
 use native.Mathlib.Nat.{mod-zero}
 use native.Mathlib.Numerals.{add-one}
 use native.Mathlib.Omega.{arith}
 use borrow.Author.Needs.{needs}
 use borrow.Author.Tests.{le-leb, lt-leb, eq-eqb, ne-eqb, not-true, not-false}
 use mathlib.Core.Bool.{Bool, true, false, not, _&&_}
-use mathlib.Core.List.{List, [], _∷_, _++_}
+use mathlib.Core.List.{List, [], _++_}
 use mathlib.Core.Path.{_≡_, refl, sym, ap, _∙_}
 use lib.Dec.{eqb, leb}
 use lib.ListN.{length, getD, take, drop, drop-of-length-le}
 use lib.Seq.{drop-cons, take-nil, take-all, take-add}
 use Rattle.reading.specs.Lists.{all, rows}
 use Rattle.book.specs.Layout.{dimensionsAt, entriesAt, lookupAt}
-use Rattle.residues.specs.Reading.{Books, Head, placeFits}
+use Rattle.residues.specs.Reading.{Head, placeFits}
 use Rattle.residues.specs.FromTable.{booksOf}
 use Rattle.residues.specs.Plans.{Grid, headFits}
 use Rattle.residues.proofs.RowsLaws.{row-long, row-counted, all-append, rows-append, rows-more}

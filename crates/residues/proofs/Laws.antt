@@ -1,14 +1,14 @@
 -- What other crates may cite: an accepted residue meets every rule, a row's length, one row for one content. Assumes nothing.
-use Prim.Native.Nat.{ℕ, zero, suc, _+_, _-_, _*_, _^_, _≤_, _<_}
+use Prim.Native.Nat.{ℕ, zero, suc, _-_, _*_, _≤_}
 use native.Mathlib.Omega.{arith}
 use borrow.Author.Tests.{le-leb}
-use mathlib.Core.Bool.{Bool, true, false, _&&_}
+use mathlib.Core.Bool.{true}
 use mathlib.Core.List.{List, [], _∷_, _++_, append-nil, append-assoc}
 use mathlib.Core.Path.{_≡_, refl, sym, ap, _∙_}
 use lib.Dec.{leb}
-use lib.ListN.{length, getD, take, drop, length-append}
+use lib.ListN.{length, length-append}
 use lib.Seq.{take-at, drop-at}
-use Rattle.reading.specs.Outcome.{refusal, Outcome, ok, bad, then, need}
+use Rattle.reading.specs.Outcome.{refusal, Outcome, ok, bad, then}
 use Rattle.reading.specs.Reader.{Reader, many, each}
 use Rattle.reading.specs.Pad.{pad}
 use Rattle.reading.specs.Lists.{all, rows}
@@ -16,7 +16,7 @@ use Rattle.reading.proofs.Outcomes.{same-ok, then-ok, need-ok}
 use Rattle.reading.proofs.Readers.{Long, many-long, each-long}
 use Rattle.reading.proofs.Pads.{length-pad}
 use Rattle.residues.specs.Content.{Residue}
-use Rattle.residues.specs.Reading.{Books, Head, cascade, passes, planBook, planRow, head, residue, residueFits, withPlan}
+use Rattle.residues.specs.Reading.{Books, cascade, passes, planBook, planRow, head, residue, residueFits, withPlan}
 use Rattle.residues.specs.Layout.{headRow, planTable}
 use Rattle.residues.specs.Valid.{Rows8, ValidResidue}
 use Rattle.residues.specs.Decode.{chunks, decodeResidue}

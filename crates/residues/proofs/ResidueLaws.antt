@@ -1,20 +1,19 @@
 -- Laws of reading one residue and all of them, as the code asks them. Assumes nothing.
-use Prim.Native.Nat.{ℕ, zero, suc, _+_, _-_, _*_, _≤_, _<_}
+use Prim.Native.Nat.{ℕ, _+_, _≤_, _<_}
 use native.Mathlib.Omega.{arith}
 use borrow.Author.Needs.{needs}
-use mathlib.Core.List.{List, [], _∷_}
+use mathlib.Core.List.{List}
 use mathlib.Core.Path.{_≡_, refl, sym, ap, _∙_}
 use lib.ListN.{length, take}
-use Rattle.reading.specs.Outcome.{Outcome, ok, bad, then}
-use Rattle.reading.specs.Reader.{Reader, many, mapped, into, into1}
+use Rattle.reading.specs.Outcome.{Outcome, ok, bad}
+use Rattle.reading.specs.Reader.{many, mapped, into, into1}
 use Rattle.reading.proofs.Readers.{Long, many-long, mapped-ok, mapped-bad}
 use Rattle.bits.specs.declared.Cursor.{Cursor}
 use Rattle.bits.specs.declared.Refusal.{Refusal}
 use Rattle.bits.specs.declared.Step.{Step}
 use Rattle.bits.specs.declared.Step.the-variants.{Next, Refused}
 use Rattle.bits.specs.Cursors.{position, refusalOf, Wrote}
-use Rattle.bits.proofs.Steps.{wrote-ok, wrote-bad, wrote-next, wrote-refused, Rest, loop-start, loop-next, loop-refused, loop-done}
-use Rattle.residues.specs.Content.{Residue}
+use Rattle.bits.proofs.Steps.{wrote-ok, wrote-bad, wrote-refused, Rest, loop-start, loop-next, loop-refused, loop-done}
 use Rattle.residues.specs.Reading.{Books, Head, cascade, head, residue}
 use Rattle.residues.specs.FromTable.{booksOf}
 use Rattle.residues.specs.Heads.{headOf, headRead}

@@ -1,14 +1,14 @@
 -- Laws of recognising residues in the tables, as the code asks them. Assumes nothing.
-use Prim.Native.Nat.{ℕ, zero, suc, _+_, _-_, _*_, _^_, _≤_, _<_}
+use Prim.Native.Nat.{ℕ, suc, _+_, _-_, _*_, _^_, _≤_, _<_}
 use native.Mathlib.Nat.{sub-zero}
 use native.Mathlib.Omega.{arith}
 use borrow.Author.Needs.{needs}
-use borrow.Author.Tests.{le-leb, lt-leb, lt-ltb, le-ltb, leb-true, not-true, not-false}
+use borrow.Author.Tests.{le-leb, lt-leb, lt-ltb, le-ltb, not-true, not-false}
 use mathlib.Core.Bool.{Bool, true, false, not, _&&_}
-use mathlib.Core.List.{List, [], _∷_}
-use mathlib.Core.Path.{_≡_, refl, sym, ap, _∙_}
-use lib.Dec.{eqb, leb, ltb}
-use lib.ListN.{length, getD, take, drop, length-drop}
+use mathlib.Core.List.{List}
+use mathlib.Core.Path.{_≡_, sym, ap, _∙_}
+use lib.Dec.{eqb, leb}
+use lib.ListN.{length, take, drop, length-drop}
 use lib.Seq.{getD-drop, drop-drop, take-all}
 use Rattle.reading.specs.Lists.{all}
 use Rattle.residues.specs.Reading.{Books, Head, placeFits}
@@ -119,21 +119,6 @@ module _ (count : ℕ) (t residues plans : List ℕ) (i : ℕ) (h : D.Head) (e :
 
           pub stands-whole : not r₂ ≡ false → (r₃ : Bool) → r₃ ≡ all (λ b. eqb b 0) (take (512 * w + 512 - (512 * w + 8 * c)) (drop (512 * w + 8 * c) plans)) → r₃ ≡ whole
           stands-whole q r₃ p₃ = sym (parts ∙ rw (← ph, not-false rh qh, ← p₁, not-false r₁ q₁, ← p₂, not-false r₂ q, ← p₃))
-
--- where the head passes, there are at most 64 classes
-pub classes-few : (books : Books) (h : Head) → headTest books h ≡ true → h .classifications ≤ 64
-unfolding headTest
-classes-few books h e = leb-true (h .classifications) 64 (fifth (leb (h .type) 2) (ltb (h .begin) (2 ^ 24)) (ltb (h .end) (2 ^ 24)) (leb 1 (h .size)) (leb (h .size) (2 ^ 24)) (leb 1 (h .classifications)) (leb (h .classifications) 64) _ e)
-  where
-    fifth : (a b c d e f g h : Bool) → a && (b && (c && (d && (e && (f && (g && h)))))) ≡ true → g ≡ true
-    fifth true true true true true true true h x = refl
-    fifth true true true true true true false h x = x
-    fifth true true true true true false g h x = absurd (let z : _≡_ {A = ℕ} 0 1 = cc in omega arith)
-    fifth true true true true false f g h x = absurd (let z : _≡_ {A = ℕ} 0 1 = cc in omega arith)
-    fifth true true true false e f g h x = absurd (let z : _≡_ {A = ℕ} 0 1 = cc in omega arith)
-    fifth true true false d e f g h x = absurd (let z : _≡_ {A = ℕ} 0 1 = cc in omega arith)
-    fifth true false c d e f g h x = absurd (let z : _≡_ {A = ℕ} 0 1 = cc in omega arith)
-    fifth false b c d e f g h x = absurd (let z : _≡_ {A = ℕ} 0 1 = cc in omega arith)
 
 -- all residues: i are done
 module _ (books : Books) (n : ℕ) (residues plans : List ℕ) where

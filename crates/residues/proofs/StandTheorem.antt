@@ -7,13 +7,13 @@ use mathlib.Core.List.{List, [], _∷_, _++_, append-nil, append-assoc}
 use mathlib.Core.Logic.{_↔_}
 use mathlib.Core.Path.{_≡_, refl, sym, ap, _∙_}
 use lib.Dec.{eqb, leb, ltb}
-use lib.ListN.{length, getD, take, drop, length-append, length-drop, take-append-drop}
+use lib.ListN.{length, take, drop, length-drop, take-append-drop}
 use lib.Seq.{take-at, drop-at, take-add, length-take-le}
 use Rattle.reading.specs.Pad.{pad}
 use Rattle.reading.specs.Lists.{all, rows}
 use Rattle.reading.proofs.Pads.{length-pad}
 use Rattle.residues.specs.Content.{Residue}
-use Rattle.residues.specs.Reading.{Books, Head, placeFits, residueFits, withPlan}
+use Rattle.residues.specs.Reading.{Books, Head, placeFits, residueFits}
 use Rattle.residues.specs.Layout.{headRow, planTable}
 use Rattle.residues.specs.Valid.{Rows8, ValidResidue}
 use Rattle.residues.specs.Plans.{headFits}
@@ -201,9 +201,9 @@ decoded-all books (r ∷ rs) zero a b e v h g = absurd (omega arith)
 decoded-all books (r ∷ rs) (suc n) a b e v h g =
     let x : pad a (headRow r ++ rows headRow rs) ≡ headRow r ++ pad (a - 6) (rows headRow rs) = pad-cat a (headRow r) (rows headRow rs) (a - 6) (rw length-headRow (omega arith)) in
     let y : pad b (planTable r ++ rows planTable rs) ≡ planTable r ++ pad (b - 512) (rows planTable rs) =
-        pad-cat b (planTable r) (rows planTable rs) (b - 512) (rw length-planTable (omega arith)) in
+    pad-cat b (planTable r) (rows planTable rs) (b - 512) (rw length-planTable (omega arith)) in
     let first : decodeResidue (headRow r ++ pad (a - 6) (rows headRow rs)) (planTable r ++ pad (b - 512) (rows planTable rs)) ≡ r =
-        decode-rows books r (v .0) (pad (a - 6) (rows headRow rs)) (pad (b - 512) (rows planTable rs)) in
+    decode-rows books r (v .0) (pad (a - 6) (rows headRow rs)) (pad (b - 512) (rows planTable rs)) in
     let rest = decoded-all books rs n (a - 6) (b - 512) (omega arith) (v .1) (omega arith) (omega arith) in
     rw
     (x, y, drop-at (headRow r) (pad (a - 6) (rows headRow rs)) 6 (length-headRow r), drop-at (planTable r) (pad (b - 512) (rows planTable rs)) 512 (length-planTable r), first)

@@ -1,23 +1,23 @@
 -- Laws of reading a residue's numbers back from the tables: as the code asks them, and as the residue that stands there. Assumes nothing.
-use Prim.Native.Nat.{ℕ, zero, suc, _+_, _-_, _*_, _≤_, _<_}
+use Prim.Native.Nat.{ℕ, zero, suc, _+_, _*_, _≤_, _<_}
 use native.Mathlib.Nat.{mul-zero, mul-suc}
 use native.Mathlib.Omega.{arith}
 use borrow.Author.Needs.{needs}
-use mathlib.Core.List.{List, [], _∷_, _++_}
-use mathlib.Core.Path.{_≡_, refl, sym, ap, _∙_}
-use lib.ListN.{length, getD, List·getD-append, length-append}
+use mathlib.Core.List.{List, [], _∷_}
+use mathlib.Core.Path.{_≡_, refl, ap, _∙_}
+use lib.ListN.{length, getD, List·getD-append}
 use lib.Seq.{getD-append-add}
 use Rattle.reading.specs.Pad.{pad}
 use Rattle.reading.specs.Lists.{rows}
 use Rattle.reading.proofs.Pads.{pad-get}
 use Rattle.residues.specs.Content.{Residue}
-use Rattle.residues.specs.Reading.{Books, Head}
+use Rattle.residues.specs.Reading.{Books}
 use Rattle.residues.specs.Layout.{headRow, planTable}
 use Rattle.residues.specs.Valid.{Rows8, ValidResidue}
 use Rattle.residues.specs.Decode.{headAt}
 use Rattle.residues.specs.Heads.{headOf}
 use Rattle.residues.specs.declared.head.Head as D
-use Rattle.residues.proofs.Laws.{length-headRow, length-planTable, rows8-long}
+use Rattle.residues.proofs.Laws.{length-headRow, length-planTable}
 
 -- as the code asks
 pub head-made : (t : List ℕ) (i : ℕ) {a b c d e f : ℕ} → a ≡ getD t (6 * i + 0) 0 → b ≡ getD t (6 * i + 1) 0 → c ≡ getD t (6 * i + 2) 0 → d ≡ getD t (6 * i + 3) 0
