@@ -1,18 +1,19 @@
 -- Laws of rule 13 as the code asks them. Assumes nothing.
-use Prim.Native.Nat.{ℕ, zero, suc, _+_, _-_, _*_, _/_, _%_, _^_, _≤_, _<_}
-use native.Mathlib.Nat.{mod-zero, add-zero, sub-zero}
+use Prim.Native.Nat.{ℕ, suc, _+_, _-_, _%_, _^_, _≤_, _<_}
+use native.Mathlib.Nat.{mod-zero}
+use native.Mathlib.Numerals.{add-one}
 use native.Mathlib.Omega.{arith}
 use borrow.Author.Needs.{needs}
 use borrow.Author.Tests.{le-leb, lt-leb, eq-eqb, ne-eqb, not-true, not-false}
 use mathlib.Core.Bool.{Bool, true, false, not, _&&_}
-use mathlib.Core.List.{List, [], _∷_, _++_}
+use mathlib.Core.List.{List, [], _++_}
 use mathlib.Core.Path.{_≡_, refl, sym, ap, _∙_}
 use lib.Dec.{eqb, leb}
 use lib.ListN.{length, getD, take, drop, drop-of-length-le}
 use lib.Seq.{drop-cons, take-nil, take-all, take-add}
 use Rattle.reading.specs.Lists.{all, rows}
 use Rattle.book.specs.Layout.{dimensionsAt, entriesAt, lookupAt}
-use Rattle.residues.specs.Reading.{Books, Head, placeFits}
+use Rattle.residues.specs.Reading.{Head, placeFits}
 use Rattle.residues.specs.FromTable.{booksOf}
 use Rattle.residues.specs.Plans.{Grid, headFits}
 use Rattle.residues.proofs.RowsLaws.{row-long, row-counted, all-append, rows-append, rows-more}
@@ -50,48 +51,56 @@ module _ (t : List ℕ) (size b : ℕ) where
 
 pub ruleset place-fits-laws = (needs, empty-place, no-values, no-dimensions, divides)
 
--- a test of n numbers from a place on, of which i are done
-module _ (f : ℕ → Bool) (l : List ℕ) (at n : ℕ) where
+-- a test of the numbers from one place up to another, of which those before i are done
+module _ (f : ℕ → Bool) (l : List ℕ) (from to : ℕ) where
   pub record Testing (i : ℕ) : Type 0 where
-    pub within : i ≤ n
-    pub rest : all f (take (n - i) (drop (at + i) l)) ≡ all f (take n (drop at l))
+    pub rest : all f (take (to - i) (drop i l)) ≡ all f (take (to - from) (drop from l))
 
-  pub test-start : Testing 0
-  test-start = record { within = omega arith; rest = rw (sub-zero, add-zero) }
+  pub test-start : Testing from
+  test-start = record { rest = refl }
 
-  turn : (i : ℕ) → i < n → at + i < length l → all f (take (n - i) (drop (at + i) l)) ≡ f (getD l (at + i) 0) && all f (take (n - (i + 1)) (drop (at + (i + 1)) l))
+  turn : (i : ℕ) → i < to → i < length l → all f (take (to - i) (drop i l)) ≡ f (getD l i 0) && all f (take (to - (i + 1)) (drop (i + 1) l))
   unfolding all
   turn i h g =
-      let e : n - i ≡ suc (n - (i + 1)) = omega arith in
-      let s : suc (at + i) ≡ at + (i + 1) = omega arith in
-      rw (e, drop-cons l (at + i) 0 g, s)
+      let e : to - i ≡ suc (to - (i + 1)) = omega arith in
+      rw (e, drop-cons l i 0 g, add-one)
 
   module _ {i : ℕ} (w : Testing i) where
-    pub test-done : n ≤ i → true ≡ all f (take n (drop at l))
+    pub test-done : to ≤ i → true ≡ all f (take (to - from) (drop from l))
     unfolding all
-    test-done h = let e : n - i ≡ 0 = omega arith in rw e at (w .rest)
+    test-done h = let e : to - i ≡ 0 = omega arith in rw e at (w .rest)
 
-    module _ (h : i < n) where
-      pub test-past : length l ≤ at + i → true ≡ all f (take n (drop at l))
+    module _ (h : i < to) where
+      pub test-past : length l ≤ i → true ≡ all f (take (to - from) (drop from l))
       unfolding all
       test-past g =
-          let e : take (n - i) (drop (at + i) l) ≡ [] = ap (take (n - i)) (drop-of-length-le l g) ∙ take-nil (n - i) in
+          let e : take (to - i) (drop i l) ≡ [] = ap (take (to - i)) (drop-of-length-le l g) ∙ take-nil (to - i) in
           sym (ap (all f) e) ∙ w .rest
 
-      module _ (g : at + i < length l) {v : ℕ} (e : v ≡ getD l (at + i) 0) {r : Bool} (p : r ≡ f v) where
-        pub test-failed : not r ≡ true → false ≡ all f (take n (drop at l))
+      module _ (g : i < length l) {v : ℕ} (e : v ≡ getD l i 0) {r : Bool} (p : r ≡ f v) where
+        pub test-failed : not r ≡ true → false ≡ all f (take (to - from) (drop from l))
         test-failed q =
-            let d : f (getD l (at + i) 0) ≡ false = sym (p ∙ ap f e) ∙ not-true r q in
-            let k : false ≡ f (getD l (at + i) 0) && all f (take (n - (i + 1)) (drop (at + (i + 1)) l)) = rw d in
+            let d : f (getD l i 0) ≡ false = sym (p ∙ ap f e) ∙ not-true r q in
+            let k : false ≡ f (getD l i 0) && all f (take (to - (i + 1)) (drop (i + 1) l)) = rw d in
             k ∙ sym (turn i h g) ∙ w .rest
 
         pub test-next : not r ≡ false → Testing (i + 1)
         test-next q =
-            let d : f (getD l (at + i) 0) ≡ true = sym (p ∙ ap f e) ∙ not-false r q in
-            let k : all f (take (n - (i + 1)) (drop (at + (i + 1)) l)) ≡ f (getD l (at + i) 0) && all f (take (n - (i + 1)) (drop (at + (i + 1)) l)) = rw d in
-            record { within = omega arith; rest = k ∙ sym (turn i h g) ∙ w .rest }
+            let d : f (getD l i 0) ≡ true = sym (p ∙ ap f e) ∙ not-false r q in
+            let k : all f (take (to - (i + 1)) (drop (i + 1) l)) ≡ f (getD l i 0) && all f (take (to - (i + 1)) (drop (i + 1) l)) = rw d in
+            record { rest = k ∙ sym (turn i h g) ∙ w .rest }
 
 pub ruleset testing-laws = (needs, test-start, test-done, test-past, test-failed, test-next)
+
+-- the same where the test is that a number is zero
+module _ (l : List ℕ) (from to : ℕ) {i : ℕ} (w : Testing (λ b. eqb b 0) l from to i) (h : i < to) (g : i < length l) where
+  pub zero-failed : (getD l i 0 ≡ 0 → ⊥) → false ≡ all (λ b. eqb b 0) (take (to - from) (drop from l))
+  zero-failed n = test-failed (λ b. eqb b 0) l from to w h g {v = getD l i 0} refl {r = eqb (getD l i 0) 0} refl (ap not (ne-eqb (getD l i 0) 0 n))
+
+  pub zero-next : getD l i 0 ≡ 0 → Testing (λ b. eqb b 0) l from to (i + 1)
+  zero-next e = test-next (λ b. eqb b 0) l from to w h g {v = getD l i 0} refl {r = eqb (getD l i 0) 0} refl (ap not (eq-eqb (getD l i 0) 0 e))
+
+pub ruleset zero-laws = (needs, test-start, test-done, test-past, zero-failed, zero-next)
 
 -- a test of the first rows of a grid
 module _ (f : ℕ → Bool) (plan : List (List ℕ)) (classes : ℕ) where
@@ -125,8 +134,8 @@ module _ (f : ℕ → Bool) (plan : List (List ℕ)) (classes : ℕ) where
     pub rows-failed : not r ≡ true → false ≡ all f (rows (λ row. row) (take classes plan))
     rows-failed q =
         let d : take classes plan ≡ take (i + 1) plan ++ take (classes - (i + 1)) (drop (i + 1) plan) =
-            let e : classes ≡ (i + 1) + (classes - (i + 1)) = omega arith in
-            ap (λ (n : ℕ). take n plan) e ∙ take-add (i + 1) (classes - (i + 1)) plan in
+        let e : classes ≡ (i + 1) + (classes - (i + 1)) = omega arith in
+        ap (λ (n : ℕ). take n plan) e ∙ take-add (i + 1) (classes - (i + 1)) plan in
         let no : all f (rows (λ row. row) (take (i + 1) plan)) ≡ false = one-more ∙ not-true r q in
         sym
         (ap (λ (l : List (List ℕ)). all f (rows (λ row. row) l)) d

@@ -4,7 +4,7 @@ use native.Mathlib.Omega.{arith}
 use borrow.Author.Needs.{needs}
 use borrow.Author.Tests.{le-leb, lt-leb, lt-ltb, le-ltb}
 use mathlib.Core.List.{List}
-use mathlib.Core.Path.{_≡_, _∙_}
+use mathlib.Core.Path.{_≡_}
 use Rattle.bits.specs.declared.Cursor.{Cursor}
 use Rattle.bits.specs.declared.Refusal.{Refusal}
 use Rattle.bits.specs.declared.Field.{Field}
@@ -76,7 +76,7 @@ module _ (count type begin end : ℕ) (s : List ℕ) (k : Cursor) {r : Field} (p
 
         pub head-whole : book < count
             → headRead (H.Value (record { kind = type; begin = begin; end = end; size = size + 1; classifications = classes + 1; classbook = book }) k₃)
-                ≡ headFrom count type begin end s (position k)
+            ≡ headFrom count type begin end s (position k)
         unfolding headFrom headRead
         head-whole h = rw (value-is p q, value-is p₁ q₁, value-is p₂ q₂, lt-ltb _ _ h)
 

@@ -3,9 +3,9 @@ use Prim.Native.Nat.{ℕ, _+_, _^_, _≤_, _<_}
 use native.Mathlib.Omega.{arith}
 use borrow.Author.Tests.{leb-true, ltb-true}
 use mathlib.Core.List.{List}
-use mathlib.Core.Path.{_≡_, refl, sym, ap, _∙_}
+use mathlib.Core.Path.{_≡_, refl, sym, ap}
 use lib.Dec.{leb, ltb}
-use Rattle.reading.specs.Outcome.{Outcome, ok, bad, then}
+use Rattle.reading.specs.Outcome.{Outcome, ok}
 use Rattle.reading.specs.Reader.{judged}
 use Rattle.reading.proofs.Outcomes.{same-ok, then-ok, judged-ok}
 use Rattle.bits.specs.Field.{field}

@@ -8,3 +8,7 @@ pub mod FitsLaws
 pub mod ReadLaws
 pub mod HeadSound
 pub mod ResidueLaws
+pub mod Laws
+pub mod TableLaws
+pub mod StandLaws
+pub mod StandTheorem

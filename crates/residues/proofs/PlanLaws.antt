@@ -1,17 +1,17 @@
 -- Laws of reading the plan, as the code asks them: a place, a class's row, the rows of all classes. Assumes nothing.
-use Prim.Native.Nat.{ℕ, zero, suc, _+_, _-_, _*_, _/_, _%_, _^_, _≤_, _<_}
+use Prim.Native.Nat.{ℕ, zero, suc, _+_, _/_, _%_, _^_, _≤_, _<_}
 use native.Mathlib.Nat.{div-one}
 use native.Mathlib.Numerals.{add-one}
 use native.Mathlib.Omega.{arith}
 use borrow.Author.Needs.{needs}
 use borrow.Author.Tests.{eq-eqb, ne-eqb, lt-ltb, le-ltb, ltb-true}
 use mathlib.Core.Bool.{Bool, true, false, cond}
-use mathlib.Core.List.{List, [], _∷_, _++_}
+use mathlib.Core.List.{List}
 use mathlib.Core.Path.{_≡_, refl, sym, ap, _∙_}
 use lib.Dec.{eqb, ltb}
-use lib.ListN.{length, getD, set, take, replicate}
-use Rattle.reading.specs.Outcome.{Outcome, ok, bad, then, need}
-use Rattle.reading.specs.Reader.{Reader, judged, each, mapped}
+use lib.ListN.{getD, set, replicate}
+use Rattle.reading.specs.Outcome.{Outcome, ok, bad}
+use Rattle.reading.specs.Reader.{judged, each, mapped}
 use Rattle.reading.proofs.Outcomes.{judged-ok}
 use Rattle.reading.proofs.Readers.{Long, each-long, mapped-ok}
 use Rattle.bits.specs.declared.Cursor.{Cursor}
@@ -20,7 +20,7 @@ use Rattle.bits.specs.declared.Field.{Field}
 use Rattle.bits.specs.declared.Field.the-variants.{Value, Refused}
 use Rattle.bits.specs.declared.Step.{Step}
 use Rattle.bits.specs.declared.Step.the-variants as S
-use Rattle.bits.specs.Cursors.{position, refusalOf, outcome, Wrote}
+use Rattle.bits.specs.Cursors.{position, outcome, Wrote}
 use Rattle.bits.specs.Field.{field}
 use Rattle.bits.proofs.Fields.{field-ok}
 use Rattle.bits.proofs.Answers.{value-is, refused-is, value-below}

@@ -1,16 +1,15 @@
 -- Laws of reading a residue into the tables, as the code asks them: the plan's loop, the judgement, the rows. Assumes nothing.
-use Prim.Native.Nat.{ℕ, zero, suc, _+_, _-_, _*_, _^_, _≤_, _<_}
-use native.Mathlib.Nat.{mul-zero}
+use Prim.Native.Nat.{ℕ, zero, suc, _+_, _-_, _*_, _≤_, _<_}
 use native.Mathlib.Omega.{arith}
 use borrow.Author.Tests.{not-true, not-false}
 use mathlib.Core.Bool.{Bool, true, false, not, _&&_}
 use mathlib.Core.List.{List, [], _∷_, _++_}
 use mathlib.Core.Path.{_≡_, refl, sym, ap, _∙_}
 use lib.Dec.{leb}
-use lib.ListN.{length, getD, set, take, replicate, length-set, length-take, replicate-append-replicate}
+use lib.ListN.{length, getD, set, take, replicate, length-set, replicate-append-replicate}
 use lib.Seq.{getD-take, sets, length-take-le}
-use Rattle.reading.specs.Outcome.{Outcome, ok, bad, then, need}
-use Rattle.reading.specs.Reader.{Reader, each, mapped, into1}
+use Rattle.reading.specs.Outcome.{Outcome, ok, bad}
+use Rattle.reading.specs.Reader.{each, mapped, into1}
 use Rattle.reading.specs.Pad.{pad}
 use Rattle.reading.specs.Lists.{all, rows}
 use Rattle.reading.specs.Table.{table, putRow}
@@ -20,10 +19,9 @@ use Rattle.bits.specs.declared.Cursor.{Cursor}
 use Rattle.bits.specs.declared.Refusal.{Refusal}
 use Rattle.bits.specs.declared.Step.{Step}
 use Rattle.bits.specs.declared.Step.the-variants.{Next, Refused}
-use Rattle.bits.specs.Cursors.{position, refusalOf, Wrote}
+use Rattle.bits.specs.Cursors.{position, Wrote}
 use Rattle.bits.proofs.Steps.{wrote-ok, wrote-bad, wrote-next, wrote-refused}
-use Rattle.residues.specs.Content.{Residue}
-use Rattle.residues.specs.Reading.{Books, Head, passes, planBook, planRow, placeFits, residueFits, withPlan}
+use Rattle.residues.specs.Reading.{Head, passes, planBook, planRow, placeFits, residueFits, withPlan}
 use Rattle.residues.specs.FromTable.{booksOf}
 use Rattle.residues.specs.Heads.{headNumbers}
 use Rattle.residues.specs.Layout.{Tables, headRow, planTable, putResidue}
@@ -182,12 +180,12 @@ module _ (s : List ℕ) (count classes : ℕ) (cascades : List ℕ) (k₀ : Curs
           pub residue-written : not rp ≡ false → (residues plans : List ℕ) (index : ℕ) {residues′ plans′ : List ℕ} → residues′ ≡ sets residues (6 * index) (headNumbers hd)
               → plans′ ≡ sets plans (512 * index) (rows (λ row. row) plan)
               → Wrote (into1 putResidue (residueFrom (booksOf count t) (position place) hd (take classes cascades) s (position k₀)) (tablesAt residues plans index)) (Next c)
-                  (tablesAt residues′ plans′ (index + 1))
+              (tablesAt residues′ plans′ (index + 1))
           unfolding residueFrom into1 mapped putResidue putRow headRow planTable
           residue-written q residues plans index {residues′} {plans′} a b =
               let f : residueFits (booksOf count t) (withPlan hd (read .0)) ≡ true = whole-fits ∙ not-false rp q in
               let g : rows (λ row. row) plan ≡ pad 512 (rows (λ row. row) (read .0)) =
-                  ap (rows (λ row. row)) (sym (read .2)) ∙ rows-padWith 64 512 (read .0) refl (rw (← read-is) (rows8-take plan classes (w .grid .passes))) in
+              ap (rows (λ row. row)) (sym (read .2)) ∙ rows-padWith 64 512 (read .0) refl (rw (← read-is) (rows8-take plan classes (w .grid .passes))) in
               let m : 6 * index + 6 ≡ 6 * (index + 1) = omega arith in
               let n : 512 * index + length (pad 512 (rows (λ row. row) (read .0))) ≡ 512 * (index + 1) = rw length-pad (omega arith) in
               let o : sets plans (512 * index) (pad 512 (rows (λ row. row) (read .0))) ≡ plans′ = ap (sets plans (512 * index)) (sym g) ∙ sym b in

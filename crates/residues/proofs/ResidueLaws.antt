@@ -1,20 +1,19 @@
 -- Laws of reading one residue and all of them, as the code asks them. Assumes nothing.
-use Prim.Native.Nat.{ℕ, zero, suc, _+_, _-_, _*_, _≤_, _<_}
+use Prim.Native.Nat.{ℕ, _+_, _≤_, _<_}
 use native.Mathlib.Omega.{arith}
 use borrow.Author.Needs.{needs}
-use mathlib.Core.List.{List, [], _∷_}
+use mathlib.Core.List.{List}
 use mathlib.Core.Path.{_≡_, refl, sym, ap, _∙_}
 use lib.ListN.{length, take}
-use Rattle.reading.specs.Outcome.{Outcome, ok, bad, then}
-use Rattle.reading.specs.Reader.{Reader, many, mapped, into, into1}
+use Rattle.reading.specs.Outcome.{Outcome, ok, bad}
+use Rattle.reading.specs.Reader.{many, mapped, into, into1}
 use Rattle.reading.proofs.Readers.{Long, many-long, mapped-ok, mapped-bad}
 use Rattle.bits.specs.declared.Cursor.{Cursor}
 use Rattle.bits.specs.declared.Refusal.{Refusal}
 use Rattle.bits.specs.declared.Step.{Step}
 use Rattle.bits.specs.declared.Step.the-variants.{Next, Refused}
 use Rattle.bits.specs.Cursors.{position, refusalOf, Wrote}
-use Rattle.bits.proofs.Steps.{wrote-ok, wrote-bad, wrote-next, wrote-refused, Rest, loop-start, loop-next, loop-refused, loop-done}
-use Rattle.residues.specs.Content.{Residue}
+use Rattle.bits.proofs.Steps.{wrote-ok, wrote-bad, wrote-refused, Rest, loop-start, loop-next, loop-refused, loop-done}
 use Rattle.residues.specs.Reading.{Books, Head, cascade, head, residue}
 use Rattle.residues.specs.FromTable.{booksOf}
 use Rattle.residues.specs.Heads.{headOf, headRead}
@@ -58,7 +57,7 @@ module _ (t : List ℕ) (count : ℕ) (s : List ℕ) (k : Cursor) (T U : Tables)
         let few = head-sound count s (position k) (head-is p q) .classes-high in
         let l : length (m .0) ≡ classes = long (many cascade classes s (position k₁)) (many-long cascade classes s (position k₁)) (m .1) in
         let f : take (h .classifications) numbers ≡ m .0 =
-            ap (λ (j : ℕ). take j numbers) (sym e ∙ sym l) ∙ ap (take (length (m .0))) (sym (m .2)) ∙ take-padWith 0 64 (m .0) (omega arith) in
+        ap (λ (j : ℕ). take j numbers) (sym e ∙ sym l) ∙ ap (take (length (m .0))) (sym (m .2)) ∙ take-padWith 0 64 (m .0) (omega arith) in
         let g : many cascade (h .classifications) s (position k₁) ≡ ok (m .0, position k₂) = ap (λ (j : ℕ). many cascade j s (position k₁)) (sym e) ∙ m .1 in
         rw (head-is p q, g, ← f) x
       where

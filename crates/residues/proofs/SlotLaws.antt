@@ -1,7 +1,5 @@
 -- Laws of filling an array while reading: a loop over a list of items, of which i are done. Assumes nothing.
-use Prim.Native.Nat.{ℕ, zero, suc, _+_, _-_, _≤_, _<_}
-use native.Mathlib.Nat.{add-zero, zero-add}
-use native.Mathlib.Numerals.{add-one}
+use Prim.Native.Nat.{ℕ, zero, suc, _+_, _≤_, _<_}
 use native.Mathlib.Omega.{arith}
 use mathlib.Core.List.{List, [], _∷_, _++_, append-nil, append-assoc}
 use mathlib.Core.Path.{_≡_, refl, sym, ap, _∙_}
@@ -12,7 +10,7 @@ use Rattle.bits.specs.declared.Cursor.{Cursor}
 use Rattle.bits.specs.declared.Refusal.{Refusal}
 use Rattle.bits.specs.declared.Step.{Step}
 use Rattle.bits.specs.declared.Step.the-variants.{Next, Refused}
-use Rattle.bits.specs.Cursors.{position, refusalOf, stepped, Wrote}
+use Rattle.bits.specs.Cursors.{position, refusalOf, Wrote}
 use Rattle.bits.proofs.Steps.{wrote-next, wrote-refused, EachRest, each-loop-start, each-loop-next, each-loop-refused, each-loop-done}
 use Rattle.residues.specs.Slots.{padWith, Slots, slots, store}
 

@@ -1,5 +1,5 @@
 -- A residue's rows: 6 numbers in the table of residues, 64 classes by 8 passes in the table of plans. docs/TABLES.md draws them.
-use Prim.Native.Nat.{ℕ, _+_}
+use Prim.Native.Nat.{ℕ}
 use mathlib.Core.List.{List, [], _∷_}
 use Rattle.reading.specs.Pad.{pad}
 use Rattle.reading.specs.Lists.{rows}

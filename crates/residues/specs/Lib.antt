@@ -6,3 +6,6 @@ pub mod FromTable
 pub mod Heads
 pub mod Slots
 pub mod Plans
+pub mod Decode
+pub mod Stand
+pub mod Vectors

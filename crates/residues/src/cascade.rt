@@ -45,7 +45,10 @@ pub fn read_cascades(packet: &[u8], from: Cursor, classes: usize) -> Cascades
     while i < classes {
         match read_cascade(packet, at) {
             Field::Refused(z) => {
-                return Cascades { numbers, step: Step::Refused(z) };
+                return Cascades {
+                    numbers,
+                    step: Step::Refused(z),
+                };
             }
             Field::Value(v, next) => {
                 numbers[i] = v;
@@ -54,5 +57,8 @@ pub fn read_cascades(packet: &[u8], from: Cursor, classes: usize) -> Cascades
         }
         i = i + 1;
     }
-    Cascades { numbers, step: Step::Next(at) }
+    Cascades {
+        numbers,
+        step: Step::Next(at),
+    }
 }

@@ -1,7 +1,7 @@
 // Rule 13, judged against the table of books (01, "When the packet is sent back"). How many books are set up has no part in it.
 use crate::head::Head;
 ghost use mathlib.Core.Path.{_≡_};
-ghost use Prim.Native.Nat.{_≤_};
+ghost use Prim.Native.Nat.{_-_, _≤_};
 ghost use lib.ListN.{take, drop};
 ghost use Rattle.reading.specs.Lists.{all, rows};
 ghost use Rattle.residues.specs.Reading.{placeFits};
@@ -45,17 +45,16 @@ pub fn place_fits(place: u32, size: u32, books: &[u32]) -> bool
     size % dimensions == 0
 }
 
-// The `n` places from `at` on.
-pub fn places_fit(places: &[u16], at: usize, n: usize, size: u32, books: &[u32]) -> bool
-    requires { ⌜ (at ≤ 32768) × (n ≤ 512) ⌝ }
-    ensures { λ r. ⌜ r ≡ all (placeFits (booksOf 0 (now (books .entry))) size) (take n (drop at (now (places .entry)))) ⌝ }
+// The places from `from` up to `to`; past the table's end there is none.
+pub fn places_fit(places: &[u16], from: usize, to: usize, size: u32, books: &[u32]) -> bool
+    ensures { λ r. ⌜ r ≡ all (placeFits (booksOf 0 (now (books .entry))) size) (take (to - from) (drop from (now (places .entry)))) ⌝ }
 {
-    let mut i: usize = 0;
-    while i < n {
-        if places.len() <= at + i {
+    let mut i = from;
+    while i < to {
+        if places.len() <= i {
             return true;
         }
-        let place = wide(places[at + i]);
+        let place = wide(places[i]);
         if !place_fits(place, size, books) {
             return false;
         }

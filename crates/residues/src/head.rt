@@ -29,13 +29,23 @@ pub fn read_head(packet: &[u8], from: Cursor, count: u32) -> HeadRead
         Field::Refused(z) => HeadRead::Refused(z),
         Field::Value(kind, at_begin) => {
             if 2 < kind {
-                return HeadRead::Refused(Refusal { number: 10, place: from });
+                return HeadRead::Refused(Refusal {
+                    number: 10,
+                    place: from,
+                });
             }
             match at_begin.field(packet, 24) {
                 Field::Refused(z) => HeadRead::Refused(z),
                 Field::Value(begin, at_end) => match at_end.field(packet, 24) {
                     Field::Refused(z) => HeadRead::Refused(z),
-                    Field::Value(end, at_size) => read_head_from(packet, at_size, count, kind, begin, end),
+                    Field::Value(end, at_size) => read_head_from(
+                        packet,
+                        at_size,
+                        count,
+                        kind,
+                        begin,
+                        end,
+                    ),
                 },
             }
         }
@@ -43,7 +53,14 @@ pub fn read_head(packet: &[u8], from: Cursor, count: u32) -> HeadRead
 }
 
 // Partition size, classifications, class book, after a type, a begin and an end that were read.
-fn read_head_from(packet: &[u8], from: Cursor, count: u32, kind: u32, begin: u32, end: u32) -> HeadRead
+fn read_head_from(
+    packet: &[u8],
+    from: Cursor,
+    count: u32,
+    kind: u32,
+    begin: u32,
+    end: u32,
+) -> HeadRead
     ensures { λ r. ⌜ headRead r ≡ headFrom count kind begin end (now (packet .entry)) (position from) ⌝ }
 {
     match from.field(packet, 24) {
@@ -54,9 +71,22 @@ fn read_head_from(packet: &[u8], from: Cursor, count: u32, kind: u32, begin: u32
                 Field::Refused(z) => HeadRead::Refused(z),
                 Field::Value(classbook, next) => {
                     if count <= classbook {
-                        return HeadRead::Refused(Refusal { number: 11, place: at_book });
+                        return HeadRead::Refused(Refusal {
+                            number: 11,
+                            place: at_book,
+                        });
                     }
-                    HeadRead::Value(Head { kind, begin, end, size: size + 1, classifications: classes + 1, classbook }, next)
+                    HeadRead::Value(
+                        Head {
+                            kind,
+                            begin,
+                            end,
+                            size: size + 1,
+                            classifications: classes + 1,
+                            classbook,
+                        },
+                        next,
+                    )
                 }
             },
         },

@@ -28,7 +28,10 @@ pub fn read_place(packet: &[u8], from: Cursor, count: u32, bit: u32) -> Field
         Field::Refused(z) => Field::Refused(z),
         Field::Value(book, next) => {
             if count <= book {
-                return Field::Refused(Refusal { number: 11, place: from });
+                return Field::Refused(Refusal {
+                    number: 11,
+                    place: from,
+                });
             }
             Field::Value(book + 1, next)
         }
@@ -44,7 +47,10 @@ pub fn read_row(packet: &[u8], from: Cursor, count: u32, cascade: u32) -> Row
     while j < 8 {
         match read_place(packet, at, count, (cascade >> j) % 2) {
             Field::Refused(z) => {
-                return Row { books, step: Step::Refused(z) };
+                return Row {
+                    books,
+                    step: Step::Refused(z),
+                };
             }
             Field::Value(v, next) => {
                 books[j] = v as u16;
@@ -53,7 +59,10 @@ pub fn read_row(packet: &[u8], from: Cursor, count: u32, cascade: u32) -> Row
         }
         j = j + 1;
     }
-    Row { books, step: Step::Next(at) }
+    Row {
+        books,
+        step: Step::Next(at),
+    }
 }
 
 // The plan goes to the 512 places from `at` on, class after class.

@@ -1,9 +1,9 @@
 // Reading residues into the tables (003, 4.2.4, "Residues"; 001, "header decode").
+use crate::head::Head;
+use crate::head::HeadRead;
 use bits::Cursor;
 use bits::Refusal;
 use bits::Step;
-use crate::head::Head;
-use crate::head::HeadRead;
 ghost use mathlib.Core.Path.{_≡_};
 ghost use Prim.Native.Nat.{_+_, _≤_};
 ghost use lib.ListN.{length, take};
@@ -15,6 +15,7 @@ ghost use Rattle.residues.specs.Layout.{putResidue};
 ghost use Rattle.residues.specs.FromTable.{booksOf};
 ghost use Rattle.residues.specs.Heads.{headOf, headNumbers};
 ghost use Rattle.residues.specs.Plans.{residueFrom, tablesAt};
+ghost use Rattle.residues.specs.Stand.{AcceptedValid};
 
 fn wide(x: u32) -> usize
     ensures { λ r. ⌜ r ≡ x ⌝ }
@@ -25,12 +26,30 @@ fn wide(x: u32) -> usize
 fn write_head(residues: &mut [u32], at: usize, head: Head)
     ensures { λ _. ⌜ now (residues .exit) ≡ sets (now (residues .entry)) at (headNumbers (headOf head)) ⌝ }
 {
-    let row = [head.kind, head.begin, head.end, head.size, head.classifications, head.classbook];
+    let row = [
+        head.kind,
+        head.begin,
+        head.end,
+        head.size,
+        head.classifications,
+        head.classbook,
+    ];
     reading::buffers::write_u32(residues, at, &row);
 }
 
 // The plan of a residue whose other fields and cascades were read: it is read whole, judged (13, at the residue's type) and written with them.
-fn read_plan(packet: &[u8], from: Cursor, count: u32, head: Head, cascades: [u32; 64], place: Cursor, books: &[u32], residues: &mut [u32], plans: &mut [u16], index: usize) -> Step
+fn read_plan(
+    packet: &[u8],
+    from: Cursor,
+    count: u32,
+    head: Head,
+    cascades: [u32; 64],
+    place: Cursor,
+    books: &[u32],
+    residues: &mut [u32],
+    plans: &mut [u16],
+    index: usize,
+) -> Step
     requires { ⌜ (index ≤ 63) × (head .classifications ≤ 64) × (length cascades ≡ 64) ⌝ }
     ensures { λ r. ⌜ Wrote (into1 putResidue (residueFrom (booksOf count (now (books .entry))) (position place) (headOf head) (take (head .classifications) cascades) (now (packet .entry)) (position from)) (tablesAt (now (residues .entry)) (now (plans .entry)) index)) r (tablesAt (now (residues .exit)) (now (plans .exit)) (index + 1)) ⌝ }
 {
@@ -44,7 +63,7 @@ fn read_plan(packet: &[u8], from: Cursor, count: u32, head: Head, cascades: [u32
         let step = row.step;
         match step {
             Step::Refused(z) => {
-                return Step::Refused(z);
+                return Step::Refused(z); // a book number's refusal comes before rule 13
             }
             Step::Next(next) => {
                 let books_of_class = row.books;
@@ -66,28 +85,60 @@ fn read_plan(packet: &[u8], from: Cursor, count: u32, head: Head, cascades: [u32
 }
 
 // A residue, written as number `index` of the tables.
-pub fn read_residue(packet: &[u8], from: Cursor, count: u32, books: &[u32], residues: &mut [u32], plans: &mut [u16], index: usize) -> Step
+pub fn read_residue(
+    packet: &[u8],
+    from: Cursor,
+    count: u32,
+    books: &[u32],
+    residues: &mut [u32],
+    plans: &mut [u16],
+    index: usize,
+) -> Step
     requires { ⌜ index ≤ 63 ⌝ }
     ensures { λ r. ⌜ Wrote (into1 putResidue (residue (booksOf count (now (books .entry))) (now (packet .entry)) (position from)) (tablesAt (now (residues .entry)) (now (plans .entry)) index)) r (tablesAt (now (residues .exit)) (now (plans .exit)) (index + 1)) ⌝ }
 {
     match crate::head::read_head(packet, from, count) {
         HeadRead::Refused(z) => Step::Refused(z),
         HeadRead::Value(head, at_cascades) => {
-            let cascades = crate::cascade::read_cascades(packet, at_cascades, wide(head.classifications));
+            let cascades = crate::cascade::read_cascades(
+                packet,
+                at_cascades,
+                wide(head.classifications),
+            );
             let numbers = cascades.numbers;
             let step = cascades.step;
             match step {
                 Step::Refused(z) => Step::Refused(z),
-                Step::Next(at_plan) => read_plan(packet, at_plan, count, head, numbers, from, books, residues, plans, index),
+                Step::Next(at_plan) => read_plan(
+                    packet,
+                    at_plan,
+                    count,
+                    head,
+                    numbers,
+                    from,
+                    books,
+                    residues,
+                    plans,
+                    index,
+                ),
             }
         }
     }
 }
 
 // `n` residues, from the front of the tables on.
-pub fn read_residues(packet: &[u8], from: Cursor, count: u32, books: &[u32], residues: &mut [u32], plans: &mut [u16], n: usize) -> Step
+pub fn read_residues(
+    packet: &[u8],
+    from: Cursor,
+    count: u32,
+    books: &[u32],
+    residues: &mut [u32],
+    plans: &mut [u16],
+    n: usize,
+) -> Step
     requires { ⌜ n ≤ 64 ⌝ }
     ensures { λ r. ⌜ Wrote (into putResidue (many (residue (booksOf count (now (books .entry)))) n (now (packet .entry)) (position from)) (tablesAt (now (residues .entry)) (now (plans .entry)) 0)) r (tablesAt (now (residues .exit)) (now (plans .exit)) n) ⌝ }
+    ensures { λ _. ⌜ AcceptedValid (booksOf count (now (books .entry))) n (now (packet .entry)) (position from) ⌝ }
 {
     let mut at = from;
     let mut i: usize = 0;

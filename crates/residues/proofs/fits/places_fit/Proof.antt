@@ -1,7 +1,7 @@
 use Prim.Native.Nat.{_-_}
+use Rattle.residues.proofs.FitsLaws.{Testing, testing-laws}
 use Rattle.residues.specs.Reading.{placeFits}
 use Rattle.residues.specs.FromTable.{booksOf}
-use Rattle.residues.proofs.FitsLaws.{Testing, test-next, testing-laws}
 use borrow.Author.Needs.{needs}
 use Rattle.residues.proofs.fits.places_fit.Statement.{statement}
 use Rattle.residues.proofs.fits.places_fit.Tie as tie
@@ -11,69 +11,50 @@ use Rattle.residues.proofs.fits.place_fits.Reads as place-fits-reads
 use Rattle.residues.proofs.fits.wide.Reads as wide-reads
 
 abbrev Inv-loop : tie.InvT-loop
-Inv-loop places at n size books i₀ i = Testing (placeFits (booksOf 0 books) size) places at n i
+Inv-loop places from to size books i₀ i = Testing (placeFits (booksOf 0 books) size) places i₀ to i
 
 abbrev μ-loop : tie.MeasureT-loop
-μ-loop places at n size books i₀ i = n - i
+μ-loop places from to size books i₀ i = to - i
 
--- src/fits.rt:54:5
+-- src/fits.rt:53:5
 loop-holds : tie.Need-loop-holds Inv-loop μ-loop
 loop-holds c = search testing-laws
 
--- src/fits.rt:55:28
-add-if1 : tie.Need-add-if1 Inv-loop μ-loop
-add-if1 c = search needs
-
--- src/fits.rt:56:13
+-- src/fits.rt:55:13
 returns : tie.Need-returns Inv-loop μ-loop
 returns c = search testing-laws
 
--- src/fits.rt:58:33
-add-wide : tie.Need-add-wide Inv-loop μ-loop
-add-wide c = search needs
-
--- src/fits.rt:58:26
+-- src/fits.rt:57:26
 mul-wide : tie.Need-mul-wide Inv-loop μ-loop
 mul-wide c = search needs
 
--- src/fits.rt:58:26
+-- src/fits.rt:57:26
 shared-slice-read-wide : tie.Need-shared-slice-read-wide Inv-loop μ-loop
 shared-slice-read-wide c = search needs
 
--- src/fits.rt:58:13
+-- src/fits.rt:57:13
 wide-requires : tie.Need-wide-requires Inv-loop μ-loop
 wide-requires c κs = search needs
 
--- src/fits.rt:59:13
+-- src/fits.rt:58:13
 place-fits-requires : tie.Need-place-fits-requires Inv-loop μ-loop
 place-fits-requires c κs = search needs
 
--- src/fits.rt:60:13
+-- src/fits.rt:59:13
 returns-2 : tie.Need-returns-2 Inv-loop μ-loop
 returns-2 c = search testing-laws
 
--- src/fits.rt:62:13
+-- src/fits.rt:61:13
 add-i : tie.Need-add-i Inv-loop μ-loop
 add-i c = search needs
 
--- src/fits.rt:54:5
+-- src/fits.rt:53:5
 loop-less : tie.Need-loop-less Inv-loop μ-loop
 loop-less c = search needs
 
--- src/fits.rt:54:5
+-- src/fits.rt:53:5
 loop-again : tie.Need-loop-again Inv-loop μ-loop
-loop-again c =
-    test-next
-    _
-    _
-    _
-    _
-    (c .before .before .before .before .before .before .loop .inv)
-    (search needs)
-    (search needs)
-    (search needs)
-    (c .before .«place-fits» .ensures)
-    (search needs)
+loop-again c = search testing-laws
 
 -- src/fits.rt:49:1
 returns-3 : tie.Need-returns-3 Inv-loop μ-loop
@@ -86,9 +67,7 @@ places-fit-spec =
     Inv-loop
     μ-loop
     loop-holds
-    add-if1
     returns
-    add-wide
     mul-wide
     shared-slice-read-wide
     wide-requires

@@ -1,3 +1,4 @@
+use Rattle.residues.proofs.Laws.{accepted-valid}
 use Prim.Native.Nat.{_-_}
 use Rattle.residues.specs.FromTable.{booksOf}
 use Rattle.residues.proofs.ResidueLaws.{ReadingResidues, residues-laws}
@@ -36,7 +37,7 @@ same-length-2 c = search needs
 
 -- src/read.rt:97:17
 returns : tie.Need-returns Inv-loop μ-loop
-returns c = search residues-laws
+returns c = (search residues-laws, accepted-valid _ _ _ _)
 
 -- src/read.rt:99:24
 enum-known-next : tie.Need-enum-known-next Inv-loop μ-loop
@@ -64,7 +65,7 @@ same-length-4 c = search needs
 
 -- src/read.rt:88:1
 returns-2 : tie.Need-returns-2 Inv-loop μ-loop
-returns-2 c = search residues-laws
+returns-2 c = (search residues-laws, accepted-valid _ _ _ _)
 
 pub read-residues-spec : {M : Type 1} → statement M
 read-residues-spec =

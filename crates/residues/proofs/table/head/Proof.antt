@@ -1,0 +1,52 @@
+use Rattle.residues.proofs.TableLaws.{table-laws}
+use borrow.Author.Needs.{needs}
+use Rattle.residues.proofs.table.head.Statement.{statement}
+use Rattle.residues.proofs.table.head.Tie as tie
+use Rattle.residues.proofs.table.head.Reads as reads
+use Rattle.residues.proofs.table.head.Lts as lts
+use Rattle.residues.proofs.table.begin.Reads as begin-reads
+use Rattle.residues.proofs.table.classbook.Reads as classbook-reads
+use Rattle.residues.proofs.table.classifications.Reads as classifications-reads
+use Rattle.residues.proofs.table.end.Reads as end-reads
+use Rattle.residues.proofs.table.kind.Reads as kind-reads
+use Rattle.residues.proofs.table.size.Reads as size-reads
+
+-- src/table.rt:64:9
+kind-requires : tie.Need-kind-requires
+kind-requires c κs = search needs
+
+-- src/table.rt:65:9
+begin-requires : tie.Need-begin-requires
+begin-requires c κs = search needs
+
+-- src/table.rt:66:9
+end-requires : tie.Need-end-requires
+end-requires c κs = search needs
+
+-- src/table.rt:67:9
+size-requires : tie.Need-size-requires
+size-requires c κs = search needs
+
+-- src/table.rt:68:9
+classifications-requires : tie.Need-classifications-requires
+classifications-requires c κs = search needs
+
+-- src/table.rt:69:9
+classbook-requires : tie.Need-classbook-requires
+classbook-requires c κs = search needs
+
+-- src/table.rt:61:1
+returns : tie.Need-returns
+returns c = search table-laws
+
+pub head-spec : {M : Type 1} → statement M
+head-spec =
+    tie.close
+    (tie.spec
+    kind-requires
+    begin-requires
+    end-requires
+    size-requires
+    classifications-requires
+    classbook-requires
+    returns)
