@@ -24,7 +24,7 @@ use Rattle.mappings.specs.Content.{Coupling, Submap, Mapping}
 use Rattle.mappings.specs.declared.Known.{Known}
 use Rattle.mappings.specs.Reading.{submapCount, couplingCount, channel, coupling, multiplex, multiplexes, submap, parts, mapping}
 use Rattle.mappings.specs.Layout.{couplingRow, submapRow, mappingRow}
-use Rattle.mappings.specs.Valid.{ValidCoupling, ValidSubmap, ValidMapping}
+use Rattle.mappings.specs.Valid.{ValidCoupling, ValidMultiplex, ValidSubmap, ValidMapping}
 use Rattle.mappings.specs.Decode.{couplingOf, submapOf, pairs, lessOne, decodeMapping}
 use Rattle.mappings.specs.Stand.{MappingsStand}
 use Rattle.mappings.proofs.CountLaws.{submaps-few, steps-few, submaps-some-at-least}
@@ -56,29 +56,29 @@ submap-valid known s k x e =
     subst (λ (y : Submap × ℕ). ValidSubmap known (y .0)) same valid
 
 -- a test of all, and a fact of each
-pub each-all : (n : ℕ) (l : List ℕ) → Each (λ v. v < n) l → all (λ v. ltb v n) l ≡ true
+pub each-all : (n : ℕ) (l : List ℕ) → Each (ValidMultiplex n) l → all (λ v. ltb v n) l ≡ true
 unfolding Each all
 each-all n [] h = refl
-each-all n (v ∷ l) h = rw (lt-ltb v n (h .0)) (each-all n l (h .1))
+each-all n (v ∷ l) h = rw (lt-ltb v n (h .0 .number)) (each-all n l (h .1))
 
-pub all-each : (n : ℕ) (l : List ℕ) → all (λ v. ltb v n) l ≡ true → Each (λ v. v < n) l
+pub all-each : (n : ℕ) (l : List ℕ) → all (λ v. ltb v n) l ≡ true → Each (ValidMultiplex n) l
 unfolding Each all
 all-each n [] h = tt
 all-each n (v ∷ l) h = go (ltb v n) refl h (λ f. all-each n l f)
   where
-    go : (t : Bool) → ltb v n ≡ t → t && all (λ v. ltb v n) l ≡ true → (all (λ v. ltb v n) l ≡ true → Each (λ v. v < n) l) → (v < n) × Each (λ v. v < n) l
-    go true e f r = (ltb-true _ _ e, r f)
+    go : (t : Bool) → ltb v n ≡ t → t && all (λ v. ltb v n) l ≡ true → (all (λ v. ltb v n) l ≡ true → Each (ValidMultiplex n) l) → ValidMultiplex n v × Each (ValidMultiplex n) l
+    go true e f r = (record { number = ltb-true _ _ e }, r f)
     go false e f r = let z : _≡_ {A = ℕ} 0 1 = cc in absurd (omega arith)
 
 multiplexes-valid : (channels submaps : ℕ) (s : List ℕ) (k : ℕ) (x : List ℕ × ℕ) → multiplexes channels submaps s k ≡ ok x → all (λ v. ltb v submaps) (x .0) ≡ true
 unfolding multiplexes multiplex Each
 multiplexes-valid channels submaps s k x e = go (leb submaps 1) e
   where
-    below : (k : ℕ) (y : ℕ × ℕ) → judged (λ v. ltb v submaps) 11 (field 4) s k ≡ ok y → y .0 < submaps
-    below k y e = ltb-true _ _ (judged-ok (λ v. ltb v submaps) 11 (field 4) s k e .1)
+    below : (k : ℕ) (y : ℕ × ℕ) → judged (λ v. ltb v submaps) 11 (field 4) s k ≡ ok y → ValidMultiplex submaps (y .0)
+    below k y e = record { number = ltb-true _ _ (judged-ok (λ v. ltb v submaps) 11 (field 4) s k e .1) }
     go : (t : Bool) → cond t (ok ([], k)) (many (multiplex submaps) channels s k) ≡ ok x → all (λ v. ltb v submaps) (x .0) ≡ true
     go true e = let p : ([], k) ≡ x = cc in subst (λ (y : List ℕ × ℕ). all (λ v. ltb v submaps) (y .0) ≡ true) p (each-all submaps [] tt)
-    go false e = each-all submaps (x .0) (many-each (multiplex submaps) s (λ v. v < submaps) below channels k e)
+    go false e = each-all submaps (x .0) (many-each (multiplex submaps) s (ValidMultiplex submaps) below channels k e)
 
 empty : (l : List ℕ) → length l ≡ 0 → l ≡ []
 empty [] e = refl

@@ -3,6 +3,8 @@
 pub mod counts; // how many submaps and coupling steps
 pub mod couplings; // the coupling steps
 pub mod submaps; // each channel's submap, and the submaps
+pub mod stand; // whether a table that is handed in holds mappings
+pub mod access; // what a table says of each mapping
 
 use bits::Cursor;
 use bits::Field;
