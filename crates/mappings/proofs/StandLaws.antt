@@ -60,13 +60,16 @@ module _ (number submaps : ℕ) where
 
   pub multiplex-some : (number ≡ 0 → ⊥) → (leb number submaps ≡ true) ↔ RowOf multiplexRow (ValidMultiplex submaps) (number ∷ [])
   unfolding multiplexRow
-  multiplex-some h =
-      ((λ e. let l : number ≤ submaps = leb-true number submaps e in let s : 1 ≤ number = omega (arith, h) in let q : number ≡ suc (number - 1) = omega arith in
-             record { item = number - 1; valid = record { number = omega arith }; written = ap (λ (x : ℕ). x ∷ []) q }),
-       (λ r. le-leb _ _ (as-row r .1)))
+  multiplex-some h = (
+    (λ e. let l : number ≤ submaps = leb-true number submaps e in let s : 1 ≤ number = omega (arith, h) in let q : number ≡ suc (number - 1) = omega arith in
+        record { item = number - 1; valid = record { number = omega arith }; written = ap (λ (x : ℕ). x ∷ []) q }),
+    (λ r. le-leb _ _ (as-row r .1)),
+  )
 
 pub ruleset number-laws = (needs, magnitude-high, angle-high, coupling-low, floor-high, floor-low, multiplex-zero, multiplex-some)
+
 pub ruleset coupling-stand-laws = (pair-laws, coupling-pairs)
+
 pub ruleset submap-stand-laws = (pair-laws, submap-pairs)
 
 -- the loop over the multiplex: i numbers are found right
@@ -206,9 +209,9 @@ module _ (known : Known) (few : known .channels ≤ 255) where
         let d = length-drop 772 cells in
         let a : drop 772 cells ≡ take 32 (drop 772 cells) = sym (take-all 32 (drop 772 cells) (omega arith)) in
         let b : drop 516 cells ≡ take 256 (drop 516 cells) ++ take 32 (drop 772 cells) =
-            sym (take-append-drop 256 (drop 516 cells)) ∙ ap (λ (l : List ℕ). take 256 (drop 516 cells) ++ l) (drop-drop 256 516 cells ∙ a) in
+        sym (take-append-drop 256 (drop 516 cells)) ∙ ap (λ (l : List ℕ). take 256 (drop 516 cells) ++ l) (drop-drop 256 516 cells ∙ a) in
         let c : drop 4 cells ≡ take 512 (drop 4 cells) ++ (take 256 (drop 516 cells) ++ take 32 (drop 772 cells)) =
-            sym (take-append-drop 512 (drop 4 cells)) ∙ ap (λ (l : List ℕ). take 512 (drop 4 cells) ++ l) (drop-drop 512 4 cells ∙ b) in
+        sym (take-append-drop 512 (drop 4 cells)) ∙ ap (λ (l : List ℕ). take 512 (drop 4 cells) ++ l) (drop-drop 512 4 cells ∙ b) in
         sym (take-append-drop 4 cells) ∙ ap (λ (l : List ℕ). take 4 cells ++ l) c
 
     made : getD cells 0 0 < 256 → Parts known cells (getD cells 0 0 + 256 * getD cells 1 0) (getD cells 2 0) → RowOf mappingRow (ValidMapping known) cells
@@ -280,9 +283,10 @@ module _ (known : Known) (cells : List ℕ) (long : length cells ≡ 804) (few :
       pub row-right : steps ≤ 256 → 1 ≤ getD cells 2 0 → getD cells 2 0 ≤ 16 → getD cells 3 0 ≡ 0 → not r₁ ≡ false → not r₂ ≡ false → {r₃ : Bool}
           → (r₃ ≡ true) ↔ Stands submapRow (ValidSubmap known) (getD cells 2 0) (take 32 (drop 772 cells)) → (r₃ ≡ true) ↔ RowOf mappingRow (ValidMapping known) cells
       row-right a b c z e₁ e₂ said₃ =
-          let q = parts-of known few cells long (es .1) (es .0) in
-          ((λ e. q .1 (record { few-steps = a; some-submap = b; few-submaps = c; zero = z; couplings = said₁ .0 (not-false r₁ e₁); multiplex = numbers .0 (not-false r₂ e₂); submaps = said₃ .0 e })),
-           (λ r. said₃ .1 (ps r .submaps)))
+          let q = parts-of known few cells long (es .1) (es .0) in (
+            (λ e. q .1 (record { few-steps = a; some-submap = b; few-submaps = c; zero = z; couplings = said₁ .0 (not-false r₁ e₁); multiplex = numbers .0 (not-false r₂ e₂); submaps = said₃ .0 e })),
+            (λ r. said₃ .1 (ps r .submaps)),
+          )
 
 pub ruleset row-laws = (needs, count-most, steps-many, submaps-none, submaps-many, place-used, couplings-wrong, multiplex-wrong, row-right)
 

@@ -8,7 +8,10 @@ pub fn coupling_steps(mappings: &[u8], mapping: usize) -> usize
     requires { ⌜ mapping < 64 ⌝ }
     ensures { λ r. ⌜ r ≡ getD (now (mappings .entry)) (804 * mapping) 0 + 256 * getD (now (mappings .entry)) (804 * mapping + 1) 0 ⌝ }
 {
-    super::stand::two_places(reading::buffers::get_u8(mappings, 804 * mapping), reading::buffers::get_u8(mappings, 804 * mapping + 1))
+    super::stand::two_places(
+        reading::buffers::get_u8(mappings, 804 * mapping),
+        reading::buffers::get_u8(mappings, 804 * mapping + 1),
+    )
 }
 
 // The channel that a coupling step treats as magnitude.

@@ -135,7 +135,11 @@ fn is_mapping(row: &[u8], known: Known) -> bool
     if !are_couplings(&row[4..516], steps, known.channels) {
         return false;
     }
-    if !are_multiplexes(&row[516..772], multiplex_count(submaps, known.channels), submaps) {
+    if !are_multiplexes(
+        &row[516..772],
+        multiplex_count(submaps, known.channels),
+        submaps,
+    ) {
         return false;
     }
     are_submaps(&row[772..804], submaps as usize, known)
