@@ -24,7 +24,7 @@ use Rattle.mappings.specs.Content.{Coupling, Submap, Mapping}
 use Rattle.mappings.specs.declared.Known.{Known}
 use Rattle.mappings.specs.Reading.{submapCount, couplingCount, channel, coupling, multiplex, multiplexes, submap, parts, mapping}
 use Rattle.mappings.specs.Layout.{couplingRow, submapRow, mappingRow}
-use Rattle.mappings.specs.Valid.{ValidCoupling, ValidSubmap, ValidMapping}
+use Rattle.mappings.specs.Valid.{ValidCoupling, ValidMultiplex, ValidSubmap, ValidMapping}
 use Rattle.mappings.specs.Decode.{couplingOf, submapOf, pairs, lessOne, decodeMapping}
 use Rattle.mappings.specs.Stand.{MappingsStand}
 use Rattle.mappings.proofs.CountLaws.{submaps-few, steps-few, submaps-some-at-least}
@@ -40,7 +40,7 @@ coupling-valid channels s k x e =
     let j = judged-ok (λ v. not (eqb v (a .0 .0))) 11 (channel channels) s (a .0 .1) (b .1) in
     let same : _≡_ {A = Coupling × ℕ} (record { magnitude = a .0 .0; angle = b .0 .0 }, b .0 .1) x = cc in
     let valid : ValidCoupling channels (record { magnitude = a .0 .0; angle = b .0 .0 }) =
-        record { magnitude = channel-below channels s k (a .1); angle = channel-below channels s (a .0 .1) (j .0); different = eqb-false _ _ (not-true _ (j .1)) } in
+    record { magnitude = channel-below channels s k (a .1); angle = channel-below channels s (a .0 .1) (j .0); different = eqb-false _ _ (not-true _ (j .1)) } in
     subst (λ (y : Coupling × ℕ). ValidCoupling channels (y .0)) same valid
 
 pub submap-valid : (known : Known) (s : List ℕ) (k : ℕ) (x : Submap × ℕ) → submap known s k ≡ ok x → ValidSubmap known (x .0)
@@ -56,29 +56,30 @@ submap-valid known s k x e =
     subst (λ (y : Submap × ℕ). ValidSubmap known (y .0)) same valid
 
 -- a test of all, and a fact of each
-pub each-all : (n : ℕ) (l : List ℕ) → Each (λ v. v < n) l → all (λ v. ltb v n) l ≡ true
+pub each-all : (n : ℕ) (l : List ℕ) → Each (ValidMultiplex n) l → all (λ v. ltb v n) l ≡ true
 unfolding Each all
 each-all n [] h = refl
-each-all n (v ∷ l) h = rw (lt-ltb v n (h .0)) (each-all n l (h .1))
+each-all n (v ∷ l) h = rw (lt-ltb v n (h .0 .number)) (each-all n l (h .1))
 
-pub all-each : (n : ℕ) (l : List ℕ) → all (λ v. ltb v n) l ≡ true → Each (λ v. v < n) l
+pub all-each : (n : ℕ) (l : List ℕ) → all (λ v. ltb v n) l ≡ true → Each (ValidMultiplex n) l
 unfolding Each all
 all-each n [] h = tt
 all-each n (v ∷ l) h = go (ltb v n) refl h (λ f. all-each n l f)
   where
-    go : (t : Bool) → ltb v n ≡ t → t && all (λ v. ltb v n) l ≡ true → (all (λ v. ltb v n) l ≡ true → Each (λ v. v < n) l) → (v < n) × Each (λ v. v < n) l
-    go true e f r = (ltb-true _ _ e, r f)
+    go : (t : Bool) → ltb v n ≡ t → t && all (λ v. ltb v n) l ≡ true → (all (λ v. ltb v n) l ≡ true → Each (ValidMultiplex n) l) → ValidMultiplex n v × Each (ValidMultiplex n) l
+    go true e f r = (record { number = ltb-true _ _ e }, r f)
     go false e f r = let z : _≡_ {A = ℕ} 0 1 = cc in absurd (omega arith)
 
 multiplexes-valid : (channels submaps : ℕ) (s : List ℕ) (k : ℕ) (x : List ℕ × ℕ) → multiplexes channels submaps s k ≡ ok x → all (λ v. ltb v submaps) (x .0) ≡ true
 unfolding multiplexes multiplex Each
 multiplexes-valid channels submaps s k x e = go (leb submaps 1) e
   where
-    below : (k : ℕ) (y : ℕ × ℕ) → judged (λ v. ltb v submaps) 11 (field 4) s k ≡ ok y → y .0 < submaps
-    below k y e = ltb-true _ _ (judged-ok (λ v. ltb v submaps) 11 (field 4) s k e .1)
+    below : (k : ℕ) (y : ℕ × ℕ) → judged (λ v. ltb v submaps) 11 (field 4) s k ≡ ok y → ValidMultiplex submaps (y .0)
+    below k y e = record { number = ltb-true _ _ (judged-ok (λ v. ltb v submaps) 11 (field 4) s k e .1) }
+
     go : (t : Bool) → cond t (ok ([], k)) (many (multiplex submaps) channels s k) ≡ ok x → all (λ v. ltb v submaps) (x .0) ≡ true
     go true e = let p : ([], k) ≡ x = cc in subst (λ (y : List ℕ × ℕ). all (λ v. ltb v submaps) (y .0) ≡ true) p (each-all submaps [] tt)
-    go false e = each-all submaps (x .0) (many-each (multiplex submaps) s (λ v. v < submaps) below channels k e)
+    go false e = each-all submaps (x .0) (many-each (multiplex submaps) s (ValidMultiplex submaps) below channels k e)
 
 empty : (l : List ℕ) → length l ≡ 0 → l ≡ []
 empty [] e = refl
@@ -103,10 +104,11 @@ pieces known submaps steps s k x e =
     let c = then-ok (multiplexes (known .channels) submaps s (b .0 .1)) _ (b .2) in
     let d = then-ok (many (submap known) submaps s (c .0 .1)) _ (c .2) in
     let same : _≡_ {A = Mapping × ℕ} (record { couplings = a .0 .0; multiplex = c .0 .0; submaps = d .0 .0 }, d .0 .1) x = cc in
-    subst (λ (y : Mapping × ℕ). Pieces known submaps (y .0)) same
-    (many-each (coupling (known .channels)) s (ValidCoupling (known .channels)) (coupling-valid (known .channels) s) steps k (a .1),
-     multiplexes-valid (known .channels) submaps s (b .0 .1) (c .0) (c .1),
-     many-each (submap known) s (ValidSubmap known) (submap-valid known s) submaps (c .0 .1) (d .1))
+    subst (λ (y : Mapping × ℕ). Pieces known submaps (y .0)) same (
+      many-each (coupling (known .channels)) s (ValidCoupling (known .channels)) (coupling-valid (known .channels) s) steps k (a .1),
+      multiplexes-valid (known .channels) submaps s (b .0 .1) (c .0) (c .1),
+      many-each (submap known) s (ValidSubmap known) (submap-valid known s) submaps (c .0 .1) (d .1),
+    )
 
 parts-valid : (known : Known) (submaps steps : ℕ) (s : List ℕ) (k : ℕ) (x : Mapping × ℕ) → 1 ≤ submaps → submaps ≤ 16 → steps ≤ 256
     → parts known submaps steps s k ≡ ok x → ValidMapping known (x .0)
@@ -195,12 +197,12 @@ decode-mapping known m h v =
     let c = multiplex-most known m h v in
     let e : n % 256 + 256 * (n / 256) ≡ n = omega arith in
     let cs : pairs couplingOf (n % 256 + 256 * (n / 256)) (take 512 (drop 4 (mappingRow m))) ≡ m .couplings =
-        (λ j. pairs couplingOf (e j) (part-couplings (n % 256) (n / 256) (length (m .submaps)) 0 x y z j)) ∙ pairs-back coupling-pairs (m .couplings) 512 (omega arith) in
+    (λ j. pairs couplingOf (e j) (part-couplings (n % 256) (n / 256) (length (m .submaps)) 0 x y z j)) ∙ pairs-back coupling-pairs (m .couplings) 512 (omega arith) in
     let ms : lessOne (take 256 (drop 516 (mappingRow m))) ≡ m .multiplex = ap lessOne (part-multiplex (n % 256) (n / 256) (length (m .submaps)) 0 x y z) ∙ less-one-back (m .multiplex) 256 c in
     let ss : pairs submapOf (length (m .submaps)) (take 32 (drop 772 (mappingRow m))) ≡ m .submaps =
-        ap (λ (t : List ℕ). pairs submapOf (length (m .submaps)) (take 32 t)) (part-submaps (n % 256) (n / 256) (length (m .submaps)) 0 x y z)
-        ∙ ap (pairs submapOf (length (m .submaps))) (take-all 32 (pad 32 z) (let l = length-pad 32 z in omega arith))
-        ∙ pairs-back submap-pairs (m .submaps) 32 (omega arith) in
+    ap (λ (t : List ℕ). pairs submapOf (length (m .submaps)) (take 32 t)) (part-submaps (n % 256) (n / 256) (length (m .submaps)) 0 x y z)
+    ∙ ap (pairs submapOf (length (m .submaps))) (take-all 32 (pad 32 z) (let l = length-pad 32 z in omega arith))
+    ∙ pairs-back submap-pairs (m .submaps) 32 (omega arith) in
     λ j. record { couplings = cs j; multiplex = ms j; submaps = ss j }
 
 -- no other mappings share a table

@@ -79,7 +79,7 @@ module _ (known : Known) (submaps steps : ℕ) (s : List ℕ) (k : Cursor) (row 
             let b = got (λ l. sets row₁ 516 (rows multiplexRow l)) (multiplexes (known .channels) submaps s (position k₂)) p₃ q₃ in
             rw (a .read, value-is p₂ q₂, eq-eqb _ _ e, b .read)
             (finish (many (submap known) submaps s (position k₃)) (λ l. record { couplings = a .value; multiplex = b .value; submaps = l }) (partsInto row) (λ l. sets row₂ 772 (rows submapRow l))
-             (λ l. ap (λ (t : List ℕ). sets t 772 (rows submapRow l)) (sym (b .made) ∙ ap (λ (t : List ℕ). sets t 516 (rows multiplexRow (b .value))) (sym (a .made)))) p₄)
+            (λ l. ap (λ (t : List ℕ). sets t 772 (rows submapRow l)) (sym (b .made) ∙ ap (λ (t : List ℕ). sets t 516 (rows multiplexRow (b .value))) (sym (a .made)))) p₄)
 
 -- how many items each part has
 pub record Sizes (known : Known) (few steps : ℕ) (m : Mapping) : Type 0 where
@@ -186,5 +186,7 @@ module _ (known : Known) (s : List ℕ) (n : ℕ) where
           record { within = omega arith; rest = subst (λ (j : ℕ). Rest (putRow mappingRow) (mapping known) s n W (i + 1) k′ (table cells′ j)) e (loop-next _ _ _ _ _ i k _ (w .rest) h one q) }
 
 pub ruleset parts-laws = (needs, couplings-refused, reserved-cut, reserved-wrong, multiplexes-refused, parts-whole)
+
 pub ruleset mapping-laws = (needs, submaps-few-here, steps-few-here, type-cut, type-wrong, submap-count-refused, step-count-refused, parts-refused, mapping-whole)
+
 pub ruleset mappings-laws = (needs, mappings-start, mappings-done, mappings-refused, mappings-next)

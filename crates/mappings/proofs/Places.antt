@@ -22,8 +22,10 @@ use Rattle.mappings.proofs.RowLaws.{coupling-wide, submap-wide, mapping
 module _ (m : Mapping) where
   abbrev x : List ℕ
   x = rows couplingRow (m .couplings)
+
   abbrev y : List ℕ
   y = map suc (m .multiplex)
+
   abbrev z : List ℕ
   z = rows submapRow (m .submaps)
 

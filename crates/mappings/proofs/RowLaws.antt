@@ -89,7 +89,7 @@ multiplex-set a b c d x y h =
     let l = length-pad 512 x in
     sets-behind (a ∷ b ∷ c ∷ d ∷ []) (pad 512 x ++ (pad 256 [] ++ pad 32 [])) 516 512 y refl
     ∙ ap (λ (l : List ℕ). (a ∷ b ∷ c ∷ d ∷ []) ++ l)
-      (sets-behind (pad 512 x) (pad 256 [] ++ pad 32 []) 512 0 y (omega arith) ∙ ap (λ (l : List ℕ). pad 512 x ++ l) (part-set 256 y (pad 32 []) h))
+    (sets-behind (pad 512 x) (pad 256 [] ++ pad 32 []) 512 0 y (omega arith) ∙ ap (λ (l : List ℕ). pad 512 x ++ l) (part-set 256 y (pad 32 []) h))
 
 submaps-set : (a b c d : ℕ) (x y z : List ℕ) → sets (fourParts a b c d x y []) 772 z ≡ fourParts a b c d x y z
 submaps-set a b c d x y z =
@@ -97,8 +97,8 @@ submaps-set a b c d x y z =
     let m = length-pad 256 y in
     sets-behind (a ∷ b ∷ c ∷ d ∷ []) (pad 512 x ++ (pad 256 y ++ pad 32 [])) 772 768 z refl
     ∙ ap (λ (l : List ℕ). (a ∷ b ∷ c ∷ d ∷ []) ++ l)
-      (sets-behind (pad 512 x) (pad 256 y ++ pad 32 []) 768 256 z (omega arith)
-       ∙ ap (λ (l : List ℕ). pad 512 x ++ l) (sets-behind (pad 256 y) (pad 32 []) 256 0 z (omega arith) ∙ ap (λ (l : List ℕ). pad 256 y ++ l) (sets-pad 32 z [] 0 refl)))
+    (sets-behind (pad 512 x) (pad 256 y ++ pad 32 []) 768 256 z (omega arith)
+    ∙ ap (λ (l : List ℕ). pad 512 x ++ l) (sets-behind (pad 256 y) (pad 32 []) 256 0 z (omega arith) ∙ ap (λ (l : List ℕ). pad 256 y ++ l) (sets-pad 32 z [] 0 refl)))
 
 -- the row that reading makes is the mapping's
 pub row-made : (m : Mapping) (submaps steps : ℕ) → length (m .couplings) ≡ steps → length (m .submaps) ≡ submaps → steps ≤ 256 → length (m .multiplex) ≤ 256

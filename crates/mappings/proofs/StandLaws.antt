@@ -20,7 +20,7 @@ use Rattle.reading.proofs.PairRows.{pair-laws}
 use Rattle.mappings.specs.Content.{Coupling, Submap, Mapping}
 use Rattle.mappings.specs.declared.Known.{Known}
 use Rattle.mappings.specs.Layout.{couplingRow, multiplexRow, submapRow, mappingRow}
-use Rattle.mappings.specs.Valid.{ValidCoupling, ValidSubmap, ValidMapping}
+use Rattle.mappings.specs.Valid.{ValidCoupling, ValidMultiplex, ValidSubmap, ValidMapping}
 use Rattle.mappings.specs.Decode.{couplingOf, submapOf}
 use Rattle.mappings.specs.Stand.{MappingsStand, multiplexCount}
 use Rattle.mappings.proofs.RowLaws.{couplings-length, submaps-length, multiplex-rows, multiplex-length, multiplex-wide, mapping-wide, part-couplings, part-multiplex, part-submaps}
@@ -48,50 +48,50 @@ module _ (floor residue : ℕ) (known : Known) where
 
 -- a multiplex number, which stands plus one
 module _ (number submaps : ℕ) where
-  as-row : RowOf multiplexRow (λ v. v < submaps) (number ∷ []) → (1 ≤ number) × (number ≤ submaps)
+  as-row : RowOf multiplexRow (ValidMultiplex submaps) (number ∷ []) → (1 ≤ number) × (number ≤ submaps)
   unfolding multiplexRow
   as-row r =
       let e : number ≡ suc (r .item) = ap (λ (l : List ℕ). getD l 0 0) (r .written) in
-      let v = r .valid in
+      let v = r .valid .number in
       (omega arith, omega arith)
 
-  pub multiplex-zero : number ≡ 0 → (false ≡ true) ↔ RowOf multiplexRow (λ v. v < submaps) (number ∷ [])
+  pub multiplex-zero : number ≡ 0 → (false ≡ true) ↔ RowOf multiplexRow (ValidMultiplex submaps) (number ∷ [])
   multiplex-zero h = iff-false (λ r. let a = as-row r .0 in omega arith)
 
-  pub multiplex-some : (number ≡ 0 → ⊥) → (leb number submaps ≡ true) ↔ RowOf multiplexRow (λ v. v < submaps) (number ∷ [])
+  pub multiplex-some : (number ≡ 0 → ⊥) → (leb number submaps ≡ true) ↔ RowOf multiplexRow (ValidMultiplex submaps) (number ∷ [])
   unfolding multiplexRow
-  multiplex-some h =
-      ((λ e. let l : number ≤ submaps = leb-true number submaps e in let s : 1 ≤ number = omega (arith, h) in let q : number ≡ suc (number - 1) = omega arith in
-             record { item = number - 1; valid = omega arith; written = ap (λ (x : ℕ). x ∷ []) q }),
-       (λ r. le-leb _ _ (as-row r .1)))
+  multiplex-some h = (
+    (λ e. let l : number ≤ submaps = leb-true number submaps e in let s : 1 ≤ number = omega (arith, h) in let q : number ≡ suc (number - 1) = omega arith in
+        record { item = number - 1; valid = record { number = omega arith }; written = ap (λ (x : ℕ). x ∷ []) q }),
+    (λ r. le-leb _ _ (as-row r .1)),
+  )
 
 pub ruleset number-laws = (needs, magnitude-high, angle-high, coupling-low, floor-high, floor-low, multiplex-zero, multiplex-some)
+
 pub ruleset coupling-stand-laws = (pair-laws, coupling-pairs)
+
 pub ruleset submap-stand-laws = (pair-laws, submap-pairs)
 
 -- the loop over the multiplex: i numbers are found right
 pub record Numbers (submaps n : ℕ) (cells : List ℕ) (i : ℕ) : Type 0 where
   pub within : i ≤ n
   pub room : n ≤ length cells
-  pub left : Left multiplexRow (λ v. v < submaps) 1 multiplex-wide n cells i
+  pub left : Left multiplexRow (ValidMultiplex submaps) 1 multiplex-wide n cells i
 
 module _ (submaps n : ℕ) (cells : List ℕ) where
-  abbrev Below : ℕ → Type 0
-  Below v = v < submaps
-
-  pub numbers-short : length cells < n → (false ≡ true) ↔ Stands multiplexRow (λ v. v < submaps) n cells
-  numbers-short h = iff-false (λ s. let l = stands-long multiplexRow Below 1 multiplex-wide n cells s in omega arith)
+  pub numbers-short : length cells < n → (false ≡ true) ↔ Stands multiplexRow (ValidMultiplex submaps) n cells
+  numbers-short h = iff-false (λ s. let l = stands-long multiplexRow (ValidMultiplex submaps) 1 multiplex-wide n cells s in omega arith)
 
   pub numbers-start : n ≤ length cells → Numbers submaps n cells 0
-  numbers-start h = record { within = omega arith; room = h; left = rows-start multiplexRow Below 1 multiplex-wide n cells }
+  numbers-start h = record { within = omega arith; room = h; left = rows-start multiplexRow (ValidMultiplex submaps) 1 multiplex-wide n cells }
 
   module _ (i : ℕ) (f : Numbers submaps n cells i) where
-    module _ (h : i < n) {r : Bool} (said : (r ≡ true) ↔ RowOf multiplexRow (λ v. v < submaps) (getD cells i 0 ∷ [])) where
+    module _ (h : i < n) {r : Bool} (said : (r ≡ true) ↔ RowOf multiplexRow (ValidMultiplex submaps) (getD cells i 0 ∷ [])) where
       single : take 1 (drop (1 * i) cells) ≡ getD cells i 0 ∷ []
       single = let g = f .room in let l : i < length cells = omega arith in ap (λ (k : ℕ). take 1 (drop k cells)) (one-mul i) ∙ ap (take 1) (drop-cons cells i 0 l)
 
-      pub numbers-stop : not r ≡ true → (false ≡ true) ↔ Stands multiplexRow (λ v. v < submaps) n cells
-      numbers-stop e = rows-stop multiplexRow Below 1 multiplex-wide n cells i (f .left) h (λ x. not-said said (not-true r e) (subst (RowOf multiplexRow Below) single x))
+      pub numbers-stop : not r ≡ true → (false ≡ true) ↔ Stands multiplexRow (ValidMultiplex submaps) n cells
+      numbers-stop e = rows-stop multiplexRow (ValidMultiplex submaps) 1 multiplex-wide n cells i (f .left) h (λ x. not-said said (not-true r e) (subst (RowOf multiplexRow (ValidMultiplex submaps)) single x))
 
       pub numbers-next : not r ≡ false → Numbers submaps n cells (i + 1)
       numbers-next e =
@@ -99,16 +99,33 @@ module _ (submaps n : ℕ) (cells : List ℕ) where
           record {
             within = omega arith;
             room = f .room;
-            left = rows-next multiplexRow Below 1 multiplex-wide n cells i (f .left) h (omega arith) (subst (RowOf multiplexRow Below) (sym single) (said .0 (not-false r e)));
+            left = rows-next multiplexRow (ValidMultiplex submaps) 1 multiplex-wide n cells i (f .left) h (omega arith) (subst (RowOf multiplexRow (ValidMultiplex submaps)) (sym single) (said .0 (not-false r e)));
           }
 
-    pub numbers-end : n ≤ i → {r : Bool} → (r ≡ true) ↔ Zeros (drop n cells) → (r ≡ true) ↔ Stands multiplexRow (λ v. v < submaps) n cells
+    pub numbers-end : n ≤ i → {r : Bool} → (r ≡ true) ↔ Zeros (drop n cells) → (r ≡ true) ↔ Stands multiplexRow (ValidMultiplex submaps) n cells
     numbers-end h said =
-        let s = rows-end multiplexRow Below 1 multiplex-wide n cells i (f .left) (f .within) h in
+        let s = rows-end multiplexRow (ValidMultiplex submaps) 1 multiplex-wide n cells i (f .left) (f .within) h in
         let e : drop (1 * n) cells ≡ drop n cells = ap (λ (k : ℕ). drop k cells) (one-mul n) in
         ((λ a. s .1 (subst Zeros (sym e) (said .0 a))), (λ b. said .1 (subst Zeros e (s .0 b))))
 
 pub ruleset multiplex-stand-laws = (needs, numbers-short, numbers-start, numbers-stop, numbers-next, numbers-end)
+
+-- how many multiplex numbers there are
+module _ (submaps channels : ℕ) where
+  pub count-none : submaps ≤ 1 → 0 ≡ multiplexCount submaps channels
+  count-none h = rw (le-leb submaps 1 h)
+
+  pub count-each : 1 < submaps → channels ≡ multiplexCount submaps channels
+  count-each h = rw (lt-leb submaps 1 h)
+
+  pub count-most : {count : ℕ} → count ≡ multiplexCount submaps channels → channels ≤ 255 → count ≤ 256
+  count-most {count} e h = rw e (go (leb submaps 1))
+    where
+      go : (t : Bool) → cond t 0 channels ≤ 256
+      go true = omega arith
+      go false = omega arith
+
+pub ruleset count-known = (needs, count-none, count-each)
 
 -- the row of a mapping, part by part
 pub record Parts (known : Known) (cells : List ℕ) (steps k : ℕ) : Type 0 where
@@ -117,12 +134,12 @@ pub record Parts (known : Known) (cells : List ℕ) (steps k : ℕ) : Type 0 whe
   pub few-submaps : k ≤ 16
   pub zero : getD cells 3 0 ≡ 0
   pub couplings : Stands couplingRow (ValidCoupling (known .channels)) steps (take 512 (drop 4 cells))
-  pub multiplex : Stands multiplexRow (λ v. v < k) (multiplexCount k (known .channels)) (take 256 (drop 516 cells))
+  pub multiplex : Stands multiplexRow (ValidMultiplex k) (multiplexCount k (known .channels)) (take 256 (drop 516 cells))
   pub submaps : Stands submapRow (ValidSubmap known) k (take 32 (drop 772 cells))
 
 -- a mapping put together from valid parts is valid
 valid-made : (known : Known) (cs : List Coupling) (ms : List ℕ) (ss : List Submap) (steps submaps : ℕ) → length cs ≡ steps → steps ≤ 256
-    → Each (ValidCoupling (known .channels)) cs → length ms ≡ multiplexCount submaps (known .channels) → Each (λ v. v < submaps) ms
+    → Each (ValidCoupling (known .channels)) cs → length ms ≡ multiplexCount submaps (known .channels) → Each (ValidMultiplex submaps) ms
     → length ss ≡ submaps → 1 ≤ submaps → submaps ≤ 16 → Each (ValidSubmap known) ss → ValidMapping known (record { couplings = cs; multiplex = ms; submaps = ss })
 valid-made known cs ms ss steps submaps nc h vc nm vm ns low high vs =
     record {
@@ -166,7 +183,7 @@ module _ (known : Known) (few : known .channels ≤ 255) where
       let lz = submaps-length (m .submaps) in
       let ly : length (rows multiplexRow (m .multiplex)) ≡ length (m .multiplex) = ap length (multiplex-rows (m .multiplex)) ∙ multiplex-length (m .multiplex) in
       let my = multiplex-most known m (omega arith) v in
-      let all-below : Each (λ u. u < getD cells 2 0) (m .multiplex) = rw e2 (all-each k (m .multiplex) (v .multiplex)) in
+      let all-below : Each (ValidMultiplex (getD cells 2 0)) (m .multiplex) = rw e2 (all-each k (m .multiplex) (v .multiplex)) in
       record {
         few-steps = omega arith;
         some-submap = omega arith;
@@ -176,7 +193,7 @@ module _ (known : Known) (few : known .channels ≤ 255) where
             rw e (stands-pad couplingRow (ValidCoupling (known .channels)) n 512 (m .couplings) (take 512 (drop 4 cells))
             (ap (λ (l : List ℕ). take 512 (drop 4 l)) w ∙ part-couplings (n % 256) (n / 256) k 0 x y z) refl (v .couplings) (omega arith));
         multiplex =
-            stands-pad multiplexRow (λ u. u < getD cells 2 0) (multiplexCount (getD cells 2 0) (known .channels)) 256 (m .multiplex) (take 256 (drop 516 cells))
+            stands-pad multiplexRow (ValidMultiplex (getD cells 2 0)) (multiplexCount (getD cells 2 0) (known .channels)) 256 (m .multiplex) (take 256 (drop 516 cells))
             (ap (λ (l : List ℕ). take 256 (drop 516 l)) w ∙ part-multiplex (n % 256) (n / 256) k 0 x y z ∙ ap (pad 256) (sym (multiplex-rows (m .multiplex))))
             (rw e2 (multiplex-number known m v)) all-below (omega arith);
         submaps =
@@ -192,9 +209,9 @@ module _ (known : Known) (few : known .channels ≤ 255) where
         let d = length-drop 772 cells in
         let a : drop 772 cells ≡ take 32 (drop 772 cells) = sym (take-all 32 (drop 772 cells) (omega arith)) in
         let b : drop 516 cells ≡ take 256 (drop 516 cells) ++ take 32 (drop 772 cells) =
-            sym (take-append-drop 256 (drop 516 cells)) ∙ ap (λ (l : List ℕ). take 256 (drop 516 cells) ++ l) (drop-drop 256 516 cells ∙ a) in
+        sym (take-append-drop 256 (drop 516 cells)) ∙ ap (λ (l : List ℕ). take 256 (drop 516 cells) ++ l) (drop-drop 256 516 cells ∙ a) in
         let c : drop 4 cells ≡ take 512 (drop 4 cells) ++ (take 256 (drop 516 cells) ++ take 32 (drop 772 cells)) =
-            sym (take-append-drop 512 (drop 4 cells)) ∙ ap (λ (l : List ℕ). take 512 (drop 4 cells) ++ l) (drop-drop 512 4 cells ∙ b) in
+        sym (take-append-drop 512 (drop 4 cells)) ∙ ap (λ (l : List ℕ). take 512 (drop 4 cells) ++ l) (drop-drop 512 4 cells ∙ b) in
         sym (take-append-drop 4 cells) ∙ ap (λ (l : List ℕ). take 4 cells ++ l) c
 
     made : getD cells 0 0 < 256 → Parts known cells (getD cells 0 0 + 256 * getD cells 1 0) (getD cells 2 0) → RowOf mappingRow (ValidMapping known) cells
@@ -256,8 +273,8 @@ module _ (known : Known) (cells : List ℕ) (long : length cells ≡ 804) (few :
     couplings-wrong e = iff-false (λ r. not-said said₁ (not-true r₁ e) (ps r .couplings))
 
     module _ {count : ℕ} (ec : count ≡ multiplexCount (getD cells 2 0) (known .channels)) {r₂ : Bool}
-        (said₂ : (r₂ ≡ true) ↔ Stands multiplexRow (λ v. v < getD cells 2 0) count (take 256 (drop 516 cells))) where
-      numbers : (r₂ ≡ true) ↔ Stands multiplexRow (λ v. v < getD cells 2 0) (multiplexCount (getD cells 2 0) (known .channels)) (take 256 (drop 516 cells))
+        (said₂ : (r₂ ≡ true) ↔ Stands multiplexRow (ValidMultiplex (getD cells 2 0)) count (take 256 (drop 516 cells))) where
+      numbers : (r₂ ≡ true) ↔ Stands multiplexRow (ValidMultiplex (getD cells 2 0)) (multiplexCount (getD cells 2 0) (known .channels)) (take 256 (drop 516 cells))
       numbers = rw ec at said₂
 
       pub multiplex-wrong : not r₂ ≡ true → (false ≡ true) ↔ RowOf mappingRow (ValidMapping known) cells
@@ -266,11 +283,16 @@ module _ (known : Known) (cells : List ℕ) (long : length cells ≡ 804) (few :
       pub row-right : steps ≤ 256 → 1 ≤ getD cells 2 0 → getD cells 2 0 ≤ 16 → getD cells 3 0 ≡ 0 → not r₁ ≡ false → not r₂ ≡ false → {r₃ : Bool}
           → (r₃ ≡ true) ↔ Stands submapRow (ValidSubmap known) (getD cells 2 0) (take 32 (drop 772 cells)) → (r₃ ≡ true) ↔ RowOf mappingRow (ValidMapping known) cells
       row-right a b c z e₁ e₂ said₃ =
-          let q = parts-of known few cells long (es .1) (es .0) in
-          ((λ e. q .1 (record { few-steps = a; some-submap = b; few-submaps = c; zero = z; couplings = said₁ .0 (not-false r₁ e₁); multiplex = numbers .0 (not-false r₂ e₂); submaps = said₃ .0 e })),
-           (λ r. said₃ .1 (ps r .submaps)))
+          let q = parts-of known few cells long (es .1) (es .0) in (
+            (λ e. q .1 (record { few-steps = a; some-submap = b; few-submaps = c; zero = z; couplings = said₁ .0 (not-false r₁ e₁); multiplex = numbers .0 (not-false r₂ e₂); submaps = said₃ .0 e })),
+            (λ r. said₃ .1 (ps r .submaps)),
+          )
 
-pub ruleset row-laws = (needs, steps-many, submaps-none, submaps-many, place-used, couplings-wrong, multiplex-wrong, row-right)
+pub ruleset row-laws = (needs, count-most, steps-many, submaps-none, submaps-many, place-used, couplings-wrong, multiplex-wrong, row-right)
+
+-- the width of a part, as the code computes it
+pub part-width : (a w : ℕ) → a + w - a ≡ w
+part-width a w = omega arith
 
 -- the loop over the rows: i are found right
 pub record Finding (known : Known) (n : ℕ) (cells : List ℕ) (i : ℕ) : Type 0 where
@@ -286,22 +308,22 @@ module _ (known : Known) (n : ℕ) (cells : List ℕ) where
   find-start h = record { within = omega arith; room = h; left = rows-start mappingRow (ValidMapping known) 804 mapping-wide n cells }
 
   module _ (i : ℕ) (f : Finding known n cells i) where
-    module _ (h : i < n) {r : Bool} (said : (r ≡ true) ↔ RowOf mappingRow (ValidMapping known) (take 804 (drop (804 * i) cells))) where
+    -- w is the row's width as the code computes it
+    module _ (h : i < n) {r : Bool} {w : ℕ} (said : (r ≡ true) ↔ RowOf mappingRow (ValidMapping known) (take w (drop (804 * i) cells))) (e : w ≡ 804) where
+      of-row : (r ≡ true) ↔ RowOf mappingRow (ValidMapping known) (take 804 (drop (804 * i) cells))
+      of-row = rw e at said
+
       pub find-stop : not r ≡ true → (false ≡ true) ↔ MappingsStand known n cells
-      find-stop e = rows-stop mappingRow (ValidMapping known) 804 mapping-wide n cells i (f .left) h (λ x. not-said said (not-true r e) x)
+      find-stop f′ = rows-stop mappingRow (ValidMapping known) 804 mapping-wide n cells i (f .left) h (λ x. not-said of-row (not-true r f′) x)
 
       pub find-next : not r ≡ false → Finding known n cells (i + 1)
-      find-next e =
+      find-next f′ =
           let g = f .room in
-          record { within = omega arith; room = f .room; left = rows-next mappingRow (ValidMapping known) 804 mapping-wide n cells i (f .left) h (omega arith) (said .0 (not-false r e)) }
+          record { within = omega arith; room = f .room; left = rows-next mappingRow (ValidMapping known) 804 mapping-wide n cells i (f .left) h (omega arith) (of-row .0 (not-false r f′)) }
 
     pub find-end : n ≤ i → {r : Bool} → (r ≡ true) ↔ Zeros (drop (804 * n) cells) → (r ≡ true) ↔ MappingsStand known n cells
     find-end h said =
         let s = rows-end mappingRow (ValidMapping known) 804 mapping-wide n cells i (f .left) (f .within) h in
         ((λ e. s .1 (said .0 e)), (λ a. said .1 (s .0 a)))
 
--- a row of 804 numbers out of the table
-pub row-long : (cells : List ℕ) (n i : ℕ) → 804 * n ≤ length cells → i < n → length (take 804 (drop (804 * i) cells)) ≡ 804
-row-long cells n i h g = let l = length-drop (804 * i) cells in length-take-le 804 (drop (804 * i) cells) (omega arith)
-
-pub ruleset stand-laws = (needs, too-short, find-start, find-stop, find-next, find-end)
+pub ruleset stand-laws = (needs, too-short, find-start, find-end)

@@ -15,6 +15,10 @@ pub record ValidCoupling (channels : ℕ) (c : Coupling) : Type 0 where
   pub angle : c .angle < channels
   pub different : c .angle ≡ c .magnitude → ⊥
 
+-- a channel's submap, of so many
+pub record ValidMultiplex (submaps : ℕ) (v : ℕ) : Type 0 where
+  pub number : v < submaps
+
 pub record ValidSubmap (known : Known) (m : Submap) : Type 0 where
   pub floor : m .floor < known .floors
   pub residue : m .residue < known .residues

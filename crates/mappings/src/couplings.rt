@@ -23,7 +23,10 @@ pub fn read_channel(packet: &[u8], from: Cursor, channels: u32) -> Field
         Field::Refused(z) => Field::Refused(z),
         Field::Value(number, next) => {
             if number >= channels {
-                return Field::Refused(Refusal { number: 11, place: from });
+                return Field::Refused(Refusal {
+                    number: 11,
+                    place: from,
+                });
             }
             Field::Value(number, next)
         }
@@ -33,10 +36,8 @@ pub fn read_channel(packet: &[u8], from: Cursor, channels: u32) -> Field
 // One coupling step, its row written at `at`.
 pub fn read_coupling(packet: &[u8], from: Cursor, channels: u32, row: &mut [u8], at: usize) -> Step
     requires { ⌜ (1 ≤ channels) × (channels ≤ 255) × (at ≤ 804) ⌝ }
-    ensures {
-        λ r. ⌜ Wrote (into1 (putRow couplingRow) (coupling channels (now (packet .entry)) (position from)) (table (now (row .entry)) at))
-            r (table (now (row .exit)) (at + 2)) ⌝
-    }
+    ensures { λ r. ⌜ Wrote (into1 (putRow couplingRow) (coupling channels (now (packet .entry)) (position from)) (table (now (row .entry)) at))
+        r (table (now (row .exit)) (at + 2)) ⌝ }
 {
     match read_channel(packet, from, channels) {
         Field::Refused(z) => Step::Refused(z),
@@ -44,7 +45,10 @@ pub fn read_coupling(packet: &[u8], from: Cursor, channels: u32, row: &mut [u8],
             Field::Refused(z) => Step::Refused(z),
             Field::Value(angle, next) => {
                 if angle == magnitude {
-                    return Step::Refused(Refusal { number: 11, place: at_angle });
+                    return Step::Refused(Refusal {
+                        number: 11,
+                        place: at_angle,
+                    });
                 }
                 let step: [u8; 2] = [magnitude as u8, angle as u8];
                 reading::buffers::write_u8(row, at, &step);
@@ -55,12 +59,16 @@ pub fn read_coupling(packet: &[u8], from: Cursor, channels: u32, row: &mut [u8],
 }
 
 // `count` coupling steps, into their part of the row.
-pub fn read_couplings(packet: &[u8], from: Cursor, count: u32, channels: u32, row: &mut [u8]) -> Step
+pub fn read_couplings(
+    packet: &[u8],
+    from: Cursor,
+    count: u32,
+    channels: u32,
+    row: &mut [u8],
+) -> Step
     requires { ⌜ (1 ≤ channels) × (channels ≤ 255) × (count ≤ 256) ⌝ }
-    ensures {
-        λ r. ⌜ Wrote (mapped (λ l. sets (now (row .entry)) 4 (rows couplingRow l)) (many (coupling channels) count (now (packet .entry)) (position from)))
-            r (now (row .exit)) ⌝
-    }
+    ensures { λ r. ⌜ Wrote (mapped (λ l. sets (now (row .entry)) 4 (rows couplingRow l)) (many (coupling channels) count (now (packet .entry)) (position from)))
+        r (now (row .exit)) ⌝ }
 {
     let mut k = from;
     let mut i: u32 = 0;

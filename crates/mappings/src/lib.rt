@@ -3,6 +3,8 @@
 pub mod counts; // how many submaps and coupling steps
 pub mod couplings; // the coupling steps
 pub mod submaps; // each channel's submap, and the submaps
+pub mod stand; // whether a table that is handed in holds mappings
+pub mod access; // what a table says of each mapping
 
 use bits::Cursor;
 use bits::Field;
@@ -23,11 +25,16 @@ pub struct Known {
 }
 
 // What follows a mapping's counts, into a row in which those stand.
-fn read_parts(packet: &[u8], from: Cursor, known: Known, submaps: u32, steps: u32, row: &mut [u8]) -> Step
+fn read_parts(
+    packet: &[u8],
+    from: Cursor,
+    known: Known,
+    submaps: u32,
+    steps: u32,
+    row: &mut [u8],
+) -> Step
     requires { ⌜ (1 ≤ known .channels) × (known .channels ≤ 255) × (submaps ≤ 16) × (steps ≤ 256) ⌝ }
-    ensures {
-        λ r. ⌜ Wrote (mapped (partsInto (now (row .entry))) (parts known submaps steps (now (packet .entry)) (position from))) r (now (row .exit)) ⌝
-    }
+    ensures { λ r. ⌜ Wrote (mapped (partsInto (now (row .entry))) (parts known submaps steps (now (packet .entry)) (position from))) r (now (row .exit)) ⌝ }
 {
     match couplings::read_couplings(packet, from, steps, known.channels, row) {
         Step::Refused(z) => Step::Refused(z),
@@ -35,11 +42,26 @@ fn read_parts(packet: &[u8], from: Cursor, known: Known, submaps: u32, steps: u3
             Field::Refused(z) => Step::Refused(z),
             Field::Value(reserved, at_multiplex) => {
                 if reserved != 0 {
-                    return Step::Refused(Refusal { number: 9, place: at_reserved });
+                    return Step::Refused(Refusal {
+                        number: 9,
+                        place: at_reserved,
+                    });
                 }
-                match submaps::read_multiplexes(packet, at_multiplex, known.channels, submaps, row) {
+                match submaps::read_multiplexes(
+                    packet,
+                    at_multiplex,
+                    known.channels,
+                    submaps,
+                    row,
+                ) {
                     Step::Refused(z) => Step::Refused(z),
-                    Step::Next(at_submaps) => submaps::read_submaps(packet, at_submaps, submaps, known, row),
+                    Step::Next(at_submaps) => submaps::read_submaps(
+                        packet,
+                        at_submaps,
+                        submaps,
+                        known,
+                        row,
+                    ),
                 }
             }
         },
@@ -47,22 +69,32 @@ fn read_parts(packet: &[u8], from: Cursor, known: Known, submaps: u32, steps: u3
 }
 
 // One mapping, its row written at `at`.
-pub fn read_mapping(packet: &[u8], from: Cursor, known: Known, mappings: &mut [u8], at: usize) -> Step
+pub fn read_mapping(
+    packet: &[u8],
+    from: Cursor,
+    known: Known,
+    mappings: &mut [u8],
+    at: usize,
+) -> Step
     requires { ⌜ (1 ≤ known .channels) × (known .channels ≤ 255) × (at ≤ 51456) ⌝ }
-    ensures {
-        λ r. ⌜ Wrote (into1 (putRow mappingRow) (mapping known (now (packet .entry)) (position from)) (table (now (mappings .entry)) at))
-            r (table (now (mappings .exit)) (at + 804)) ⌝
-    }
+    ensures { λ r. ⌜ Wrote (into1 (putRow mappingRow) (mapping known (now (packet .entry)) (position from)) (table (now (mappings .entry)) at))
+        r (table (now (mappings .exit)) (at + 804)) ⌝ }
 {
     match from.field(packet, 16) {
         Field::Refused(z) => Step::Refused(z),
         Field::Value(kind, at_submaps) => {
             if kind != 0 {
-                return Step::Refused(Refusal { number: 9, place: from });
+                return Step::Refused(Refusal {
+                    number: 9,
+                    place: from,
+                });
             }
             match counts::read_submap_count(packet, at_submaps) {
                 Field::Refused(z) => Step::Refused(z),
-                Field::Value(submaps, at_steps) => match counts::read_coupling_count(packet, at_steps) {
+                Field::Value(submaps, at_steps) => match counts::read_coupling_count(
+                    packet,
+                    at_steps,
+                ) {
                     Field::Refused(z) => Step::Refused(z),
                     Field::Value(steps, at_parts) => {
                         let mut row = [0u8; 804];
@@ -84,12 +116,16 @@ pub fn read_mapping(packet: &[u8], from: Cursor, known: Known, mappings: &mut [u
 }
 
 // `count` mappings, their rows from the front of the buffer.
-pub fn read_mappings(packet: &[u8], from: Cursor, count: usize, known: Known, mappings: &mut [u8]) -> Step
+pub fn read_mappings(
+    packet: &[u8],
+    from: Cursor,
+    count: usize,
+    known: Known,
+    mappings: &mut [u8],
+) -> Step
     requires { ⌜ (1 ≤ known .channels) × (known .channels ≤ 255) × (count ≤ 64) ⌝ }
-    ensures {
-        λ r. ⌜ Wrote (into (putRow mappingRow) (many (mapping known) count (now (packet .entry)) (position from)) (table (now (mappings .entry)) 0))
-            r (table (now (mappings .exit)) (804 * count)) ⌝
-    }
+    ensures { λ r. ⌜ Wrote (into (putRow mappingRow) (many (mapping known) count (now (packet .entry)) (position from)) (table (now (mappings .entry)) 0))
+        r (table (now (mappings .exit)) (804 * count)) ⌝ }
 {
     let mut k = from;
     let mut i: usize = 0;

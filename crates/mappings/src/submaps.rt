@@ -17,16 +17,17 @@ ghost use Rattle.mappings.specs.Layout.{multiplexRow, submapRow};
 // One channel's submap, which is written at `at` plus one.
 pub fn read_multiplex(packet: &[u8], from: Cursor, submaps: u32, row: &mut [u8], at: usize) -> Step
     requires { ⌜ at ≤ 804 ⌝ }
-    ensures {
-        λ r. ⌜ Wrote (into1 (putRow multiplexRow) (multiplex submaps (now (packet .entry)) (position from)) (table (now (row .entry)) at))
-            r (table (now (row .exit)) (at + 1)) ⌝
-    }
+    ensures { λ r. ⌜ Wrote (into1 (putRow multiplexRow) (multiplex submaps (now (packet .entry)) (position from)) (table (now (row .entry)) at))
+        r (table (now (row .exit)) (at + 1)) ⌝ }
 {
     match from.field(packet, 4) {
         Field::Refused(z) => Step::Refused(z),
         Field::Value(number, next) => {
             if number >= submaps {
-                return Step::Refused(Refusal { number: 11, place: from });
+                return Step::Refused(Refusal {
+                    number: 11,
+                    place: from,
+                });
             }
             reading::buffers::put_u8(row, at, (number + 1) as u8);
             Step::Next(next)
@@ -37,10 +38,8 @@ pub fn read_multiplex(packet: &[u8], from: Cursor, submaps: u32, row: &mut [u8],
 // Every channel's submap, into its part of the row.
 fn read_channels(packet: &[u8], from: Cursor, channels: u32, submaps: u32, row: &mut [u8]) -> Step
     requires { ⌜ channels ≤ 255 ⌝ }
-    ensures {
-        λ r. ⌜ Wrote (mapped (λ l. sets (now (row .entry)) 516 (rows multiplexRow l)) (many (multiplex submaps) channels (now (packet .entry)) (position from)))
-            r (now (row .exit)) ⌝
-    }
+    ensures { λ r. ⌜ Wrote (mapped (λ l. sets (now (row .entry)) 516 (rows multiplexRow l)) (many (multiplex submaps) channels (now (packet .entry)) (position from)))
+        r (now (row .exit)) ⌝ }
 {
     let mut k = from;
     let mut i: u32 = 0;
@@ -61,12 +60,16 @@ fn read_channels(packet: &[u8], from: Cursor, channels: u32, submaps: u32, row: 
 }
 
 // The multiplex: nothing where there is one submap.
-pub fn read_multiplexes(packet: &[u8], from: Cursor, channels: u32, submaps: u32, row: &mut [u8]) -> Step
+pub fn read_multiplexes(
+    packet: &[u8],
+    from: Cursor,
+    channels: u32,
+    submaps: u32,
+    row: &mut [u8],
+) -> Step
     requires { ⌜ channels ≤ 255 ⌝ }
-    ensures {
-        λ r. ⌜ Wrote (mapped (λ l. sets (now (row .entry)) 516 (rows multiplexRow l)) (multiplexes channels submaps (now (packet .entry)) (position from)))
-            r (now (row .exit)) ⌝
-    }
+    ensures { λ r. ⌜ Wrote (mapped (λ l. sets (now (row .entry)) 516 (rows multiplexRow l)) (multiplexes channels submaps (now (packet .entry)) (position from)))
+        r (now (row .exit)) ⌝ }
 {
     if submaps <= 1 {
         return Step::Next(from);
@@ -77,10 +80,8 @@ pub fn read_multiplexes(packet: &[u8], from: Cursor, channels: u32, submaps: u32
 // One submap, its row written at `at`.
 pub fn read_submap(packet: &[u8], from: Cursor, known: Known, row: &mut [u8], at: usize) -> Step
     requires { ⌜ at ≤ 804 ⌝ }
-    ensures {
-        λ r. ⌜ Wrote (into1 (putRow submapRow) (submap known (now (packet .entry)) (position from)) (table (now (row .entry)) at))
-            r (table (now (row .exit)) (at + 2)) ⌝
-    }
+    ensures { λ r. ⌜ Wrote (into1 (putRow submapRow) (submap known (now (packet .entry)) (position from)) (table (now (row .entry)) at))
+        r (table (now (row .exit)) (at + 2)) ⌝ }
 {
     match from.field(packet, 8) {
         Field::Refused(z) => Step::Refused(z),
@@ -88,13 +89,19 @@ pub fn read_submap(packet: &[u8], from: Cursor, known: Known, row: &mut [u8], at
             Field::Refused(z) => Step::Refused(z),
             Field::Value(floor, at_residue) => {
                 if floor >= known.floors {
-                    return Step::Refused(Refusal { number: 11, place: at_floor });
+                    return Step::Refused(Refusal {
+                        number: 11,
+                        place: at_floor,
+                    });
                 }
                 match at_residue.field(packet, 8) {
                     Field::Refused(z) => Step::Refused(z),
                     Field::Value(residue, next) => {
                         if residue >= known.residues {
-                            return Step::Refused(Refusal { number: 11, place: at_residue });
+                            return Step::Refused(Refusal {
+                                number: 11,
+                                place: at_residue,
+                            });
                         }
                         let pair: [u8; 2] = [floor as u8, residue as u8];
                         reading::buffers::write_u8(row, at, &pair);
@@ -109,10 +116,8 @@ pub fn read_submap(packet: &[u8], from: Cursor, known: Known, row: &mut [u8], at
 // `count` submaps, into their part of the row.
 pub fn read_submaps(packet: &[u8], from: Cursor, count: u32, known: Known, row: &mut [u8]) -> Step
     requires { ⌜ count ≤ 16 ⌝ }
-    ensures {
-        λ r. ⌜ Wrote (mapped (λ l. sets (now (row .entry)) 772 (rows submapRow l)) (many (submap known) count (now (packet .entry)) (position from)))
-            r (now (row .exit)) ⌝
-    }
+    ensures { λ r. ⌜ Wrote (mapped (λ l. sets (now (row .entry)) 772 (rows submapRow l)) (many (submap known) count (now (packet .entry)) (position from)))
+        r (now (row .exit)) ⌝ }
 {
     let mut k = from;
     let mut i: u32 = 0;

@@ -109,4 +109,5 @@ module _ (mappings : ℕ) (s : List ℕ) (n : ℕ) where
           record { within = omega arith; rest = subst (λ (j : ℕ). Rest (putRow modeRow) (mode mappings) s n W (i + 1) k′ (table cells′ j)) e (loop-next _ _ _ _ _ i k _ (w .rest) h one q) }
 
 pub ruleset mode-laws = (needs, flag-fits, mapping-fits, flag-cut, window-cut, window-wrong, transform-cut, transform-wrong, mapping-cut, mapping-unknown, mode-whole)
+
 pub ruleset modes-laws = (needs, modes-start, modes-done, modes-refused, modes-next)

@@ -26,4 +26,5 @@ module _ (blockflag mapping mappings : ℕ) where
   flag-low h = ((λ e. record { blockflag = h; mapping = ltb-true _ _ e }), (λ v. lt-ltb _ _ (v .mapping)))
 
 pub ruleset number-laws = (needs, flag-high, flag-low)
+
 pub ruleset stand-laws = (pair-laws, mode-pairs)

@@ -16,10 +16,8 @@ ghost use Rattle.modes.specs.Layout.{modeRow};
 // One mode, its row written at `at`. `mappings` is how many mappings are set up.
 pub fn read_mode(packet: &[u8], from: Cursor, mappings: u32, modes: &mut [u8], at: usize) -> Step
     requires { ⌜ at ≤ 128 ⌝ }
-    ensures {
-        λ r. ⌜ Wrote (into1 (putRow modeRow) (mode mappings (now (packet .entry)) (position from)) (table (now (modes .entry)) at))
-            r (table (now (modes .exit)) (at + 2)) ⌝
-    }
+    ensures { λ r. ⌜ Wrote (into1 (putRow modeRow) (mode mappings (now (packet .entry)) (position from)) (table (now (modes .entry)) at))
+        r (table (now (modes .exit)) (at + 2)) ⌝ }
 {
     match from.bit(packet) {
         Field::Refused(z) => Step::Refused(z),
@@ -27,19 +25,28 @@ pub fn read_mode(packet: &[u8], from: Cursor, mappings: u32, modes: &mut [u8], a
             Field::Refused(z) => Step::Refused(z),
             Field::Value(window, at_transform) => {
                 if window != 0 {
-                    return Step::Refused(Refusal { number: 9, place: at_window });
+                    return Step::Refused(Refusal {
+                        number: 9,
+                        place: at_window,
+                    });
                 }
                 match at_transform.field(packet, 16) {
                     Field::Refused(z) => Step::Refused(z),
                     Field::Value(transform, at_mapping) => {
                         if transform != 0 {
-                            return Step::Refused(Refusal { number: 9, place: at_transform });
+                            return Step::Refused(Refusal {
+                                number: 9,
+                                place: at_transform,
+                            });
                         }
                         match at_mapping.field(packet, 8) {
                             Field::Refused(z) => Step::Refused(z),
                             Field::Value(mapping, next) => {
                                 if mapping >= mappings {
-                                    return Step::Refused(Refusal { number: 11, place: at_mapping });
+                                    return Step::Refused(Refusal {
+                                        number: 11,
+                                        place: at_mapping,
+                                    });
                                 }
                                 let row: [u8; 2] = [blockflag as u8, mapping as u8];
                                 reading::buffers::write_u8(modes, at, &row);
@@ -54,12 +61,16 @@ pub fn read_mode(packet: &[u8], from: Cursor, mappings: u32, modes: &mut [u8], a
 }
 
 // `count` modes, their rows from the front of the buffer.
-pub fn read_modes(packet: &[u8], from: Cursor, count: usize, mappings: u32, modes: &mut [u8]) -> Step
+pub fn read_modes(
+    packet: &[u8],
+    from: Cursor,
+    count: usize,
+    mappings: u32,
+    modes: &mut [u8],
+) -> Step
     requires { ⌜ count ≤ 64 ⌝ }
-    ensures {
-        λ r. ⌜ Wrote (into (putRow modeRow) (many (mode mappings) count (now (packet .entry)) (position from)) (table (now (modes .entry)) 0))
-            r (table (now (modes .exit)) (2 * count)) ⌝
-    }
+    ensures { λ r. ⌜ Wrote (into (putRow modeRow) (many (mode mappings) count (now (packet .entry)) (position from)) (table (now (modes .entry)) 0))
+        r (table (now (modes .exit)) (2 * count)) ⌝ }
 {
     let mut k = from;
     let mut i: usize = 0;

@@ -30,9 +30,10 @@ two cells i h =
 module _ {A : Type 0} {row : A → List ℕ} {pair : ℕ → ℕ → A} (Valid : A → Type 0) (P : PairRow row pair) where
   -- two numbers are a row exactly where the item that they make is valid
   pub pair-row : (a b : ℕ) → RowOf row Valid (a ∷ b ∷ []) ↔ Valid (pair a b)
-  pair-row a b =
-      ((λ r. subst Valid (sym (P .back (r .item)) ∙ ap (λ (l : List ℕ). pair (getD l 0 0) (getD l 1 0)) (sym (r .written))) (r .valid)),
-       (λ v. record { item = pair a b; valid = v; written = sym (P .of a b) }))
+  pair-row a b = (
+    (λ r. subst Valid (sym (P .back (r .item)) ∙ ap (λ (l : List ℕ). pair (getD l 0 0) (getD l 1 0)) (sym (r .written))) (r .valid)),
+    (λ v. record { item = pair a b; valid = v; written = sym (P .of a b) }),
+  )
 
   -- the loop over the rows of `cells`, of which there should be n: i are found right
   pub record Finding (n : ℕ) (cells : List ℕ) (i : ℕ) : Type 0 where

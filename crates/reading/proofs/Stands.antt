@@ -53,6 +53,7 @@ module _ (cells : List ℕ) (from i : ℕ) (z : Zeroing cells from i) where
     where
       down : {l : List ℕ} → Zeros (0 ∷ l) → Zeros l
       down {l} q = cc
+
       up : {l : List ℕ} → Zeros l → Zeros (0 ∷ l)
       up {l} q = ap (λ (k : List ℕ). 0 ∷ k) q
 
@@ -71,9 +72,10 @@ module _ {A : Type 0} (row : A → List ℕ) (Valid : A → Type 0) where
   -- no item: zeros alone
   pub stands-none : (cells : List ℕ) → Stands row Valid 0 cells ↔ Zeros cells
   unfolding Each rows
-  stands-none cells =
-      ((λ s. none (s .items) (s .number) (s .written)),
-       (λ e. record { items = []; number = refl; valid = tt; fits = omega arith; written = e ∙ sym (pad-nil (length cells)) }))
+  stands-none cells = (
+    (λ s. none (s .items) (s .number) (s .written)),
+    (λ e. record { items = []; number = refl; valid = tt; fits = omega arith; written = e ∙ sym (pad-nil (length cells)) }),
+  )
     where
       none : (l : List A) → length l ≡ 0 → cells ≡ pad (length cells) (rows row l) → cells ≡ replicate (length cells) 0
       none [] n w = w ∙ pad-nil (length cells)
@@ -114,9 +116,10 @@ module _ {A : Type 0} (row : A → List ℕ) (Valid : A → Type 0) where
             let q : drop w cells ≡ pad (length cells - w) (rows row l) = ap (drop w) p ∙ drop-at (row a) _ w (wide a) in
             let la = wide a in
             let lr = length-append (row a) (rows row l) in
-            let ld : length (drop w cells) ≡ length cells - w = length-drop w cells in
-            (record { item = a; valid = v .0; written = ap (take w) p ∙ take-at (row a) _ w (wide a) },
-             record { items = l; number = omega arith; valid = v .1; fits = omega arith; written = rw ld q })
+            let ld : length (drop w cells) ≡ length cells - w = length-drop w cells in (
+              record { item = a; valid = v .0; written = ap (take w) p ∙ take-at (row a) _ w (wide a) },
+              record { items = l; number = omega arith; valid = v .1; fits = omega arith; written = rw ld q },
+            )
 
     pub stands-cons : (n : ℕ) (cells : List ℕ) → w ≤ length cells → RowOf row Valid (take w cells) → Stands row Valid n (drop w cells) → Stands row Valid (suc n) cells
     unfolding Each rows
@@ -165,9 +168,10 @@ module _ {A : Type 0} (row : A → List ℕ) (Valid : A → Type 0) where
         unfolding Left
         rows-next h f r =
             let l : length (drop (w * i) cells) ≡ length cells - w * i = length-drop (w * i) cells in
-            let s = subst (λ (k : ℕ). Stands row Valid n cells ↔ Stands row Valid k (drop (w * i) cells)) (turn h) left in
-            ((λ a. subst (Stands row Valid (n - (i + 1))) after (stands-first (n - (i + 1)) (drop (w * i) cells) (s .0 a) .1)),
-             (λ b. s .1 (stands-cons (n - (i + 1)) (drop (w * i) cells) (omega arith) r (subst (Stands row Valid (n - (i + 1))) (sym after) b))))
+            let s = subst (λ (k : ℕ). Stands row Valid n cells ↔ Stands row Valid k (drop (w * i) cells)) (turn h) left in (
+              (λ a. subst (Stands row Valid (n - (i + 1))) after (stands-first (n - (i + 1)) (drop (w * i) cells) (s .0 a) .1)),
+              (λ b. s .1 (stands-cons (n - (i + 1)) (drop (w * i) cells) (omega arith) r (subst (Stands row Valid (n - (i + 1))) (sym after) b))),
+            )
 
         pub rows-stop : i < n → (RowOf row Valid (take w (drop (w * i) cells)) → ⊥) → (false ≡ true) ↔ Stands row Valid n cells
         unfolding Left
@@ -194,6 +198,7 @@ module _ {A : Type 0} (row : A → List ℕ) (Valid : A → Type 0) where
             let m : w * (i + 1) ≤ w * length l = mul-le-mul-left w (omega arith) in
             let e : w * (i + 1) ≡ w * i + w = rw (add-one, mul-suc) refl in
             omega arith
+
         go : (l : List A) (i : ℕ) → i < length l → getD (rows row l) (w * i + j) 0 ≡ getD (row (getD l i d)) j 0
         go [] i h = absurd (omega arith)
         go (a ∷ l) zero h =

@@ -1,0 +1,17 @@
+use Rattle.mappings.proofs.StandLaws.{number-laws}
+use borrow.Author.Needs.{needs}
+use Rattle.mappings.proofs.stand.is_multiplex.Statement.{statement}
+use Rattle.mappings.proofs.stand.is_multiplex.Tie as tie
+use Rattle.mappings.proofs.stand.is_multiplex.Reads as reads
+use Rattle.mappings.proofs.stand.is_multiplex.Lts as lts
+
+-- src/stand.rt:50:9
+returns : tie.Need-returns
+returns c = search number-laws
+
+-- src/stand.rt:46:1
+returns-2 : tie.Need-returns-2
+returns-2 c = search number-laws
+
+pub is-multiplex-spec : {M : Type 1} → statement M
+is-multiplex-spec = tie.close (tie.spec returns returns-2)

@@ -1,0 +1,17 @@
+use Rattle.mappings.proofs.StandLaws.{number-laws}
+use borrow.Author.Needs.{needs}
+use Rattle.mappings.proofs.stand.is_submap.Statement.{statement}
+use Rattle.mappings.proofs.stand.is_submap.Tie as tie
+use Rattle.mappings.proofs.stand.is_submap.Reads as reads
+use Rattle.mappings.proofs.stand.is_submap.Lts as lts
+
+-- src/stand.rt:77:9
+returns : tie.Need-returns
+returns c = search number-laws
+
+-- src/stand.rt:73:1
+returns-2 : tie.Need-returns-2
+returns-2 c = search number-laws
+
+pub is-submap-spec : {M : Type 1} → statement M
+is-submap-spec = tie.close (tie.spec returns returns-2)

@@ -1,0 +1,17 @@
+use Rattle.mappings.proofs.StandLaws.{count-known}
+use borrow.Author.Needs.{needs}
+use Rattle.mappings.proofs.stand.multiplex_count.Statement.{statement}
+use Rattle.mappings.proofs.stand.multiplex_count.Tie as tie
+use Rattle.mappings.proofs.stand.multiplex_count.Reads as reads
+use Rattle.mappings.proofs.stand.multiplex_count.Lts as lts
+
+-- src/stand.rt:111:9
+returns : tie.Need-returns
+returns c = search count-known
+
+-- src/stand.rt:107:1
+returns-2 : tie.Need-returns-2
+returns-2 c = search count-known
+
+pub multiplex-count-spec : {M : Type 1} → statement M
+multiplex-count-spec = tie.close (tie.spec returns returns-2)

@@ -1,0 +1,67 @@
+// What a table of mappings says of each: proofs/Places.antt tells which number of the content each answer is.
+ghost use Prim.Native.Nat.{_+_, _-_, _*_, _<_};
+ghost use mathlib.Core.Path.{_≡_};
+ghost use lib.ListN.{getD};
+
+// How many coupling steps a mapping has, 0 to 256.
+pub fn coupling_steps(mappings: &[u8], mapping: usize) -> usize
+    requires { ⌜ mapping < 64 ⌝ }
+    ensures { λ r. ⌜ r ≡ getD (now (mappings .entry)) (804 * mapping) 0 + 256 * getD (now (mappings .entry)) (804 * mapping + 1) 0 ⌝ }
+{
+    super::stand::two_places(
+        reading::buffers::get_u8(mappings, 804 * mapping),
+        reading::buffers::get_u8(mappings, 804 * mapping + 1),
+    )
+}
+
+// The channel that a coupling step treats as magnitude.
+pub fn magnitude(mappings: &[u8], mapping: usize, step: usize) -> u8
+    requires { ⌜ (mapping < 64) × (step < 256) ⌝ }
+    ensures { λ r. ⌜ r ≡ getD (now (mappings .entry)) (804 * mapping + (4 + 2 * step)) 0 ⌝ }
+{
+    reading::buffers::get_u8(mappings, 804 * mapping + (4 + 2 * step))
+}
+
+// The channel that a coupling step treats as angle.
+pub fn angle(mappings: &[u8], mapping: usize, step: usize) -> u8
+    requires { ⌜ (mapping < 64) × (step < 256) ⌝ }
+    ensures { λ r. ⌜ r ≡ getD (now (mappings .entry)) (804 * mapping + (5 + 2 * step)) 0 ⌝ }
+{
+    reading::buffers::get_u8(mappings, 804 * mapping + (5 + 2 * step))
+}
+
+// How many submaps a mapping has, 1 to 16.
+pub fn submaps(mappings: &[u8], mapping: usize) -> u8
+    requires { ⌜ mapping < 64 ⌝ }
+    ensures { λ r. ⌜ r ≡ getD (now (mappings .entry)) (804 * mapping + 2) 0 ⌝ }
+{
+    reading::buffers::get_u8(mappings, 804 * mapping + 2)
+}
+
+// A channel's submap; 0 where there is but one.
+pub fn channel_submap(mappings: &[u8], mapping: usize, channel: usize) -> u8
+    requires { ⌜ (mapping < 64) × (channel < 256) ⌝ }
+    ensures { λ r. ⌜ r ≡ getD (now (mappings .entry)) (804 * mapping + (516 + channel)) 0 - 1 ⌝ }
+{
+    let number = reading::buffers::get_u8(mappings, 804 * mapping + (516 + channel));
+    if number == 0 {
+        return 0;
+    }
+    number - 1
+}
+
+// The number of a submap's floor.
+pub fn submap_floor(mappings: &[u8], mapping: usize, submap: usize) -> u8
+    requires { ⌜ (mapping < 64) × (submap < 16) ⌝ }
+    ensures { λ r. ⌜ r ≡ getD (now (mappings .entry)) (804 * mapping + (772 + 2 * submap)) 0 ⌝ }
+{
+    reading::buffers::get_u8(mappings, 804 * mapping + (772 + 2 * submap))
+}
+
+// The number of a submap's residue.
+pub fn submap_residue(mappings: &[u8], mapping: usize, submap: usize) -> u8
+    requires { ⌜ (mapping < 64) × (submap < 16) ⌝ }
+    ensures { λ r. ⌜ r ≡ getD (now (mappings .entry)) (804 * mapping + (773 + 2 * submap)) 0 ⌝ }
+{
+    reading::buffers::get_u8(mappings, 804 * mapping + (773 + 2 * submap))
+}
