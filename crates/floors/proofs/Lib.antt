@@ -6,3 +6,6 @@ pub mod ClassLaws
 pub mod FloorLaws
 pub mod Accepted
 pub mod RowLaws
+pub mod Lies
+pub mod Decoded
+pub mod Laws

@@ -2,3 +2,4 @@
 pub mod class;
 pub mod floor;
 pub mod numbers;
+pub mod table;
