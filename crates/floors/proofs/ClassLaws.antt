@@ -33,6 +33,7 @@ use Rattle.floors.specs.Cell.{cell}
 use Rattle.floors.specs.Layout.{classRow}
 use Rattle.floors.specs.Reading.{masterBook, subclassBook, class}
 use Rattle.floors.specs.Pieces.{classRowOf}
+use Rattle.floors.specs.Rules.{MasterFits}
 use Rattle.floors.proofs.Collected.{Collected, collected, rows-cell, wrote-as}
 
 abbrev at : ℕ → Cursor → Refusal
@@ -65,11 +66,6 @@ module _ (books subclasses : ℕ) (s : List ℕ) (k : Cursor) where
 pub ruleset master-laws = (needs, master-none, master-cut, master-unset, master-set)
 
 -- which master books are accepted
-pub record MasterFits (books subclasses master : ℕ) : Type 0 where
-  pub none : subclasses ≡ 0 → master ≡ 0
-  pub some : (subclasses ≡ 0 → ⊥) → 1 ≤ master
-  pub most : master ≤ books
-
 pub master-ok : (books subclasses : ℕ) (s : List ℕ) (k : ℕ) {m n : ℕ} → masterBook books subclasses s k ≡ ok (m, n) → MasterFits books subclasses m
 unfolding masterBook
 master-ok books subclasses s k {m} {n} e = go (eqb subclasses 0) refl e

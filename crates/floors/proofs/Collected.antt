@@ -3,7 +3,7 @@ use Prim.Native.Nat.{ℕ, _+_, _≤_}
 use native.Mathlib.Omega.{arith}
 use mathlib.Core.List.{List, [], _∷_, _++_}
 use mathlib.Core.Path.{_≡_, refl, sym, ap, _∙_}
-use lib.ListN.{length, replicate}
+use lib.ListN.{length, replicate, length-append}
 use lib.Seq.{sets}
 use Rattle.reading.specs.Outcome.{Outcome, ok, bad, then}
 use Rattle.reading.specs.Reader.{Reader, many, mapped, puts, into, into1}
@@ -37,7 +37,7 @@ pub record Collected {A : Type 0} (row : A → List ℕ) (o : Outcome (List A ×
   pub holds : l ≡ pad room (before ++ rows row items)
 
 module _ {A : Type 0} (row : A → List ℕ) (o : Outcome (List A × ℕ)) (n : ℕ) where
-  gathered : (entry : List ℕ) (at room : ℕ) (before : List ℕ) → entry ≡ pad room before → at ≡ length before
+  pub gathered : (entry : List ℕ) (at room : ℕ) (before : List ℕ) → entry ≡ pad room before → at ≡ length before
       → {st : Step} {l : List ℕ} {q : ℕ} → Wrote (into (putRow row) o (table entry at)) st (table l q)
       → ((items : List A) (k : ℕ) → o ≡ ok (items, k) → length items ≡ n)
       → {c : Cursor} → st ≡ Next c → Collected row o n c room before l
@@ -65,3 +65,10 @@ collected row r n s k entry at room before e a w t = gathered row (many r n s k)
 pub two-runs : (entry : List ℕ) (at : ℕ) (first second : List ℕ) {n : ℕ} (middle last : List ℕ) → n ≡ at + length first → middle ≡ sets entry at first → last ≡ sets middle n second
     → last ≡ sets entry at (first ++ second)
 two-runs entry at first second middle last n m l = l ∙ rw (n, m) (sym (sets-append first second entry at))
+
+-- the same where the first run is itself of two parts, of known length
+pub two-runs-at : (entry : List ℕ) (at : ℕ) (first second third : List ℕ) {middle last : List ℕ} → length first ≡ 5 → length second ≡ 31
+    → middle ≡ sets entry at (first ++ second) → last ≡ sets middle (at + 36) third → last ≡ sets entry at ((first ++ second) ++ third)
+two-runs-at entry at first second third {middle} {last} a b m l =
+    let n : at + 36 ≡ at + length (first ++ second) = simp length-append (omega arith) in
+    two-runs entry at (first ++ second) third middle last n m l

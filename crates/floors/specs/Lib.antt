@@ -4,3 +4,6 @@ pub mod Layout
 pub mod Valid
 pub mod Cell
 pub mod Pieces
+pub mod Rules
+pub mod Decode
+pub mod Stand

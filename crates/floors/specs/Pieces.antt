@@ -1,11 +1,14 @@
 -- The reading of a floor in the pieces in which the program reads it: each is a part of a definition of Reading, or a function of the numbers
 -- as they lie in the program's buffers.
-use Prim.Native.Nat.{ℕ, zero, suc, _+_, _*_, _^_, max}
+use Prim.Native.Nat.{ℕ, zero, suc, _+_, _*_, _^_, _≤_, max}
+use mathlib.Core.Bool.{true}
+use mathlib.Core.Path.{_≡_}
+use lib.Dec.{ltb}
 use mathlib.Core.List.{List, [], _∷_, _++_, map}
-use lib.ListN.{length, getD}
+use lib.ListN.{length, getD, take}
 use Rattle.reading.specs.Outcome.{refusal, ok, then, need}
 use Rattle.reading.specs.Reader.{Reader, many}
-use Rattle.reading.specs.Lists.{distinct}
+use Rattle.reading.specs.Lists.{distinct, all}
 use Rattle.reading.specs.Pad.{pad}
 use Rattle.floors.specs.Content.{Class, Floor, xList, classCount, valueCount}
 use Rattle.floors.specs.Layout.{classRow}
@@ -56,3 +59,10 @@ floorFrom books place partitions s k =
     then (many (class books) (classCount partitions) s k) (λ classes.
     then (ends place (valueCount (map (λ c. c .dimensions) (classes .0)) partitions) s (classes .1)) (λ e.
     ok (record { partitions = partitions; classes = classes .0; multiplier = e .0 .multiplier; rangebits = e .0 .rangebits; xs = e .0 .xs }, e .1)))
+
+-- a buffer of 31 places that holds `count` partitions, each of a class below 16
+pub record Partitions (count : ℕ) (buffer : List ℕ) : Type 0 where
+  pub few : count ≤ 31
+  pub long : length (take count buffer) ≡ count
+  pub holds : buffer ≡ pad 31 (take count buffer)
+  pub named : all (λ c. ltb c 16) (take count buffer) ≡ true

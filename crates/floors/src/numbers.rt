@@ -22,6 +22,13 @@ pub fn narrow(v: u32) -> u16
     v as u16
 }
 
+pub fn short(v: usize) -> u16
+    requires { ⌜ v < 65536 ⌝ }
+    ensures { λ r. ⌜ r ≡ v ⌝ }
+{
+    v as u16
+}
+
 pub fn wide(v: u16) -> usize
     ensures { λ r. ⌜ r ≡ v ⌝ }
 {

@@ -1,0 +1,120 @@
+-- What other crates cite of floors: an accepted floor meets every rule; where its row lies in the table; which number of it each place holds.
+-- Assumes nothing.
+use Prim.Native.Nat.{ℕ, zero, suc, _+_, _*_, _^_, _≤_, _<_}
+use native.Mathlib.Omega.{arith}
+use mathlib.Core.Bool.{true}
+use mathlib.Core.List.{List, [], _∷_, _++_, map}
+use mathlib.Core.Path.{_≡_, refl, sym, ap, _∙_, subst}
+use lib.Dec.{ltb}
+use lib.ListN.{length, getD, List·getD-append}
+use lib.Seq.{slice, getD-append-add}
+use Rattle.reading.specs.Lists.{rows}
+use Rattle.reading.specs.Pad.{pad}
+use Rattle.reading.proofs.Pads.{pad-get, length-pad}
+use Rattle.reading.specs.Outcome.{Outcome, ok, then}
+use Rattle.reading.specs.Reader.{many}
+use Rattle.reading.proofs.Outcomes.{then-ok}
+use Rattle.bits.specs.Field.{field}
+use Rattle.bits.proofs.Fields.{field-ok}
+use Rattle.floors.specs.Content.{Class, Floor, xList, classCount, valueCount}
+use Rattle.floors.specs.Layout.{classRow, floorRow}
+use Rattle.floors.specs.Decode.{noClass, noFloor}
+use Rattle.floors.proofs.Lies.{Lies, lies-at, lies-slice}
+use Rattle.floors.proofs.Decoded.{floor-long, ClassLies, class-lies, classes-lie, FloorLies, floor-lies}
+use Rattle.floors.specs.Reading.{floorType, class, Ends, ends, floor1, floor}
+use Rattle.floors.specs.Valid.{ValidFloor}
+use Rattle.floors.specs.Stand.{ValidFloors}
+use Rattle.floors.proofs.Collected.{many-length}
+use Rattle.floors.proofs.Accepted.{ok-is, many-cons, many-all, field-below, EndsFit, ends-fit, classes-valid}
+
+-- AN ACCEPTED FLOOR MEETS EVERY RULE
+pub floor1-valid : (books place : ℕ) (s : List ℕ) (k : ℕ) {x : Floor × ℕ} → floor1 books place s k ≡ ok x → ValidFloor books (x .0)
+unfolding floor1
+floor1-valid books place s k {x} e =
+    let n = then-ok (field 5 s k) _ e in
+    let p = then-ok (many (field 4) (n .0 .0) s (n .0 .1)) _ (n .2) in
+    let c = then-ok (many (class books) (classCount (p .0 .0)) s (p .0 .1)) _ (p .2) in
+    let d = then-ok (ends place (valueCount (map (λ c. c .dimensions) (c .0 .0)) (p .0 .0)) s (c .0 .1)) _ (c .2) in
+    let nf = field-ok s k 5 (n .1) in
+    let nl = nf .below in
+    let pl = many-length (field 4) (n .0 .0) s (n .0 .1) (p .0 .0) (p .1) in
+    let fits = ends-fit place (valueCount (map (λ c. c .dimensions) (c .0 .0)) (p .0 .0)) s (c .0 .1) (d .1) in
+    let same : _≡_ {A = Floor × ℕ} (record { partitions = p .0 .0; classes = c .0 .0; multiplier = d .0 .0 .multiplier; rangebits = d .0 .0 .rangebits; xs = d .0 .0 .xs }, d .0 .1) x = ok-is (d .2) in
+    subst (λ (y : Floor × ℕ). ValidFloor books (y .0)) same
+    (record {
+      partitions = omega arith;
+      classes-named = many-all (λ c. ltb c 16) (field 4) s (field-below 4 s) (n .0 .0) (n .0 .1) (p .1);
+      class-count = many-length (class books) (classCount (p .0 .0)) s (p .0 .1) (c .0 .0) (c .1);
+      classes = classes-valid books s (classCount (p .0 .0)) (p .0 .1) (c .1);
+      multiplier-low = fits .multiplier-low;
+      multiplier-high = fits .multiplier-high;
+      rangebits = fits .rangebits;
+      value-count = fits .long;
+      few = rw (fits .long) (fits .few);
+      in-range = fits .in-range;
+      different = fits .different
+    })
+
+pub floor-valid : (books : ℕ) (s : List ℕ) (k : ℕ) {x : Floor × ℕ} → floor books s k ≡ ok x → ValidFloor books (x .0)
+unfolding floor
+floor-valid books s k e = let t = then-ok (floorType s k) _ e in floor1-valid books k s (t .0 .1) (t .2)
+
+pub floors-valid : (books : ℕ) (s : List ℕ) (n k : ℕ) {x : List Floor × ℕ} → many (floor books) n s k ≡ ok x → ValidFloors books (x .0)
+unfolding ValidFloors many
+floors-valid books s zero k e = subst (λ (y : List Floor × ℕ). ValidFloors books (y .0)) (ok-is e) tt
+floors-valid books s (suc n) k e =
+    let c = many-cons (floor books) n s k e in
+    subst (λ (y : List Floor × ℕ). ValidFloors books (y .0)) (c .4) (floor-valid books s k (c .2), floors-valid books s n (c .0 .1) (c .3))
+
+pub floors-counted : (books : ℕ) (s : List ℕ) (n k : ℕ) {fs : List Floor} {j : ℕ} → many (floor books) n s k ≡ ok (fs, j) → length fs ≡ n
+floors-counted books s n k {fs} e = many-length (floor books) n s k fs e
+
+-- row f of a table of rows
+rows-place : (fs : List Floor) (f i : ℕ) → f < length fs → i < 277 → getD (rows floorRow fs) (277 * f + i) 0 ≡ getD (floorRow (getD fs f noFloor)) i 0
+unfolding rows
+rows-place [] f i h k = absurd (omega arith)
+rows-place (x ∷ fs) zero i h k =
+    let l = floor-long x in
+    let e : 277 * 0 + i ≡ i = omega arith in
+    ap (λ (j : ℕ). getD (floorRow x ++ rows floorRow fs) j 0) e ∙ List·getD-append (floorRow x) (rows floorRow fs) 0 i (omega arith)
+rows-place (x ∷ fs) (suc f) i h k =
+    let l = floor-long x in
+    let e : 277 * suc f + i ≡ length (floorRow x) + (277 * f + i) = omega arith in
+    ap (λ (j : ℕ). getD (floorRow x ++ rows floorRow fs) j 0) e ∙ getD-append-add (floorRow x) (rows floorRow fs) (277 * f + i) 0 ∙ rows-place fs f i (omega arith) k
+
+-- IN A TABLE THAT HOLDS FLOORS, THE ROW OF FLOOR f LIES AT 277 * f
+pub floors-row : (fs : List Floor) (t : List ℕ) → t ≡ pad (length t) (rows floorRow fs) → 277 * length fs ≤ length t → (f : ℕ) → f < length fs → Lies t (277 * f) (floorRow (getD fs f noFloor))
+floors-row fs t e h f k =
+    let l = floor-long (getD fs f noFloor) in
+    record {
+      room = omega arith;
+      same = λ i m.
+      ap (λ (x : List ℕ). getD x (277 * f + i) 0) e ∙ pad-get (length t) (rows floorRow fs) (277 * f + i) (omega arith) ∙ rows-place fs f i k (omega arith)
+    }
+
+pub floors-lie : (fs : List Floor) (t : List ℕ) → t ≡ pad (length t) (rows floorRow fs) → 277 * length fs ≤ length t → (f : ℕ) → f < length fs → FloorLies t (277 * f) (getD fs f noFloor)
+floors-lie fs t e h f k = floor-lies (getD fs f noFloor) (floors-row fs t e h f k)
+
+-- row c of the rows of classes
+class-row : {t : List ℕ} (at m : ℕ) (cs : List Class) (c : ℕ) → c < length cs → length cs ≤ m → Lies t at (pad (11 * m) (rows classRow cs)) → Lies t (at + 11 * c) (classRow (getD cs c noClass))
+class-row at m [] c h k l = absurd (omega arith)
+class-row at zero (x ∷ cs) c h k l = absurd (omega arith)
+class-row at (suc m) (x ∷ cs) zero h k l = lies-at (omega arith) (classes-lie m x cs l .0)
+class-row at (suc m) (x ∷ cs) (suc c) h k l = lies-at (omega arith) (class-row (at + 11) m cs c (omega arith) (omega arith) (classes-lie m x cs l .1))
+
+-- what each place of a floor that lies at `at` holds
+module _ {t : List ℕ} {at : ℕ} {f : Floor} (l : FloorLies t at f) where
+  pub partition-is : (i : ℕ) → i < 31 → getD t (at + 5 + i) 0 ≡ getD (f .partitions) i 0
+  partition-is i h = let p = length-pad 31 (f .partitions) in l .partitions .same i (omega arith) ∙ pad-get 31 (f .partitions) i h
+
+  pub x-is : (i : ℕ) → i < 65 → getD t (at + 212 + i) 0 ≡ getD (xList (f .rangebits) (f .xs)) i 0
+  x-is i h = let p = length-pad 65 (xList (f .rangebits) (f .xs)) in l .list .same i (omega arith) ∙ pad-get 65 (xList (f .rangebits) (f .xs)) i h
+
+  pub x-list-is : 2 + length (f .xs) ≤ 65 → slice (at + 212) (at + 212 + (2 + length (f .xs))) t ≡ xList (f .rangebits) (f .xs)
+  x-list-is h = lies-slice 65 (2 + length (f .xs)) (xList (f .rangebits) (f .xs)) (l .list) (omega arith) h
+
+  pub class-is : (c : ℕ) → c < length (f .classes) → length (f .classes) ≤ 16 → ClassLies t (at + 36 + 11 * c) (getD (f .classes) c noClass)
+  class-is c h k = class-lies (getD (f .classes) c noClass) (class-row (at + 36) 16 (f .classes) c h k (l .classes))
+
+pub subclass-book-is : {t : List ℕ} {at : ℕ} {c : Class} → ClassLies t at c → (j : ℕ) → j < 8 → getD t (at + 3 + j) 0 ≡ getD (c .books) j 0
+subclass-book-is {t} {at} {c} l j h = let p = length-pad 8 (c .books) in l .books .same j (omega arith) ∙ pad-get 8 (c .books) j h

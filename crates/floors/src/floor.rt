@@ -1,0 +1,221 @@
+// A floor of type 1 (004, "header decode"; 01, "Setup order"). Its row is put together from three buffers: partitions, classes, X list.
+use bits::Cursor;
+use bits::Field;
+use bits::Refusal;
+use bits::Step;
+use reading::buffers;
+use super::class;
+use super::numbers;
+ghost use mathlib.Core.Path.{_≡_};
+ghost use mathlib.Core.Bool.{true};
+ghost use mathlib.Core.List.{_++_};
+ghost use Prim.Native.Nat.{_+_, _*_, _^_, _<_, _≤_, max};
+ghost use lib.Dec.{ltb};
+ghost use lib.ListN.{length, replicate, take};
+ghost use lib.Seq.{sets};
+ghost use Rattle.reading.specs.Reader.{many, mapped, into, into1};
+ghost use Rattle.reading.specs.Table.{table, putRow};
+ghost use Rattle.reading.specs.Lists.{all};
+ghost use Rattle.bits.specs.Cursors.{position, outcome, Wrote};
+ghost use Rattle.floors.specs.Cell.{cell};
+ghost use Rattle.floors.specs.Layout.{floorRow};
+ghost use Rattle.floors.specs.Reading.{floorType, xValues, ends, floor1, floor};
+ghost use Rattle.floors.specs.Pieces.{classesTo, valuesTo, endsFrom, held, hold, rowOf, floorFrom, Partitions};
+
+// The type field: 0 is refusal 14, above 1 is 10.
+pub fn read_type(packet: &[u8], from: Cursor) -> Field
+    ensures { λ r. ⌜ outcome r ≡ floorType (now (packet .entry)) (position from) ⌝ }
+{
+    match from.field(packet, 16) {
+        Field::Refused(z) => Field::Refused(z),
+        Field::Value(number, next) => {
+            if number == 0 {
+                return Field::Refused(Refusal { number: 14, place: from });
+            }
+            if 1 < number {
+                return Field::Refused(Refusal { number: 10, place: from });
+            }
+            Field::Value(number, next)
+        }
+    }
+}
+
+fn larger(a: usize, b: usize) -> usize
+    ensures { λ r. ⌜ r ≡ max a b ⌝ }
+{
+    if a < b {
+        return b;
+    }
+    a
+}
+
+// One more than the greatest class that the first `count` partitions name; 0 where there is none.
+pub fn class_count(partitions: &[u16], count: usize) -> usize
+    ensures { λ r. ⌜ r ≡ classesTo (now (partitions .entry)) count ⌝ }
+{
+    let mut most: usize = 0;
+    let mut i: usize = 0;
+    while i < count {
+        most = larger(most, numbers::wide(buffers::get_u16(partitions, i)) + 1);
+        i = i + 1;
+    }
+    most
+}
+
+// The dimensions of the first `count` partitions' classes together.
+pub fn value_count(partitions: &[u16], count: usize, classes: &[u16]) -> usize
+    requires { ⌜ count ≤ 31 ⌝ }
+    ensures { λ r. ⌜ r ≡ valuesTo (now (classes .entry)) (now (partitions .entry)) count ⌝ }
+{
+    let mut sum: usize = 0;
+    let mut i: usize = 0;
+    while i < count {
+        let class = numbers::wide(buffers::get_u16(partitions, i));
+        sum = sum + numbers::wide(buffers::get_u16(classes, 11 * class));
+        i = i + 1;
+    }
+    sum
+}
+
+// The X values, from place 2 on. The count is judged before each is read: of more than 63 the 64th is refused.
+pub fn read_x_values(packet: &[u8], from: Cursor, place: Cursor, rangebits: usize, count: usize, list: &mut [u16]) -> Step
+    requires { ⌜ rangebits ≤ 15 ⌝ }
+    ensures { λ r. ⌜ Wrote (into (putRow cell) (xValues (position place) rangebits count (now (packet .entry)) (position from)) (table (now (list .entry)) 2)) r (table (now (list .exit)) (2 + count)) ⌝ }
+{
+    if count <= 63 {
+        return numbers::read_numbers(packet, from, rangebits, count, list, 2);
+    }
+    match numbers::read_numbers(packet, from, rangebits, 63, list, 2) {
+        Step::Refused(z) => Step::Refused(z),
+        Step::Next(_) => Step::Refused(Refusal { number: 12, place }),
+    }
+}
+
+// What follows the classes, beside the X list that went into a buffer.
+pub struct Ends {
+    pub multiplier: u32,
+    pub rangebits: u32,
+    pub step: Step,
+}
+
+// The X list, judged when it is complete.
+pub fn read_x_list(packet: &[u8], from: Cursor, place: Cursor, count: usize, multiplier: u32, rangebits: u32, list: &mut [u16]) -> Ends
+    requires { ⌜ (rangebits ≤ 15) × (now list ≡ replicate 65 0) ⌝ }
+    ensures { λ r. ⌜ Wrote (mapped hold (endsFrom (position place) count multiplier rangebits (now (packet .entry)) (position from))) (r .step) (held (r .multiplier) (r .rangebits) (now (list .exit))) ⌝ }
+{
+    buffers::put_u16(list, 1, numbers::power(rangebits));
+    match read_x_values(packet, from, place, numbers::long(rangebits), count, list) {
+        Step::Refused(z) => Ends { multiplier, rangebits, step: Step::Refused(z) },
+        Step::Next(next) => {
+            if !numbers::are_distinct(list, 0, 2 + count) {
+                return Ends { multiplier, rangebits, step: Step::Refused(Refusal { number: 12, place }) };
+            }
+            Ends { multiplier, rangebits, step: Step::Next(next) }
+        }
+    }
+}
+
+// Multiplier, range bits, X list.
+pub fn read_ends(packet: &[u8], from: Cursor, place: Cursor, count: usize, list: &mut [u16]) -> Ends
+    requires { ⌜ now list ≡ replicate 65 0 ⌝ }
+    ensures { λ r. ⌜ Wrote (mapped hold (ends (position place) count (now (packet .entry)) (position from))) (r .step) (held (r .multiplier) (r .rangebits) (now (list .exit))) ⌝ }
+{
+    match from.field(packet, 2) {
+        Field::Refused(z) => Ends { multiplier: 0, rangebits: 0, step: Step::Refused(z) },
+        Field::Value(multiplier, at_range) => match at_range.field(packet, 4) {
+            Field::Refused(z) => Ends { multiplier: 0, rangebits: 0, step: Step::Refused(z) },
+            Field::Value(rangebits, next) => read_x_list(packet, next, place, count, multiplier + 1, rangebits, list),
+        },
+    }
+}
+
+// A floor's row, from place `at` on.
+pub fn write_row(floors: &mut [u16], at: usize, head: &[u16], partitions: &[u16], classes: &[u16], list: &[u16])
+    requires { ⌜ (at ≤ 17728) × (length (now head) ≡ 5) × (length (now partitions) ≡ 31) × (length (now classes) ≡ 176) ⌝ }
+    ensures { λ _. ⌜ now (floors .exit) ≡ sets (now (floors .entry)) at ((now (head .entry) ++ now (partitions .entry)) ++ (now (classes .entry) ++ now (list .entry))) ⌝ }
+{
+    numbers::write_pair(floors, at, head, partitions);
+    numbers::write_pair(floors, at + 36, classes, list);
+}
+
+// The rest of a floor whose partitions and classes are read, and with it the row.
+pub fn read_behind_classes(packet: &[u8], from: Cursor, place: Cursor, partitions: &[u16], count: usize, classes: &[u16], named: usize, floors: &mut [u16], at: usize) -> Step
+    requires { ⌜ (count ≤ 31) × (named ≤ 16) × (at ≤ 17728) × (length (now partitions) ≡ 31) × (length (now classes) ≡ 176) ⌝ }
+    ensures { λ r. ⌜ Wrote (into1 (putRow (rowOf count named (now (partitions .entry)) (now (classes .entry)))) (ends (position place) (valuesTo (now (classes .entry)) (now (partitions .entry)) count) (now (packet .entry)) (position from)) (table (now (floors .entry)) at)) r (table (now (floors .exit)) (at + 277)) ⌝ }
+{
+    let values = value_count(partitions, count, classes);
+    let mut list = [0u16; 65];
+    let ends = read_ends(packet, from, place, values, &mut list);
+    let step = ends.step;
+    match step {
+        Step::Refused(z) => Step::Refused(z),
+        Step::Next(next) => {
+            let head = [numbers::short(count), numbers::short(named), numbers::narrow(ends.multiplier), numbers::narrow(ends.rangebits), numbers::short(2 + values)];
+            write_row(floors, at, &head, partitions, classes, &list);
+            Step::Next(next)
+        }
+    }
+}
+
+// The rest of a floor whose partitions are read.
+pub fn read_behind_partitions(packet: &[u8], from: Cursor, place: Cursor, books: u32, partitions: &[u16], count: usize, floors: &mut [u16], at: usize) -> Step
+    requires { ⌜ (books ≤ 256) × (at ≤ 17728) × Partitions count (now partitions) ⌝ }
+    ensures { λ r. ⌜ Wrote (into1 (putRow floorRow) (floorFrom books (position place) (take count (now (partitions .entry))) (now (packet .entry)) (position from)) (table (now (floors .entry)) at)) r (table (now (floors .exit)) (at + 277)) ⌝ }
+{
+    let named = class_count(partitions, count);
+    let mut classes = [0u16; 176];
+    match class::read_classes(packet, from, books, named, &mut classes) {
+        Step::Refused(z) => Step::Refused(z),
+        Step::Next(next) => read_behind_classes(packet, next, place, partitions, count, &classes, named, floors, at),
+    }
+}
+
+// A floor behind its type, which stands at `place`.
+pub fn read_floor1(packet: &[u8], from: Cursor, place: Cursor, books: u32, floors: &mut [u16], at: usize) -> Step
+    requires { ⌜ (books ≤ 256) × (at ≤ 17728) ⌝ }
+    ensures { λ r. ⌜ Wrote (into1 (putRow floorRow) (floor1 books (position place) (now (packet .entry)) (position from)) (table (now (floors .entry)) at)) r (table (now (floors .exit)) (at + 277)) ⌝ }
+{
+    match from.field(packet, 5) {
+        Field::Refused(z) => Step::Refused(z),
+        Field::Value(field, next) => {
+            let count = numbers::long(field);
+            let mut partitions = [0u16; 31];
+            match numbers::read_numbers(packet, next, 4, count, &mut partitions, 0) {
+                Step::Refused(z) => Step::Refused(z),
+                Step::Next(after) => read_behind_partitions(packet, after, place, books, &partitions, count, floors, at),
+            }
+        }
+    }
+}
+
+// A floor, its row from place `at` on. `books` is how many codebooks are set up.
+pub fn read_floor(packet: &[u8], from: Cursor, books: u32, floors: &mut [u16], at: usize) -> Step
+    requires { ⌜ (books ≤ 256) × (at ≤ 17728) ⌝ }
+    ensures { λ r. ⌜ Wrote (into1 (putRow floorRow) (floor books (now (packet .entry)) (position from)) (table (now (floors .entry)) at)) r (table (now (floors .exit)) (at + 277)) ⌝ }
+{
+    match read_type(packet, from) {
+        Field::Refused(z) => Step::Refused(z),
+        Field::Value(_, next) => read_floor1(packet, next, from, books, floors, at),
+    }
+}
+
+// `count` floors, their rows one after the other.
+pub fn read_floors(packet: &[u8], from: Cursor, count: usize, books: u32, floors: &mut [u16]) -> Step
+    requires { ⌜ (count ≤ 64) × (books ≤ 256) ⌝ }
+    ensures { λ r. ⌜ Wrote (into (putRow floorRow) (many (floor books) count (now (packet .entry)) (position from)) (table (now (floors .entry)) 0)) r (table (now (floors .exit)) (277 * count)) ⌝ }
+{
+    let mut next = from;
+    let mut i: usize = 0;
+    while i < count {
+        match read_floor(packet, next, books, floors, 277 * i) {
+            Step::Refused(z) => {
+                return Step::Refused(z);
+            }
+            Step::Next(after) => {
+                next = after;
+            }
+        }
+        i = i + 1;
+    }
+    Step::Next(next)
+}
