@@ -4,3 +4,5 @@ pub mod Filling
 pub mod LengthLaws
 pub mod EntryLaws
 pub mod LookupLaws
+pub mod BookLaws
+pub mod BooksLaws

@@ -101,7 +101,7 @@ values-as place type count room s k =
     then-into h (field 4 s (delta .1)) _ _ (λ width.
     then-into h (field 1 s (width .1)) _ _ (λ sequence. refl))))
 
-mapped-then : {A B C : Type 0} (g : B → C) (f : A → B) (o : Outcome (A × ℕ)) → mapped g (then o (λ x. ok (f (x .0), x .1))) ≡ mapped (λ a. g (f a)) o
+pub mapped-then : {A B C : Type 0} (g : B → C) (f : A → B) (o : Outcome (A × ℕ)) → mapped g (then o (λ x. ok (f (x .0), x .1))) ≡ mapped (λ a. g (f a)) o
 unfolding mapped
 mapped-then g f (ok x) = refl
 mapped-then g f (bad z) = refl

@@ -5,19 +5,25 @@ use lib.ListN.{length}
 use Rattle.limits.specs.declared.Limits.{Limits}
 
 pub record Lent (limits : Limits) (books lengths words multiplicands : List ℕ) : Type 0 where
-  pub books : 2560 ≤ length books
-  pub lengths : limits .entries ≤ length lengths
-  pub words : limits .entries ≤ length words
-  pub multiplicands : limits .multiplicands ≤ length multiplicands
+  pub books-long : 2560 ≤ length books
+  pub lengths-long : limits .entries ≤ length lengths
+  pub words-long : limits .entries ≤ length words
+  pub multiplicands-long : limits .multiplicands ≤ length multiplicands
   pub few-entries : limits .entries ≤ 16777216
   pub few-values : limits .multiplicands ≤ 16777216
 
--- a book of count entries fits behind the entries and values before it
-pub record BookAt (count most index entries values : ℕ) (books lengths words multiplicands : List ℕ) : Type 0 where
-  pub index : index < 256
-  pub lengths : entries + count ≤ length lengths
-  pub words : entries + count ≤ length words
-  pub few : entries + count ≤ 16777216
-  pub values : values ≤ most
-  pub multiplicands : most ≤ length multiplicands
+-- where book number index begins: within the limits
+pub record Begins (limits : Limits) (index entries values : ℕ) : Type 0 where
+  pub few-books : index < 256
+  pub entries-within : entries ≤ limits .entries
+  pub values-within : values ≤ limits .multiplicands
+
+-- a book of count entries fits behind the entries and values before it; most is the limit on multiplicands
+pub record BookAt (count most index entries values : ℕ) (lengths words multiplicands : List ℕ) : Type 0 where
+  pub few-books : index < 256
+  pub lengths-fit : entries + count ≤ length lengths
+  pub words-fit : entries + count ≤ length words
+  pub few-entries : entries + count ≤ 16777216
+  pub values-within : values ≤ most
+  pub values-fit : most ≤ length multiplicands
   pub few-values : most ≤ 16777216

@@ -8,9 +8,10 @@ use Rattle.reading.specs.Outcome.{ok, then}
 use Rattle.reading.specs.Reader.{Reader, judged, many}
 use Rattle.bits.specs.Field.{field}
 use Rattle.bits.specs.Ilog.{ilog}
+use Rattle.limits.specs.declared.Limits.{Limits}
 use Rattle.codespace.specs.Book.{codewords}
 use Rattle.book.specs.Content.{Book}
-use Rattle.books.specs.Reading.{Head, Lookup, entryLength, runs, lengths, entered, lookup}
+use Rattle.books.specs.Reading.{Head, Lookup, entryLength, runs, lengths, entered, lookup, books}
 
 -- the number of a run's entries
 unfoldable pub runNumber : ℕ → Reader ℕ
@@ -72,3 +73,7 @@ unfoldable pub body : ℕ → Head → ℕ → Reader Book
 body place h room s k =
     then (entries place (h .entries) s k) (λ ls.
     then (lookup place (h .entries) (h .dimensions) room s (ls .1)) (λ l. ok (bookOf h (ls .0) (l .0), l .1)))
+
+-- the books of a setup packet, none before them
+abbrev pub section : Limits → ℕ → Reader (List Book)
+section limits count s k = books limits (record { entries = 0; values = 0 }) count s k
