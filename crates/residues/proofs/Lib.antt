@@ -1,4 +1,3 @@
-pub mod PowerLaws
 pub mod HeadLaws
 pub mod CascadeLaws
 pub mod SlotLaws

@@ -24,7 +24,7 @@ pub fn head_fits(head: Head, books: &[u32]) -> bool
     }
     let dimensions = book::dimensions(books, head.classbook);
     let entries = book::entries(books, head.classbook);
-    crate::power::power_within(head.classifications, dimensions, entries)
+    power::power_within(head.classifications, dimensions, entries)
 }
 
 // A place of the plan is empty, or its book has values and dimensions that divide the partition size.

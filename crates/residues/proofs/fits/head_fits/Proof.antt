@@ -6,7 +6,7 @@ use Rattle.residues.proofs.fits.head_fits.Reads as reads
 use Rattle.residues.proofs.fits.head_fits.Lts as lts
 use Rattle.book.proofs.dimensions.Reads as dimensions-reads
 use Rattle.book.proofs.entries.Reads as entries-reads
-use Rattle.residues.proofs.power.power_within.Reads as power-within-reads
+use Rattle.power.proofs.power_within.Reads as power-within-reads
 
 -- src/fits.rt:23:9
 returns : tie.Need-returns
