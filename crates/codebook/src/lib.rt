@@ -63,16 +63,25 @@ fn match_codeword(packet: &[u8], from: Cursor, lengths: &[u8], words: &[u32]) ->
     let mut entry: usize = 0;
     'word: loop {
         if taken == 32 {
-            break 'word Field::Refused(Refusal { number: 1, place: from });
+            break 'word Field::Refused(Refusal {
+                number: 1,
+                place: from,
+            });
         }
         if !has_bit(packet, from, taken) {
-            break 'word Field::Refused(Refusal { number: 1, place: from });
+            break 'word Field::Refused(Refusal {
+                number: 1,
+                place: from,
+            });
         }
         word = word * 2 + bit(packet, from, taken);
         taken = taken + 1;
         'entry: loop {
             if entry == lengths.len() {
-                break 'word Field::Refused(Refusal { number: 1, place: from });
+                break 'word Field::Refused(Refusal {
+                    number: 1,
+                    place: from,
+                });
             }
             let length = wide(lengths[entry]);
             if taken <= length {
@@ -122,5 +131,8 @@ fn behind(from: Cursor, taken: usize) -> Cursor
     ensures { λ r. ⌜ position r ≡ position from + taken ⌝ }
 {
     let bit = wide(from.bit) + taken;
-    Cursor { byte: from.byte + bit / 8, bit: (bit % 8) as u8 }
+    Cursor {
+        byte: from.byte + bit / 8,
+        bit: (bit % 8) as u8,
+    }
 }
