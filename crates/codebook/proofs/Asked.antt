@@ -16,8 +16,8 @@ use Rattle.reading.specs.Outcome.{refusal, Outcome, ok, bad}
 use Rattle.bits.specs.Field.{bitAt}
 use Rattle.bits.specs.Cursors.{position, refusalOf, outcome}
 use Rattle.bits.specs.declared.Cursor.{Cursor}
-use Rattle.bits.specs.declared.Refusal.{Refusal}
-use Rattle.bits.specs.declared.Field.the-variants.{Value, Refused}
+use Rattle.bits.specs.declared.Field.{Field}
+use Rattle.bits.specs.declared.Field.the-variants.{Value}
 use Rattle.reading.proofs.Least.{lt-or-le}
 use Rattle.codespace.specs.Book.{codewords, PrefixCode}
 use Rattle.codespace.proofs.Laws.{accepted-decodable, used-length, codewords-length}
@@ -58,14 +58,12 @@ module _ (ls ws s : List ℕ) (k : Cursor) where
 
 -- a bit is taken
 module _ (ls ws s : List ℕ) (k : Cursor) (word n e : ℕ) (t : Taking ls ws s (position k) word n e) where
-  pub no-bit-left : n ≡ 32 → outcome (Refused (record { number = 1; place = k })) ≡ matching ls 0 32 s (position k)
-  unfolding outcome
-  no-bit-left h = sym (turn-end ls s (position k) n h) ∙ t .rest
+  pub no-bit-left : n ≡ 32 → (r : Field) → outcome r ≡ bad (refusal 1 (position k)) → outcome r ≡ matching ls 0 32 s (position k)
+  no-bit-left h r c = c ∙ sym (turn-end ls s (position k) n h) ∙ t .rest
 
   module _ (b : Bool) (q : b ≡ ltb (position k + n) (8 * length s)) where
-    pub bit-missing : not b ≡ true → outcome (Refused (record { number = 1; place = k })) ≡ matching ls 0 32 s (position k)
-    unfolding outcome
-    bit-missing h = sym (turn-cut ls s (position k) n (ltb-false (position k + n) (8 * length s) (sym q ∙ not-true b h))) ∙ t .rest
+    pub bit-missing : not b ≡ true → (r : Field) → outcome r ≡ bad (refusal 1 (position k)) → outcome r ≡ matching ls 0 32 s (position k)
+    bit-missing h r c = c ∙ sym (turn-cut ls s (position k) n (ltb-false (position k + n) (8 * length s) (sym q ∙ not-true b h))) ∙ t .rest
 
     pub bit-is-there : not b ≡ false → position k + n < 8 * length s
     bit-is-there h = ltb-true (position k + n) (8 * length s) (sym q ∙ not-false b h)
@@ -105,14 +103,13 @@ module _ (ls ws : List ℕ) (book : Codebook ls ws) (s : List ℕ) (k : Cursor) 
   before : n - 1 + 1 ≡ n
   before = let l = t .some in omega arith
 
-  pub all-passed : e ≡ length ls → outcome (Refused (record { number = 1; place = k })) ≡ matching ls 0 32 s (position k)
-  unfolding outcome
-  all-passed h =
+  pub all-passed : e ≡ length ls → (r : Field) → outcome r ≡ bad (refusal 1 (position k)) → outcome r ≡ matching ls 0 32 s (position k)
+  all-passed h r c =
       let l = t .some in
       let m = t .few in
       let p = t .there in
       let none : NoneBefore ls (codewords ls) (n - 1 + 1) (bitsAt s (position k) (n - 1 + 1)) (length ls) = rw (before, ← h) (moved e (t .none)) in
-      sym (turn-never ls code s (position k) (n - 1) (omega arith) (omega arith) none) ∙ t .rest
+      c ∙ sym (turn-never ls code s (position k) (n - 1) (omega arith) (omega arith) none) ∙ t .rest
 
   module _ (h : (e ≡ length ls → ⊥)) where
     inside : e < length ls

@@ -10,13 +10,13 @@ use mathlib.Core.Path.{_≡_, refl, ap, sym, _∙_}
 use lib.Dec.{eqb, ltb}
 use lib.ListN.{length, getD, take, length-take}
 use lib.Pow.{shr-shr}
-use borrow.Author.Tests.{lt-ltb, le-ltb, eqb-true, eqb-false, not-true}
+use borrow.Author.Tests.{lt-ltb, le-ltb, ltb-true, eqb-true, eqb-false, not-true}
 use Rattle.reading.specs.Outcome.{refusal, Outcome, ok, bad, need}
 use Rattle.reading.specs.Reader.{mapped}
 use Rattle.reading.specs.Least.{lowest, Least}
 use Rattle.reading.proofs.Least.{lowest-some, lowest-ok, IsLowest, and-split, lt-or-le, true-or-false, no-true}
 use Rattle.bits.specs.Field.{field}
-use Rattle.bits.proofs.Fields.{field-none}
+use Rattle.bits.proofs.Fields.{field-none, field-ok}
 use Rattle.bits.proofs.Cuts.{field-cut-packet}
 use Rattle.codespace.specs.Book.{used, isUsed, isLone, orZero, codewords, verdict, Begins, PrefixCode, Decodable}
 use Rattle.codespace.specs.Ledger.{share}
@@ -82,24 +82,27 @@ pub read-lone : (ls s : List ℕ) (k : ℕ) → isLone (used ls) ≡ true → k 
 unfolding codeword mapped
 read-lone ls s k l h = rw (l, field-none s k h)
 
--- the entry that is read is used
-matched-used : (ls s : List ℕ) (k : ℕ) (m n e i : ℕ) → matching ls n m s k ≡ ok (e, i) → (e < length ls) × (0 < getD ls e 0)
+-- the entry that is read is used, and its codeword lies in the packet whole
+matched-used : (ls s : List ℕ) (k : ℕ) (m n e i : ℕ) → matching ls n m s k ≡ ok (e, i) → (e < length ls) × (0 < getD ls e 0) × (i ≤ 8 * length s)
 unfolding matching entryOf isCodeword
 matched-used ls s k zero n e i q = let z : _≡_ {A = ℕ} 0 1 = cc in absurd (omega arith)
-matched-used ls s k (suc m) n e i q = go (λ p. matched-used ls s k m (suc n) e i p) (ltb (k + n) (8 * length s)) (lowest (isCodeword ls (suc n) (bitsAt s k (suc n))) (length ls)) refl q
+matched-used ls s k (suc m) n e i q = go (λ p. matched-used ls s k m (suc n) e i p) (ltb (k + n) (8 * length s)) refl (lowest (isCodeword ls (suc n) (bitsAt s k (suc n))) (length ls)) refl q
   where
-    go : (matching ls (suc n) m s k ≡ ok (e, i) → (e < length ls) × (0 < getD ls e 0)) → (t : Bool) (o : Option ℕ)
+    go : (matching ls (suc n) m s k ≡ ok (e, i) → (e < length ls) × (0 < getD ls e 0) × (i ≤ 8 * length s))
+        → (t : Bool) → ltb (k + n) (8 * length s) ≡ t → (o : Option ℕ)
         → lowest (isCodeword ls (suc n) (bitsAt s k (suc n))) (length ls) ≡ o
-        → need t (refusal 1 k) (orGoOn o (k + suc n) (matching ls (suc n) m s k)) ≡ ok (e, i) → (e < length ls) × (0 < getD ls e 0)
-    go ih false o p q = let z : _≡_ {A = ℕ} 0 1 = cc in absurd (omega arith)
-    go ih true none p q = ih q
-    go ih true (some f) p q =
+        → need t (refusal 1 k) (orGoOn o (k + suc n) (matching ls (suc n) m s k)) ≡ ok (e, i) → (e < length ls) × (0 < getD ls e 0) × (i ≤ 8 * length s)
+    go ih false h o p q = let z : _≡_ {A = ℕ} 0 1 = cc in absurd (omega arith)
+    go ih true h none p q = ih q
+    go ih true h (some f) p q =
         let x : _≡_ {A = ℕ × ℕ} (f, k + suc n) (e, i) = cc in
         let y : f ≡ e = ap (λ (z : ℕ × ℕ). z .0) x in
         let l = lowest-some (isCodeword ls (suc n) (bitsAt s k (suc n))) (length ls) f p in
         let b = l .below in
         let w : getD ls f 0 ≡ suc n = eqb-true _ _ (and-split _ _ (l .passes) .0) in
-        (rw (← y) b, rw (← y) (omega arith))
+        let j : k + suc n ≡ i = ap (λ (z : ℕ × ℕ). z .1) x in
+        let m : k + n < 8 * length s = ltb-true (k + n) (8 * length s) h in
+        (rw (← y) b, rw (← y) (omega arith), omega arith)
 
 positive : (x : ℕ) → (x ≡ 0 → ⊥) → 0 < x
 positive zero n = absurd (n refl)
@@ -117,30 +120,20 @@ first-used ls l = go (lowest (isUsed ls) (length ls)) (lowest-ok (isUsed ls) (le
         absurd (omega arith)
     go (some v) h = (h .below, positive (getD ls v 0) (eqb-false (getD ls v 0) 0 (not-true _ (h .passes))))
 
-pub read-used : (ls s : List ℕ) (k e n : ℕ) → codeword ls s k ≡ ok (e, n) → (e < length ls) × (0 < getD ls e 0)
+pub read-used : (ls s : List ℕ) (k e n : ℕ) → codeword ls s k ≡ ok (e, n) → (e < length ls) × (0 < getD ls e 0) × (n ≤ 8 * length s)
 unfolding codeword mapped
-read-used ls s k e n q = go (isLone (used ls)) refl (field 0 s k) q
+read-used ls s k e n q = go (isLone (used ls)) refl (field 0 s k) refl q
   where
-    go : (t : Bool) → isLone (used ls) ≡ t → (o : Outcome (ℕ × ℕ)) → cond t (mapped (λ _. firstUsed ls) o) (matching ls 0 32 s k) ≡ ok (e, n)
-        → (e < length ls) × (0 < getD ls e 0)
-    go false l o q = matched-used ls s k 32 0 e n q
-    go true l (ok x) q =
+    go : (t : Bool) → isLone (used ls) ≡ t → (o : Outcome (ℕ × ℕ)) → field 0 s k ≡ o
+        → cond t (mapped (λ _. firstUsed ls) o) (matching ls 0 32 s k) ≡ ok (e, n) → (e < length ls) × (0 < getD ls e 0) × (n ≤ 8 * length s)
+    go false l o p q = matched-used ls s k 32 0 e n q
+    go true l (ok x) p q =
         let y : _≡_ {A = ℕ × ℕ} (firstUsed ls, x .1) (e, n) = cc in
         let z : firstUsed ls ≡ e = ap (λ (p : ℕ × ℕ). p .0) y in
-        rw (← z) (first-used ls l)
-    go true l (bad z) q = let c : _≡_ {A = ℕ} 0 1 = cc in absurd (omega arith)
-
--- ALL OF IT
-pub settled : (ls : List ℕ) → verdict ls ≡ Accepted → Settled ls
-settled ls accepted =
-    record {
-      whole = λ l s k h.
-          let d = accepted-decodable ls accepted in
-          let b = d .complete l (bitsAt s k 32) (bits-lt s k 32) in
-          (b .0, b .1, (λ f g. d .prefixCode .atMostOne (bitsAt s k 32) f (b .0) g (b .1)), read-whole ls accepted s k h (b .0) (b .1) l);
-      lone = λ l s k h. read-lone ls s k l h;
-      used = λ s k e n q. read-used ls s k e n q;
-    }
+        let i : x .1 ≡ n = ap (λ (p : ℕ × ℕ). p .1) y in
+        let u = first-used ls l in
+        (rw (← z) (u .0), rw (← z) (u .1), rw (← i) (field-ok s k 0 p .within))
+    go true l (bad z) p q = let c : _≡_ {A = ℕ} 0 1 = cc in absurd (omega arith)
 
 -- A PACKET CUT after any byte gives the same entry, or a cut
 module _ (ls s : List ℕ) (b k : ℕ) where
@@ -152,11 +145,13 @@ module _ (ls s : List ℕ) (b k : ℕ) where
       swap : {P Q : Type 0} → P ⊎ Q → Q ⊎ P
       swap (inl p) = inr p
       swap (inr q) = inl q
+
       found : (o : Option ℕ) {x y : Outcome (ℕ × ℕ)} → (x ≡ y) ⊎ (x ≡ bad (refusal 1 k))
           → (orGoOn o (k + suc n) x ≡ orGoOn o (k + suc n) y) ⊎ (orGoOn o (k + suc n) x ≡ bad (refusal 1 k))
       found (some e) h = inl refl
       found none (inl p) = inl p
       found none (inr p) = inr p
+
       go : k + n < 8 * length (take b s) → (matching ls (suc n) m (take b s) k ≡ matching ls (suc n) m s k) ⊎ (matching ls (suc n) m (take b s) k ≡ bad (refusal 1 k))
           → (need (ltb (k + n) (8 * length (take b s))) (refusal 1 k) (orGoOn (entryOf ls (suc n) (bitsAt (take b s) k (suc n))) (k + suc n) (matching ls (suc n) m (take b s) k))
           ≡ need (ltb (k + n) (8 * length s)) (refusal 1 k) (orGoOn (entryOf ls (suc n) (bitsAt s k (suc n))) (k + suc n) (matching ls (suc n) m s k)))
@@ -179,6 +174,20 @@ module _ (ls s : List ℕ) (b k : ℕ) where
       go false h f = h
       go true h (inl p) = inl (ap (mapped (λ _. firstUsed ls)) p)
       go true h (inr p) = inr (ap (mapped (λ _. firstUsed ls)) p)
+
+-- ALL OF IT
+pub settled : (ls : List ℕ) → verdict ls ≡ Accepted → Settled ls
+settled ls accepted =
+    record {
+      whole = λ l s k h.
+          let d = accepted-decodable ls accepted in
+          let b = d .complete l (bitsAt s k 32) (bits-lt s k 32) in
+          (b .0, b .1, (λ f g. d .prefixCode .atMostOne (bitsAt s k 32) f (b .0) g (b .1)), read-whole ls accepted s k h (b .0) (b .1) l);
+      lone = λ l s k h. read-lone ls s k l h;
+      used = λ s k e n q. let u = read-used ls s k e n q in (u .0, u .1);
+      within = λ s k e n q. read-used ls s k e n q .2;
+      cut = λ s b k. codeword-cut-packet ls s b k;
+    }
 
 -- as the code asks it: the equation, and the promise beside it
 module _ (ls ws : List ℕ) (book : Codebook ls ws) (s : List ℕ) (k : Cursor) (r : Field) where

@@ -2,9 +2,10 @@
 use Prim.Native.Nat.{ℕ, _+_, _*_, _≤_, _<_}
 use mathlib.Core.Bool.{true, false}
 use mathlib.Core.List.{List}
+use mathlib.Core.Logic.{_⊎_}
 use mathlib.Core.Path.{_≡_}
-use lib.ListN.{length, getD}
-use Rattle.reading.specs.Outcome.{ok}
+use lib.ListN.{length, getD, take}
+use Rattle.reading.specs.Outcome.{refusal, ok, bad}
 use Rattle.codespace.specs.Book.{used, isLone, codewords, Begins}
 use Rattle.codebook.specs.Codeword.{bitsAt, codeword, firstUsed}
 
@@ -18,3 +19,7 @@ pub record Settled (lengths : List ℕ) : Type 0 where
   pub lone : isLone (used lengths) ≡ true → (s : List ℕ) (k : ℕ) → k ≤ 8 * length s → codeword lengths s k ≡ ok (firstUsed lengths, k)
   -- the entry that is read is used
   pub used : (s : List ℕ) (k e n : ℕ) → codeword lengths s k ≡ ok (e, n) → (e < length lengths) × (0 < getD lengths e 0)
+  -- and its codeword lies in the packet whole: a cut codeword is no entry
+  pub within : (s : List ℕ) (k e n : ℕ) → codeword lengths s k ≡ ok (e, n) → n ≤ 8 * length s
+  -- a packet cut after any byte gives the same, or the cut
+  pub cut : (s : List ℕ) (b k : ℕ) → (codeword lengths (take b s) k ≡ codeword lengths s k) ⊎ (codeword lengths (take b s) k ≡ bad (refusal 1 k))

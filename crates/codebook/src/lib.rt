@@ -7,6 +7,7 @@ ghost use mathlib.Core.Bool.{true};
 ghost use Prim.Native.Nat.{_+_, _*_, _<_};
 ghost use lib.Dec.{ltb};
 ghost use lib.ListN.{length};
+ghost use Rattle.reading.specs.Outcome.{refusal, bad};
 ghost use Rattle.bits.specs.Field.{bitAt};
 ghost use Rattle.bits.specs.Cursors.{position, outcome};
 ghost use Rattle.codespace.specs.Book.{used, isLone};
@@ -63,16 +64,16 @@ fn match_codeword(packet: &[u8], from: Cursor, lengths: &[u8], words: &[u32]) ->
     let mut entry: usize = 0;
     'word: loop {
         if taken == 32 {
-            break 'word Field::Refused(Refusal { number: 1, place: from });
+            break 'word cut(from);
         }
         if !has_bit(packet, from, taken) {
-            break 'word Field::Refused(Refusal { number: 1, place: from });
+            break 'word cut(from);
         }
         word = word * 2 + bit(packet, from, taken);
         taken = taken + 1;
         'entry: loop {
             if entry == lengths.len() {
-                break 'word Field::Refused(Refusal { number: 1, place: from });
+                break 'word cut(from);
             }
             let length = wide(lengths[entry]);
             if taken <= length {
@@ -86,6 +87,16 @@ fn match_codeword(packet: &[u8], from: Cursor, lengths: &[u8], words: &[u32]) ->
             entry = entry + 1;
         }
     }
+}
+
+// The cut: refusal 1 at the codeword's first bit.
+fn cut(from: Cursor) -> Field
+    ensures { λ r. ⌜ outcome r ≡ bad (refusal 1 (position from)) ⌝ }
+{
+    Field::Refused(Refusal {
+        number: 1,
+        place: from,
+    })
 }
 
 fn wide(x: u8) -> usize
@@ -122,5 +133,8 @@ fn behind(from: Cursor, taken: usize) -> Cursor
     ensures { λ r. ⌜ position r ≡ position from + taken ⌝ }
 {
     let bit = wide(from.bit) + taken;
-    Cursor { byte: from.byte + bit / 8, bit: (bit % 8) as u8 }
+    Cursor {
+        byte: from.byte + bit / 8,
+        bit: (bit % 8) as u8,
+    }
 }

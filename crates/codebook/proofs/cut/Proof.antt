@@ -1,0 +1,14 @@
+use mathlib.Core.Path.{refl}
+use Rattle.bits.specs.Cursors.{outcome}
+use Rattle.codebook.proofs.cut.Statement.{statement}
+use Rattle.codebook.proofs.cut.Tie as tie
+use Rattle.codebook.proofs.cut.Reads as reads
+use Rattle.codebook.proofs.cut.Lts as lts
+
+-- src/lib.rt:93:1
+returns : tie.Need-returns
+unfolding outcome
+returns c = refl
+
+pub cut-spec : {M : Type 1} → statement M
+cut-spec = tie.close (tie.spec returns)
