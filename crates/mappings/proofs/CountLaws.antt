@@ -6,9 +6,9 @@ use borrow.Author.Needs.{needs}
 use borrow.Author.Tests.{eq-eqb, ne-eqb}
 use mathlib.Core.Bool.{Bool, true, false, cond}
 use mathlib.Core.List.{List}
-use mathlib.Core.Path.{_≡_, refl, sym, ap, _∙_}
+use mathlib.Core.Path.{_≡_, ap}
 use lib.Dec.{eqb}
-use Rattle.reading.specs.Outcome.{Outcome, ok, bad, then}
+use Rattle.reading.specs.Outcome.{ok}
 use Rattle.reading.specs.Reader.{mapped}
 use Rattle.reading.proofs.Outcomes.{then-ok}
 use Rattle.reading.proofs.Readers.{mapped-ok}
@@ -16,7 +16,7 @@ use Rattle.bits.specs.declared.Cursor.{Cursor}
 use Rattle.bits.specs.declared.Refusal.{Refusal}
 use Rattle.bits.specs.declared.Field.{Field}
 use Rattle.bits.specs.declared.Field.the-variants.{Value, Refused}
-use Rattle.bits.specs.Cursors.{position, refusalOf, outcome}
+use Rattle.bits.specs.Cursors.{position, outcome}
 use Rattle.bits.specs.Field.{field}
 use Rattle.bits.proofs.Answers.{value-is, refused-is, value-below}
 use Rattle.bits.proofs.Fields.{field-ok}

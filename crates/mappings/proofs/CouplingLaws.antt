@@ -4,10 +4,10 @@ use native.Mathlib.Omega.{arith}
 use borrow.Author.Needs.{needs}
 use borrow.Author.Tests.{lt-ltb, le-ltb, ltb-true, eq-eqb, ne-eqb}
 use mathlib.Core.List.{List, [], _∷_}
-use mathlib.Core.Path.{_≡_, refl, sym, ap, _∙_}
+use mathlib.Core.Path.{_≡_, ap, _∙_}
 use lib.Dec.{ltb}
 use lib.Seq.{sets}
-use Rattle.reading.specs.Outcome.{Outcome, ok, bad}
+use Rattle.reading.specs.Outcome.{Outcome, ok}
 use Rattle.reading.specs.Reader.{mapped, into1}
 use Rattle.reading.specs.Table.{Table, table, putRow}
 use Rattle.reading.proofs.Outcomes.{judged-ok}
@@ -16,10 +16,10 @@ use Rattle.bits.specs.declared.Refusal.{Refusal}
 use Rattle.bits.specs.declared.Field.{Field}
 use Rattle.bits.specs.declared.Field.the-variants.{Value, Refused}
 use Rattle.bits.specs.declared.Step.the-variants as S
-use Rattle.bits.specs.Cursors.{position, refusalOf, outcome, Wrote}
+use Rattle.bits.specs.Cursors.{position, outcome, Wrote}
 use Rattle.bits.specs.Field.{field}
 use Rattle.bits.specs.Ilog.{ilog}
-use Rattle.bits.proofs.Answers.{value-is, refused-is, value-below}
+use Rattle.bits.proofs.Answers.{value-is, refused-is}
 use Rattle.bits.proofs.Ilogs.{ilog-places}
 use Rattle.bits.proofs.Steps.{wrote-refused, wrote-next}
 use Rattle.mappings.specs.Reading.{channel, coupling}

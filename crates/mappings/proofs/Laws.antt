@@ -10,10 +10,10 @@ use lib.Dec.{eqb, leb, ltb}
 use lib.ListN.{length, getD, take, drop}
 use lib.Seq.{take-all}
 use Rattle.reading.specs.Lists.{all, rows}
-use Rattle.reading.specs.Outcome.{Outcome, ok, then}
+use Rattle.reading.specs.Outcome.{ok}
 use Rattle.reading.specs.Pad.{pad}
 use Rattle.reading.specs.Reader.{many, judged}
-use Rattle.reading.specs.Stand.{Each, Stands}
+use Rattle.reading.specs.Stand.{Each}
 use Rattle.reading.proofs.Pads.{length-pad}
 use Rattle.reading.proofs.Outcomes.{then-ok, judged-ok}
 use Rattle.reading.proofs.Accepted.{many-each, many-number}
@@ -29,7 +29,7 @@ use Rattle.mappings.specs.Decode.{couplingOf, submapOf, pairs, lessOne, 
 use Rattle.mappings.specs.Stand.{MappingsStand}
 use Rattle.mappings.proofs.CountLaws.{submaps-few, steps-few, submaps-some-at-least}
 use Rattle.mappings.proofs.CouplingLaws.{channel-below}
-use Rattle.mappings.proofs.MappingLaws.{Sizes, parts-sizes}
+use Rattle.mappings.proofs.MappingLaws.{parts-sizes}
 use Rattle.mappings.proofs.RowLaws.{mapping-wide, part-couplings, part-multiplex, part-submaps}
 
 pub coupling-valid : (channels : ℕ) (s : List ℕ) (k : ℕ) (x : Coupling × ℕ) → coupling channels s k ≡ ok x → ValidCoupling channels (x .0)

@@ -26,11 +26,11 @@ use Rattle.bits.specs.Field.{field}
 use Rattle.bits.proofs.Answers.{value-is, refused-is}
 use Rattle.bits.proofs.Steps.{wrote-refused, wrote-next, Rest, loop-start, loop-next, loop-refused, loop-done}
 use Rattle.bits.proofs.Written.{got, stopped}
-use Rattle.mappings.specs.Content.{Coupling, Submap, Mapping}
+use Rattle.mappings.specs.Content.{Mapping}
 use Rattle.mappings.specs.declared.Known.{Known}
 use Rattle.mappings.specs.Reading.{submapCount, couplingCount, coupling, multiplex, multiplexes, submap, parts, mapping}
 use Rattle.mappings.specs.Layout.{couplingRow, multiplexRow, submapRow, mappingRow, partsInto}
-use Rattle.mappings.proofs.CountLaws.{submaps-few, steps-few, submaps-few-here, steps-few-here}
+use Rattle.mappings.proofs.CountLaws.{submaps-few-here, steps-few-here}
 use Rattle.mappings.proofs.RowLaws.{mapping-wide, row-made}
 
 abbrev at : ℕ → Cursor → Refusal

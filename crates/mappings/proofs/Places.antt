@@ -2,13 +2,12 @@
 use Prim.Native.Nat.{ℕ, zero, suc, _+_, _-_, _*_, _/_, _%_, _≤_, _<_}
 use native.Mathlib.Nat.{add-zero}
 use native.Mathlib.Omega.{arith}
-use mathlib.Core.List.{List, [], _∷_, _++_, map}
+use mathlib.Core.List.{List, [], _∷_, map}
 use mathlib.Core.Path.{_≡_, refl, sym, ap, _∙_}
-use lib.ListN.{length, getD, take, drop}
+use lib.ListN.{length, getD, drop}
 use lib.Seq.{getD-take, getD-drop}
 use Rattle.reading.specs.Lists.{rows}
 use Rattle.reading.specs.Pad.{pad}
-use Rattle.reading.specs.Stand.{Each, Stands}
 use Rattle.reading.proofs.Stands.{row-place, rows-length}
 use Rattle.reading.proofs.Pads.{pad-get}
 use Rattle.mappings.specs.Content.{Coupling, Submap, Mapping}

@@ -1,9 +1,9 @@
 -- Laws of a mapping's row: its width, how it is made from its parts, and what stands in each part. Assumes nothing.
-use Prim.Native.Nat.{ℕ, suc, _+_, _-_, _*_, _/_, _%_, _≤_, _<_}
+use Prim.Native.Nat.{ℕ, suc, _+_, _-_, _*_, _/_, _%_, _≤_}
 use native.Mathlib.Omega.{arith}
 use mathlib.Core.List.{List, [], _∷_, _++_, map, append-assoc}
 use mathlib.Core.Path.{_≡_, refl, sym, ap, _∙_}
-use lib.ListN.{length, getD, set, take, drop, replicate, length-append, length-map}
+use lib.ListN.{length, set, take, drop, replicate, length-append, length-map}
 use lib.Seq.{sets, take-at, drop-at}
 use Rattle.reading.specs.Lists.{rows}
 use Rattle.reading.specs.Pad.{pad}

@@ -1,15 +1,15 @@
 -- Laws of reading a multiplex number and a submap as the code asks them. Assumes nothing.
-use Prim.Native.Nat.{ℕ, suc, _+_, _≤_, _<_}
+use Prim.Native.Nat.{ℕ, _+_, _≤_, _<_}
 use native.Mathlib.Numerals.{add-one}
 use native.Mathlib.Omega.{arith}
 use borrow.Author.Needs.{needs}
 use borrow.Author.Tests.{lt-ltb, le-ltb, le-leb, lt-leb}
 use mathlib.Core.List.{List, [], _∷_}
-use mathlib.Core.Path.{_≡_, refl, sym, ap, subst, _∙_}
+use mathlib.Core.Path.{_≡_}
 use lib.ListN.{set}
 use lib.Seq.{sets}
 use Rattle.reading.specs.Lists.{rows}
-use Rattle.reading.specs.Outcome.{Outcome, ok, bad}
+use Rattle.reading.specs.Outcome.{Outcome}
 use Rattle.reading.specs.Reader.{many, mapped, into1}
 use Rattle.reading.specs.Table.{Table, table, putRow}
 use Rattle.bits.specs.declared.Cursor.{Cursor}
@@ -18,7 +18,7 @@ use Rattle.bits.specs.declared.Field.{Field}
 use Rattle.bits.specs.declared.Field.the-variants.{Value, Refused}
 use Rattle.bits.specs.declared.Step.{Step}
 use Rattle.bits.specs.declared.Step.the-variants as S
-use Rattle.bits.specs.Cursors.{position, refusalOf, outcome, Wrote}
+use Rattle.bits.specs.Cursors.{position, outcome, Wrote}
 use Rattle.bits.specs.Field.{field}
 use Rattle.bits.proofs.Answers.{value-is, refused-is, value-below}
 use Rattle.bits.proofs.Steps.{wrote-refused, wrote-next}

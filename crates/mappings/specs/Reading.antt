@@ -1,9 +1,9 @@
 -- A mapping in a setup packet as 003's steps, each field judged as soon as it is read (01, "Order").
-use Prim.Native.Nat.{ℕ, suc, _+_, _-_}
-use mathlib.Core.Bool.{Bool, true, false, not, cond}
+use Prim.Native.Nat.{ℕ, suc, _-_}
+use mathlib.Core.Bool.{not, cond}
 use mathlib.Core.List.{List, []}
 use lib.Dec.{eqb, leb, ltb}
-use Rattle.reading.specs.Outcome.{Outcome, ok, then}
+use Rattle.reading.specs.Outcome.{ok, then}
 use Rattle.reading.specs.Reader.{Reader, judged, mapped, many}
 use Rattle.bits.specs.Field.{field}
 use Rattle.bits.specs.Ilog.{ilog}

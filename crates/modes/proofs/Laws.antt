@@ -1,17 +1,16 @@
 -- Laws of modes that other crates cite: a row's width; what is accepted is valid; one row for one mode; what a place of the table holds.
 -- Assumes nothing.
-use Prim.Native.Nat.{ℕ, _+_, _*_, _≤_, _<_}
+use Prim.Native.Nat.{ℕ, _+_, _*_, _<_}
 use native.Mathlib.Nat.{add-zero}
 use native.Mathlib.Omega.{arith}
 use borrow.Author.Tests.{ltb-true}
-use mathlib.Core.Bool.{Bool, true}
 use mathlib.Core.List.{List}
-use mathlib.Core.Path.{_≡_, refl, sym, ap, subst, _∙_}
+use mathlib.Core.Path.{_≡_, refl, ap, subst, _∙_}
 use lib.Dec.{eqb, ltb}
 use lib.ListN.{length, getD}
-use Rattle.reading.specs.Outcome.{Outcome, ok, then}
+use Rattle.reading.specs.Outcome.{ok}
 use Rattle.reading.specs.Reader.{many, judged}
-use Rattle.reading.specs.Stand.{Each, Stands}
+use Rattle.reading.specs.Stand.{Each}
 use Rattle.reading.proofs.Outcomes.{then-ok, judged-ok}
 use Rattle.reading.proofs.Accepted.{many-each, many-number}
 use Rattle.reading.proofs.Stands.{row-place, rows-length, stands-same}

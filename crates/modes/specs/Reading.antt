@@ -1,8 +1,7 @@
 -- A mode in a setup packet as 003's steps, each field judged as soon as it is read (01, "Order").
 use Prim.Native.Nat.{ℕ}
-use mathlib.Core.List.{List}
 use lib.Dec.{eqb, ltb}
-use Rattle.reading.specs.Outcome.{Outcome, ok, then}
+use Rattle.reading.specs.Outcome.{ok, then}
 use Rattle.reading.specs.Reader.{Reader, judged}
 use Rattle.bits.specs.Field.{field}
 use Rattle.modes.specs.Content.{Mode}

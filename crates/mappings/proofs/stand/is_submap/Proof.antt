@@ -1,5 +1,4 @@
 use Rattle.mappings.proofs.StandLaws.{number-laws}
-use borrow.Author.Needs.{needs}
 use Rattle.mappings.proofs.stand.is_submap.Statement.{statement}
 use Rattle.mappings.proofs.stand.is_submap.Tie as tie
 use Rattle.mappings.proofs.stand.is_submap.Reads as reads

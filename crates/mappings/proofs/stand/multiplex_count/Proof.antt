@@ -1,5 +1,4 @@
 use Rattle.mappings.proofs.StandLaws.{count-known}
-use borrow.Author.Needs.{needs}
 use Rattle.mappings.proofs.stand.multiplex_count.Statement.{statement}
 use Rattle.mappings.proofs.stand.multiplex_count.Tie as tie
 use Rattle.mappings.proofs.stand.multiplex_count.Reads as reads

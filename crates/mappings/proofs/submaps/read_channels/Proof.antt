@@ -1,4 +1,4 @@
-use Prim.Native.Nat.{_+_, _*_, _-_, _≤_}
+use Prim.Native.Nat.{_+_, _-_, _≤_}
 use mathlib.Core.Path.{_≡_}
 use Rattle.mappings.proofs.Fillings.{Filling, filling, fill-refused, fill-next, fill-done}
 use Rattle.mappings.specs.Reading.{multiplex}

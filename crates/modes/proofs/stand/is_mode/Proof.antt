@@ -1,5 +1,4 @@
 use Rattle.modes.proofs.StandLaws.{number-laws}
-use borrow.Author.Needs.{needs}
 use Rattle.modes.proofs.stand.is_mode.Statement.{statement}
 use Rattle.modes.proofs.stand.is_mode.Tie as tie
 use Rattle.modes.proofs.stand.is_mode.Reads as reads
