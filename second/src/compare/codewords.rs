@@ -99,35 +99,44 @@ pub fn boundaries(report: &mut Report) -> Result<(), String> {
     Ok(())
 }
 
-/// One round: a full book with what can be made of it, and lists of random lengths.
+/// One round: full books with what can be made of them, sole entries, and lists of random
+/// lengths.
 pub fn round(random: &mut Random, report: &mut Report) -> Result<(), String> {
-    let full = full_book(random);
-    lengths(&full, report)?;
+    for _ in 0..8 {
+        around_full(&full_book(random), random, report)?;
+        sole_entries(random, report)?;
+        for _ in 0..8 {
+            lengths(&random_lengths(random), report)?;
+        }
+    }
+    Ok(())
+}
+
+/// A full book, with other numbers of places, one entry short, one over, one changed, and
+/// with unused entries.
+fn around_full(full: &[u8], random: &mut Random, report: &mut Report) -> Result<(), String> {
+    lengths(full, report)?;
     for places in [full.len() - 1, full.len() + 1, random.place(2 * full.len())] {
-        lengths_into(&full, places, report)?;
+        lengths_into(full, places, report)?;
     }
     let times = if full.len() > 1_000 { 1 } else { 4 };
     for _ in 0..times {
-        let mut short = full.clone();
+        let mut short = full.to_vec();
         short.remove(random.place(full.len()));
         lengths(&short, report)?;
-        let mut over = full.clone();
+        let mut over = full.to_vec();
         over.insert(random.place(full.len() + 1), random.between(1, 32) as u8);
         lengths(&over, report)?;
-        let mut changed = full.clone();
+        let mut changed = full.to_vec();
         *pick_mut(random, &mut changed) = changed_length(random);
         lengths(&changed, report)?;
-        let mut sparse = full.clone();
+        let mut sparse = full.to_vec();
         for _ in 0..random.between(1, 20) {
             sparse.insert(random.place(sparse.len() + 1), 0);
         }
         lengths(&sparse, report)?;
         *pick_mut(random, &mut sparse) = changed_length(random);
         lengths(&sparse, report)?;
-    }
-    sole_entries(random, report)?;
-    for _ in 0..8 {
-        lengths(&random_lengths(random), report)?;
     }
     Ok(())
 }

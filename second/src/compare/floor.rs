@@ -102,6 +102,7 @@ fn points_into(points: &Points, places: [usize; 2], report: &mut Report) -> Resu
     }
     let (y, flags) = &library.left;
     let kept = library.answer == Answer::Holds(true)
+        && [y.len(), flags.len()] == places
         && y.iter().all(|&y| u32::from(y) < range(points.multiplier.into()))
         && flags.iter().all(|&flag| flag <= 1);
     kept.then_some(()).ok_or_else(|| format!("floor_points of {}\n  library {library:?}", input()))
@@ -147,7 +148,7 @@ fn drawn(drawn: &Drawn, half: usize, report: &mut Report) -> Result<(), String> 
     if drawn.is_of_a_floor() {
         return report.compare(Call::FloorCurve, &library, &drawn.second_answer(half), input);
     }
-    let kept = library.answer == Answer::Holds(true);
+    let kept = library.answer == Answer::Holds(true) && library.left.len() == half;
     kept.then_some(()).ok_or_else(|| format!("floor_curve of {}\n  library {library:?}", input()))
 }
 
@@ -161,7 +162,7 @@ pub fn floor(floor: &Points, half: usize, report: &mut Report) -> Result<(), Str
 /// One round: floors with their curves, points of any Y and flags, lists that do not fit,
 /// and lists that are of no floor.
 pub fn round(random: &mut Random, report: &mut Report) -> Result<(), String> {
-    for _ in 0..12 {
+    for _ in 0..100 {
         let half = random_half(random);
         floor(&random_floor(random, 0), half, report)?;
         let least = random.below(1_000) as u16;

@@ -2,11 +2,9 @@
 
 const GUARD: usize = 16;
 
-/// Lends `places` places that hold `filling` and gives what the call left there.
-///
-/// # Panics
-///
-/// Where the call wrote beside the places.
+/// Lends `places` places that hold `filling` and gives what the call left there. Where it
+/// wrote beside them, the guards are given too: a list of another length than any answer
+/// has.
 pub fn lend<T: Copy + PartialEq, R>(
     places: usize,
     filling: T,
@@ -14,9 +12,10 @@ pub fn lend<T: Copy + PartialEq, R>(
 ) -> (R, Vec<T>) {
     let mut list = vec![filling; GUARD + places + GUARD];
     let answer = call(&mut list[GUARD..GUARD + places]);
-    let mut after = list.split_off(GUARD);
-    let guard = after.split_off(places);
-    let untouched = list.iter().chain(&guard).all(|&number| number == filling);
-    assert!(untouched, "a call wrote beside the {places} places that it was lent");
-    (answer, after)
+    let guards = list[..GUARD].iter().chain(&list[GUARD + places..]);
+    if guards.copied().all(|number| number == filling) {
+        list.truncate(GUARD + places);
+        list.drain(..GUARD);
+    }
+    (answer, list)
 }

@@ -73,12 +73,13 @@ fn calls(seed: &str, count: &str) -> Outcome {
 /// The boundaries, then a round of each call for `seed`, `seed + 1` and so on, until so
 /// many calls have been compared.
 fn rounds(seed: u64, count: u64, report: &mut Report) -> Result<u64, String> {
-    sound::boundaries(&mut Random::new(seed), report).map_err(|fault| format!("seed {seed}: {fault}"))?;
-    codewords::boundaries(report)?;
+    let with_seed = |seed: u64| move |fault: String| format!("seed {seed}: {fault}");
+    sound::boundaries(&mut Random::new(seed), report).map_err(with_seed(seed))?;
+    codewords::boundaries(report).map_err(with_seed(seed))?;
     let mut rounds = 0;
     while rounds == 0 || report.calls() < count {
         let seed = seed.wrapping_add(rounds);
-        round(&mut Random::new(seed), report).map_err(|fault| format!("seed {seed}: {fault}"))?;
+        round(&mut Random::new(seed), report).map_err(with_seed(seed))?;
         rounds += 1;
     }
     Ok(rounds)
