@@ -4,6 +4,8 @@
  *
  * No call allocates, keeps state, or asks anything of its input: any bytes and any numbers may be handed in. The caller's only duty is
  * that a pointer, which is never null, and the length beside it name memory that may be read and that nobody writes to during the call.
+ * A list that is lent for the answer (no const) may also be written, and shares no byte with another list of the call. What it holds before the
+ * call does not matter: every place of it is written.
  */
 #ifndef TORCHVALLEY_H
 #define TORCHVALLEY_H
@@ -46,6 +48,26 @@ struct torchvalley_identity_answer torchvalley_identification(const uint8_t *pac
 
 /* Whether an identity is sound: refusals 4 and 14 would not refuse it. Every accepted identity is. */
 bool torchvalley_identity_sound(struct torchvalley_identity identity);
+
+/* Hands out the codewords of a book. `lengths` has the length of each of its entries, 1 to 32, or 0 for an unused one; `words` gets a number for
+ * each entry: its codeword, whose leftmost bit is the highest of as many bits as the length says, or 0 for an unused one. In entry order each is
+ * the lowest that is free. The answer is 0, or the number of a refusal, and then `words` is all zero:
+ *    7  a length asks for more code space than is free, or is above 32
+ *    8  code space is left over, or no entry is used; but a sole used entry of length 1 is accepted
+ *   17  `words` has fewer or more places than there are entries */
+uint32_t torchvalley_codewords(const uint8_t *lengths, size_t entries, uint32_t *words, size_t places);
+
+/* Final Y and flags of a floor of type 1, from its X list and the values that an audio packet has for it. In list order `y` gets each point's Y
+ * below the range that goes with the multiplier, and `flags` 1 where the curve passes through the point, else 0. True where the lists fit each
+ * other: 2 to 65 X, as many values and places of `y` and `flags`, a multiplier of 1 to 4. Otherwise false, and `y` and `flags` are all zero. */
+bool torchvalley_floor_points(const uint16_t *x, size_t x_count, const uint16_t *values, size_t value_count, uint8_t multiplier, uint8_t *y,
+                              size_t y_count, uint8_t *flags, size_t flag_count);
+
+/* The curve of a floor of type 1 through its points whose flag is not 0, at each place of `out`, which has n/2 for a block of n samples. A height
+ * is Y times the multiplier, at most 255. True where there are as many X, Y and flags, at least one, and the first X is 0. Otherwise false, and
+ * `out` is all zero. */
+bool torchvalley_floor_curve(const uint16_t *x, size_t x_count, const uint8_t *y, size_t y_count, const uint8_t *flags, size_t flag_count,
+                             uint8_t multiplier, uint8_t *out, size_t out_count);
 
 #ifdef __cplusplus
 }

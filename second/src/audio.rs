@@ -1,6 +1,7 @@
 //! Audio packets and the tally (003, "Audio packet decode"; 01, "Audio order").
 
 use crate::bits::{ilog, Cursor};
+use crate::floor::Floor;
 use crate::identification::Identity;
 use crate::limits::Limits;
 use crate::mapping::Mapping;
@@ -197,8 +198,7 @@ fn read_floors(
 ) -> Vec<bool> {
     let mut used = Vec::new();
     for (channel, curve) in curves.chunks_exact_mut(half).enumerate() {
-        let submap = mapping.submaps[mapping.submap_of(channel)];
-        let floor = &setup.floors[usize::from(submap.floor)];
+        let floor = floor_of(setup, mapping, channel);
         let values = floor.read_values(&setup.books, cursor).unwrap_or(None);
         if let Some(values) = &values {
             floor.draw(values, curve);
@@ -206,6 +206,39 @@ fn read_floors(
         used.push(values.is_some());
     }
     used
+}
+
+fn floor_of<'a>(setup: &'a Setup, mapping: &Mapping, channel: usize) -> &'a Floor {
+    let submap = mapping.submaps[mapping.submap_of(channel)];
+    &setup.floors[usize::from(submap.floor)]
+}
+
+/// A used floor of a packet: the values read for it, and half the block size.
+#[derive(Clone, Debug)]
+pub struct FloorValues<'a> {
+    pub floor: &'a Floor,
+    pub values: Vec<u32>,
+    pub half: usize,
+}
+
+/// The used floors of a packet, in channel order, for a sound identity that the setup
+/// suits.
+pub fn floor_values<'a>(
+    identity: &Identity,
+    setup: &'a Setup,
+    packet: &[u8],
+) -> Result<Vec<FloorValues<'a>>, Refusal> {
+    let cursor = &mut Cursor::new(packet);
+    let start = read_start(identity, setup, cursor)?;
+    let mapping = &setup.mappings[usize::from(setup.modes[start.mode as usize].mapping)];
+    let half = (start.block_size / 2) as usize;
+    let mut used = Vec::new();
+    for channel in 0..usize::from(identity.channels) {
+        let floor = floor_of(setup, mapping, channel);
+        let values = floor.read_values(&setup.books, cursor).unwrap_or(None);
+        used.extend(values.map(|values| FloorValues { floor, values, half }));
+    }
+    Ok(used)
 }
 
 /// Which channels have residue: those whose floor is used, then by the coupling

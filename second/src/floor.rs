@@ -43,11 +43,18 @@ struct Order {
 
 impl Order {
     fn of(x_list: &[u32]) -> Self {
-        let neighbours = (2..x_list.len()).map(|i| neighbours(x_list, i)).collect();
-        let mut ascending: Vec<usize> = (0..x_list.len()).collect();
-        ascending.sort_by_key(|&i| x_list[i]);
-        Order { neighbours, ascending }
+        Order { neighbours: all_neighbours(x_list), ascending: ascending(x_list) }
     }
+}
+
+fn all_neighbours(x_list: &[u32]) -> Vec<(usize, usize)> {
+    (2..x_list.len()).map(|i| neighbours(x_list, i)).collect()
+}
+
+fn ascending(x_list: &[u32]) -> Vec<usize> {
+    let mut ascending: Vec<usize> = (0..x_list.len()).collect();
+    ascending.sort_by_key(|&i| x_list[i]);
+    ascending
 }
 
 /// Among earlier list places, the greatest X below and the least X above (000,
@@ -98,13 +105,18 @@ pub fn unwrap_value(predicted: i64, value: u32, range: u32) -> i64 {
 /// Final Y and flags in list order from the values read (004, step 1), clamped
 /// to 0..range-1 after the last one. The first two X enclose the others.
 pub fn final_y(x_list: &[u32], values: &[u32], range: u32) -> (Vec<u32>, Vec<bool>) {
-    final_y_in(&Order::of(x_list), x_list, values, range)
+    final_y_between(&all_neighbours(x_list), x_list, values, range)
 }
 
-fn final_y_in(order: &Order, x_list: &[u32], values: &[u32], range: u32) -> (Vec<u32>, Vec<bool>) {
+fn final_y_between(
+    neighbours: &[(usize, usize)],
+    x_list: &[u32],
+    values: &[u32],
+    range: u32,
+) -> (Vec<u32>, Vec<bool>) {
     let mut y: Vec<i64> = values.iter().map(|&value| i64::from(value)).collect();
     let mut flags = vec![true, true];
-    for (&(low, high), i) in order.neighbours.iter().zip(2..) {
+    for (&(low, high), i) in neighbours.iter().zip(2..) {
         let predicted = point_on_line(x_list[low], y[low], x_list[high], y[high], x_list[i]);
         y[i] = unwrap_value(predicted, values[i], range);
         flags.push(values[i] != 0);
@@ -122,14 +134,21 @@ fn final_y_in(order: &Order, x_list: &[u32], values: &[u32], range: u32) -> (Vec
 /// between them in order of X, Y times the multiplier, flat past the last.
 pub fn curve(x_list: &[u32], final_y: &[u32], flags: &[bool], multiplier: u32, size: usize) -> Vec<u8> {
     let mut curve = vec![0; size];
-    draw(&Order::of(x_list), x_list, final_y, flags, multiplier, &mut curve);
+    draw(&ascending(x_list), x_list, final_y, flags, multiplier, &mut curve);
     curve
 }
 
-fn draw(order: &Order, x_list: &[u32], final_y: &[u32], flags: &[bool], multiplier: u32, curve: &mut [u8]) {
+fn draw(
+    ascending: &[usize],
+    x_list: &[u32],
+    final_y: &[u32],
+    flags: &[bool],
+    multiplier: u32,
+    curve: &mut [u8],
+) {
     let height = |i: usize| i64::from(final_y[i] * multiplier);
-    let (mut x0, mut y0) = (0, height(order.ascending[0]));
-    for &i in order.ascending[1..].iter().filter(|&&i| flags[i]) {
+    let (mut x0, mut y0) = (0, height(ascending[0]));
+    for &i in ascending[1..].iter().filter(|&&i| flags[i]) {
         let (x1, y1) = (x_list[i], height(i));
         for (x, value) in (x0..x1).zip(curve.iter_mut().skip(x0 as usize)) {
             *value = point_on_line(x0, y0, x1, y1, x) as u8;
@@ -199,8 +218,8 @@ impl Floor {
     /// Draws the curve that the values give.
     pub fn draw(&self, values: &[u32], curve: &mut [u8]) {
         let range = range(self.multiplier);
-        let (final_y, flags) = final_y_in(&self.order, &self.x_list, values, range);
-        draw(&self.order, &self.x_list, &final_y, &flags, self.multiplier, curve);
+        let (final_y, flags) = final_y_between(&self.order.neighbours, &self.x_list, values, range);
+        draw(&self.order.ascending, &self.x_list, &final_y, &flags, self.multiplier, curve);
     }
 }
 

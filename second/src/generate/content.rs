@@ -121,7 +121,7 @@ fn make_book(random: &mut Random, dimensions: u32, lengths: Vec<u8>, lookup_type
 
 /// The depths of a full tree's leaves: balanced, with one long branch, or grown
 /// by splitting any leaf.
-fn complete_lengths(random: &mut Random, count: u32) -> Vec<u8> {
+pub fn complete_lengths(random: &mut Random, count: u32) -> Vec<u8> {
     if random.one_in(3) {
         let depth = count.ilog2();
         let short = (2 << depth) - count;
@@ -141,7 +141,8 @@ fn complete_lengths(random: &mut Random, count: u32) -> Vec<u8> {
     lengths
 }
 
-fn arrange(random: &mut Random, lengths: &mut [u8]) {
+/// Sorts lengths, shuffles them, or leaves them as they are.
+pub fn arrange(random: &mut Random, lengths: &mut [u8]) {
     match random.below(3) {
         0 => lengths.sort_unstable(),
         1 => random.shuffle(lengths),

@@ -1,0 +1,136 @@
+//! One call many times, on the library or on the second program, with the same input. The
+//! script `benchmark` counts its instructions and reports its time.
+//!
+//! The lent lists are not cleared between calls: what a call clears itself is part of it.
+//! The second program makes new lists where it gives any.
+
+use crate::floor::{random_floor, Points};
+use crate::{codewords, library};
+use second::book::verdict;
+use second::floor::{curve, final_y, range};
+use second::generate::content::complete_lengths;
+use second::generate::random::Random;
+use second::identification::identification;
+use std::error::Error;
+use std::hint::black_box;
+use std::time::Instant;
+
+/// The tool's example in 01.
+const PACKET: [u8; 30] = [
+    1, 0x76, 0x6F, 0x72, 0x62, 0x69, 0x73, 0, 0, 0, 0, 1, 0x40, 0x1F, 0, 0, 0, 0, 0, 0, 0, 0, 0, 0, 0, 0, 0,
+    0, 0xB8, 1,
+];
+
+/// Settles every random input.
+const SEED: u64 = 20;
+
+#[derive(Clone, Copy, Debug, PartialEq, Eq)]
+enum Side {
+    Library,
+    Second,
+}
+
+/// Runs a call so many times and prints the nanoseconds that one took.
+pub fn run(input: &str, side: &str, times: &str) -> Result<(), Box<dyn Error>> {
+    let times: u32 = times.parse()?;
+    let side = match side {
+        "library" => Side::Library,
+        "second" => Side::Second,
+        _ => return Err(format!("no side {side}").into()),
+    };
+    let mut call = call(input, side).ok_or(format!("no input {input}"))?;
+    let start = Instant::now();
+    for _ in 0..times {
+        call();
+    }
+    println!("{:.1}", start.elapsed().as_secs_f64() * 1e9 / f64::from(times));
+    Ok(())
+}
+
+fn call(input: &str, side: Side) -> Option<Box<dyn FnMut()>> {
+    match input {
+        "identification" => Some(identification_call(side)),
+        "codewords" => Some(codewords_call(side)),
+        "points" => Some(points_call(side)),
+        "curve1024" => Some(curve_call(side, 1_024)),
+        "curve4096" => Some(curve_call(side, 4_096)),
+        _ => None,
+    }
+}
+
+fn identification_call(side: Side) -> Box<dyn FnMut()> {
+    match side {
+        Side::Library => Box::new(|| {
+            black_box(library::identification(black_box(&PACKET)));
+        }),
+        Side::Second => Box::new(|| {
+            black_box(identification(black_box(&PACKET))).ok();
+        }),
+    }
+}
+
+/// A full book of 8,192 entries in any order.
+fn codewords_call(side: Side) -> Box<dyn FnMut()> {
+    let random = &mut Random::new(SEED);
+    let mut lengths = complete_lengths(random, codewords::MOST_ENTRIES);
+    random.shuffle(&mut lengths);
+    let mut words = vec![0; lengths.len()];
+    match side {
+        Side::Library => Box::new(move || {
+            black_box(library::codewords(black_box(&lengths), black_box(&mut words)));
+        }),
+        Side::Second => Box::new(move || {
+            black_box(verdict(black_box(&lengths)));
+        }),
+    }
+}
+
+/// A floor of 65 points, all of them flagged, over half a block of 4,096.
+fn largest_floor() -> Points {
+    let random = &mut Random::new(SEED);
+    loop {
+        let floor = random_floor(random, 0);
+        let inside =
+            floor.values.iter().all(|&value| (1..range(floor.multiplier.into())).contains(&value.into()));
+        if floor.x.len() == 65 && floor.x[1] == 4_096 && inside {
+            return floor;
+        }
+    }
+}
+
+fn wide<T: Copy + Into<u32>>(list: &[T]) -> Vec<u32> {
+    list.iter().map(|&number| number.into()).collect()
+}
+
+fn points_call(side: Side) -> Box<dyn FnMut()> {
+    let Points { x, values, multiplier } = largest_floor();
+    let (mut y, mut flags) = (vec![0; x.len()], vec![0; x.len()]);
+    let (wide_x, wide_values) = (wide(&x), wide(&values));
+    match side {
+        Side::Library => Box::new(move || {
+            let lent = (black_box(&mut y[..]), black_box(&mut flags[..]));
+            black_box(library::floor_points(black_box(&x), black_box(&values), multiplier, lent.0, lent.1));
+        }),
+        Side::Second => Box::new(move || {
+            black_box(final_y(black_box(&wide_x), black_box(&wide_values), range(multiplier.into())));
+        }),
+    }
+}
+
+fn curve_call(side: Side, half: usize) -> Box<dyn FnMut()> {
+    let Points { x, values, multiplier } = largest_floor();
+    let (mut y, mut flags) = (vec![0; x.len()], vec![0; x.len()]);
+    library::floor_points(&x, &values, multiplier, &mut y, &mut flags);
+    let (wide_x, wide_y) = (wide(&x), wide(&y));
+    let set: Vec<bool> = flags.iter().map(|&flag| flag != 0).collect();
+    let mut out = vec![0; half];
+    match side {
+        Side::Library => Box::new(move || {
+            let drawn = library::floor_curve(black_box(&x), &y, &flags, multiplier, black_box(&mut out));
+            black_box(drawn);
+        }),
+        Side::Second => Box::new(move || {
+            black_box(curve(black_box(&wide_x), &wide_y, &set, multiplier.into(), half));
+        }),
+    }
+}

@@ -1,0 +1,107 @@
+//! Compares the second reader with the proved library, call by call.
+//!
+//! | Call | Module |
+//! |---|---|
+//! | `torchvalley_identification` | [`identification`] |
+//! | `torchvalley_identity_sound` | [`sound`] |
+//! | `torchvalley_codewords` | [`codewords`] |
+//! | `torchvalley_floor_points`, `torchvalley_floor_curve` | [`floor`] |
+//!
+//! A call that joins the library is declared in [`library`], gets a case in
+//! [`report::Call`] with its answers, a module with `round`, and its place in [`rounds`]
+//! and in [`streams`]: the setup call where a stream's books are taken from its content,
+//! the audio call where floors are taken from its packets.
+
+#![deny(unsafe_code)]
+
+mod benchmark;
+mod codewords;
+mod floor;
+mod identification;
+mod lent;
+mod library;
+mod report;
+mod sound;
+mod streams;
+
+use report::Report;
+use second::generate::random::Random;
+use std::error::Error;
+use std::path::Path;
+use std::process::ExitCode;
+use std::{env, fs};
+
+const USAGE: &str = "\
+compare calls SEED COUNT                  random inputs, COUNT calls or more
+compare streams LIST FOLDER [...]         published streams of each list
+compare bench INPUT SIDE TIMES            one call so many times, SIDE library or second";
+
+type Outcome = Result<(), Box<dyn Error>>;
+
+fn main() -> ExitCode {
+    let arguments: Vec<String> = env::args().skip(1).collect();
+    let arguments: Vec<&str> = arguments.iter().map(String::as_str).collect();
+    let outcome = match arguments[..] {
+        ["calls", seed, count] => calls(seed, count),
+        ["streams", ref lists @ ..] if !lists.is_empty() && lists.len().is_multiple_of(2) => {
+            streams_of(lists)
+        }
+        ["bench", input, side, times] => benchmark::run(input, side, times),
+        _ => Err(USAGE.into()),
+    };
+    match outcome {
+        Ok(()) => ExitCode::SUCCESS,
+        Err(fault) => {
+            eprintln!("{fault}");
+            ExitCode::FAILURE
+        }
+    }
+}
+
+fn calls(seed: &str, count: &str) -> Outcome {
+    let (seed, count) = (seed.parse()?, count.parse()?);
+    let report = &mut Report::default();
+    let rounds = rounds(seed, count, report)?;
+    println!("compare: seed {seed}, rounds {rounds}, calls {}, no difference", report.calls());
+    println!("{report}");
+    match &report.missing()[..] {
+        [] => Ok(()),
+        missing => Err(format!("never given on both sides: {}", missing.join(", ")).into()),
+    }
+}
+
+/// The boundaries, then a round of each call for `seed`, `seed + 1` and so on, until so
+/// many calls have been compared.
+fn rounds(seed: u64, count: u64, report: &mut Report) -> Result<u64, String> {
+    let with_seed = |seed: u64| move |fault: String| format!("seed {seed}: {fault}");
+    sound::boundaries(&mut Random::new(seed), report).map_err(with_seed(seed))?;
+    codewords::boundaries(report).map_err(with_seed(seed))?;
+    let mut rounds = 0;
+    while rounds == 0 || report.calls() < count {
+        let seed = seed.wrapping_add(rounds);
+        round(&mut Random::new(seed), report).map_err(with_seed(seed))?;
+        rounds += 1;
+    }
+    Ok(rounds)
+}
+
+fn round(random: &mut Random, report: &mut Report) -> Result<(), String> {
+    identification::round(random, report)?;
+    sound::round(random, report)?;
+    codewords::round(random, report)?;
+    floor::round(random, report)
+}
+
+fn streams_of(lists: &[&str]) -> Outcome {
+    let report = &mut Report::default();
+    let mut seen = streams::Seen::default();
+    for pair in lists.chunks_exact(2) {
+        streams::list(&fs::read_to_string(pair[0])?, Path::new(pair[1]), report, &mut seen)?;
+    }
+    let streams::Seen { streams, absent, books, floors } = seen;
+    println!(
+        "compare: streams {streams}, not at hand {absent}, books {books}, floors {floors}, no difference"
+    );
+    println!("{report}");
+    Ok(())
+}

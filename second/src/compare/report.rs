@@ -1,0 +1,120 @@
+//! What both sides answered, how often, and the first difference.
+
+use std::collections::BTreeMap;
+use std::fmt::{self, Debug};
+
+/// A call's answer apart from what it leaves in lent lists.
+#[derive(Clone, Copy, Debug, PartialEq, Eq, PartialOrd, Ord)]
+pub enum Answer {
+    /// 0 or the number of a refusal (01).
+    Number(u32),
+    Holds(bool),
+}
+
+impl fmt::Display for Answer {
+    fn fmt(&self, f: &mut fmt::Formatter) -> fmt::Result {
+        match self {
+            Answer::Number(number) => f.pad(&number.to_string()),
+            Answer::Holds(holds) => f.pad(&holds.to_string()),
+        }
+    }
+}
+
+/// A call of the library.
+#[derive(Clone, Copy, Debug, PartialEq, Eq, PartialOrd, Ord)]
+pub enum Call {
+    Identification,
+    IdentitySound,
+    Codewords,
+    FloorPoints,
+    FloorCurve,
+}
+
+impl Call {
+    pub const ALL: [Call; 5] =
+        [Call::Identification, Call::IdentitySound, Call::Codewords, Call::FloorPoints, Call::FloorCurve];
+
+    pub fn name(self) -> &'static str {
+        match self {
+            Call::Identification => "identification",
+            Call::IdentitySound => "identity_sound",
+            Call::Codewords => "codewords",
+            Call::FloorPoints => "floor_points",
+            Call::FloorCurve => "floor_curve",
+        }
+    }
+
+    /// Every answer the call can give; a run has to see each.
+    fn answers(self) -> Vec<Answer> {
+        match self {
+            Call::Identification => [0, 1, 2, 3, 4, 5, 14].map(Answer::Number).to_vec(),
+            Call::Codewords => [0, 7, 8, 17].map(Answer::Number).to_vec(),
+            Call::IdentitySound | Call::FloorPoints | Call::FloorCurve => {
+                [true, false].map(Answer::Holds).to_vec()
+            }
+        }
+    }
+}
+
+/// An answer with what it left in the lent lists or in its fields.
+#[derive(Clone, Debug, PartialEq, Eq)]
+pub struct Given<T> {
+    pub answer: Answer,
+    pub left: T,
+}
+
+/// How often each side gave each answer.
+#[derive(Debug, Default)]
+pub struct Report {
+    /// The library's and the second program's.
+    given: BTreeMap<(Call, Answer), [u64; 2]>,
+    calls: u64,
+}
+
+impl Report {
+    /// How many calls have been compared.
+    pub fn calls(&self) -> u64 {
+        self.calls
+    }
+
+    /// Counts one call and compares its answers; `input` is for the message.
+    pub fn compare<T: PartialEq + Debug>(
+        &mut self,
+        call: Call,
+        library: &Given<T>,
+        second: &Given<T>,
+        input: impl FnOnce() -> String,
+    ) -> Result<(), String> {
+        self.calls += 1;
+        for (side, given) in [library, second].into_iter().enumerate() {
+            self.given.entry((call, given.answer)).or_default()[side] += 1;
+        }
+        if library == second {
+            return Ok(());
+        }
+        Err(format!("{} of {}\n  library {library:?}\n  second  {second:?}", call.name(), input()))
+    }
+
+    /// Answers that a side has never given.
+    pub fn missing(&self) -> Vec<String> {
+        let pairs = Call::ALL.into_iter().flat_map(|call| call.answers().into_iter().map(move |a| (call, a)));
+        let seen = |pair| self.given.get(&pair).is_some_and(|sides| !sides.contains(&0));
+        pairs.filter(|&pair| !seen(pair)).map(|(call, answer)| format!("{} {answer}", call.name())).collect()
+    }
+}
+
+impl fmt::Display for Report {
+    fn fmt(&self, f: &mut fmt::Formatter) -> fmt::Result {
+        write!(f, "{:<16}{:>7}{:>12}{:>12}", "call", "answer", "library", "second")?;
+        for ((call, answer), [library, second]) in &self.given {
+            write!(f, "\n{:<16}{answer:>7}{library:>12}{second:>12}", call.name())?;
+        }
+        Ok(())
+    }
+}
+
+/// A list of numbers in hexadecimal, each of so many digits.
+pub fn hex<T: fmt::LowerHex>(list: &[T], digits: usize) -> String {
+    let numbers: Vec<String> = list.iter().map(|number| format!("{number:0digits$x}")).collect();
+    format!("[{}]", numbers.join(" "))
+}
