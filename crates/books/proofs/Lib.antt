@@ -6,3 +6,5 @@ pub mod EntryLaws
 pub mod LookupLaws
 pub mod BookLaws
 pub mod BooksLaws
+pub mod Accepted
+pub mod Laid

@@ -84,15 +84,15 @@ module _ {A B C : Type 0} (h : B → Outcome C) where
   then-into (ok a) f g e = e a
   then-into (bad z) f g e = refl
 
-abbrev withValues : ℕ → Parameters → List ℕ → Lookup
+abbrev pub withValues : ℕ → Parameters → List ℕ → Lookup
 withValues type p list =
     record { lookup = type; minimum = p .minimum; delta = p .delta; width = p .width; sequence = p .sequence; multiplicands = list }
 
-abbrev afterParameters : ℕ → ℕ → ℕ → ℕ → List ℕ → Parameters × ℕ → Outcome (Lookup × ℕ)
+abbrev pub afterParameters : ℕ → ℕ → ℕ → ℕ → List ℕ → Parameters × ℕ → Outcome (Lookup × ℕ)
 afterParameters place type count room s p =
     need (leb count room) (refusal 14 place) (then (many (field (p .0 .width)) count s (p .1)) (λ list. ok (withValues type (p .0) (list .0), list .1)))
 
-values-as : (place type count room : ℕ) (s : List ℕ) (k : ℕ) → values place type count room s k ≡ then (parameters s k) (afterParameters place type count room s)
+pub values-as : (place type count room : ℕ) (s : List ℕ) (k : ℕ) → values place type count room s k ≡ then (parameters s k) (afterParameters place type count room s)
 unfolding values parameters
 values-as place type count room s k =
     let h = afterParameters place type count room s in
