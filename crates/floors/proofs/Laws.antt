@@ -96,7 +96,7 @@ pub floors-lie : (fs : List Floor) (t : List ℕ) → t ≡ pad (length t) (rows
 floors-lie fs t e h f k = floor-lies (getD fs f noFloor) (floors-row fs t e h f k)
 
 -- row c of the rows of classes
-class-row : {t : List ℕ} (at m : ℕ) (cs : List Class) (c : ℕ) → c < length cs → length cs ≤ m → Lies t at (pad (11 * m) (rows classRow cs)) → Lies t (at + 11 * c) (classRow (getD cs c noClass))
+pub class-row : {t : List ℕ} (at m : ℕ) (cs : List Class) (c : ℕ) → c < length cs → length cs ≤ m → Lies t at (pad (11 * m) (rows classRow cs)) → Lies t (at + 11 * c) (classRow (getD cs c noClass))
 class-row at m [] c h k l = absurd (omega arith)
 class-row at zero (x ∷ cs) c h k l = absurd (omega arith)
 class-row at (suc m) (x ∷ cs) zero h k l = lies-at (omega arith) (classes-lie m x cs l .0)
