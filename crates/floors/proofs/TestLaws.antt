@@ -181,15 +181,15 @@ module _ (books : ℕ) (t : List ℕ) (at : ℕ) {n : ℕ} (q : n ≡ getD t (at
 
       pub named-end : not b₁ ≡ false → {b₂ : Bool} → (b₂ ≡ true) ↔ Below t (at + 36 + 11 * n) (at + 212) 1 → (b₂ ≡ true) ↔ NamedRules books t at
       named-end z p₂ = (
-          λ e.
-          record {
-            count = sym q ∙ y₁ ∙ q₂ ∙ ap (classesTo (slice (at + 5) (at + 36) t)) q₁;
-            few = rw q at y;
-            classes = rw q at (shown p₁ z);
-            zeros = rw q at (p₂ .0 e)
-          },
-          λ r. p₂ .1 (rw q (r .zeros)),
-        )
+        λ e.
+            record {
+              count = sym q ∙ y₁ ∙ q₂ ∙ ap (classesTo (slice (at + 5) (at + 36) t)) q₁;
+              few = rw q at y;
+              classes = rw q at (shown p₁ z);
+              zeros = rw q at (p₂ .0 e);
+            },
+        λ r. p₂ .1 (rw q (r .zeros)),
+      )
 
 pub ruleset named-laws = (needs, named-many, named-other, named-not, named-end)
 
@@ -251,16 +251,15 @@ module _ (t : List ℕ) (at : ℕ) {b : ℕ} (q₃ : b ≡ getD t (at + 3) 0) {x
 
         pub list-end : not b₂ ≡ false → {d : Bool} → d ≡ distinct (slice (at + 212) (at + 212 + v) t) → (d ≡ true) ↔ ListRules t at
         list-end z {d} w =
-            let w′ : d ≡ distinct (slice (at + 212) (at + 212 + getD t (at + 4) 0) t) = rw q₄ at w in
-            (
+            let w′ : d ≡ distinct (slice (at + 212) (at + 212 + getD t (at + 4) 0) t) = rw q₄ at w in (
               λ e.
-              record {
-                first = omega arith;
-                second = sym q₆ ∙ sym y₁ ∙ range;
-                range = shown in-range y₂;
-                zeros = rw q₄ at (shown p₂ z);
-                different = sym w′ ∙ e
-              },
+                  record {
+                    first = omega arith;
+                    second = sym q₆ ∙ sym y₁ ∙ range;
+                    range = shown in-range y₂;
+                    zeros = rw q₄ at (shown p₂ z);
+                    different = sym w′ ∙ e;
+                  },
               λ r. w′ ∙ r .different,
             )
 

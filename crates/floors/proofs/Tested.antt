@@ -89,10 +89,10 @@ module _ {t : List ℕ} where
       let p = length-pad m xs in
       record {
         each = λ i a b.
-        let j : at + (i - at) ≡ i = omega arith in
-        let k : length xs ≤ i - at = omega arith in
-        let v : getD t i 0 ≡ 0 = ap (λ (x : ℕ). getD t x 0) (sym j) ∙ l .same (i - at) (omega arith) ∙ pad-get m xs (i - at) (omega arith) ∙ List·getD-eq-default xs 0 k in
-        omega arith
+            let j : at + (i - at) ≡ i = omega arith in
+            let k : length xs ≤ i - at = omega arith in
+            let v : getD t i 0 ≡ 0 = ap (λ (x : ℕ). getD t x 0) (sym j) ∙ l .same (i - at) (omega arith) ∙ pad-get m xs (i - at) (omega arith) ∙ List·getD-eq-default xs 0 k in
+            omega arith;
       }
 
   padded-below : (at m n limit : ℕ) (xs : List ℕ) → length xs ≡ n → n ≤ m → Lies t at (pad m xs) → all (λ x. ltb x limit) xs ≡ true → Below t at (at + n) limit
@@ -100,10 +100,10 @@ module _ {t : List ℕ} where
       let p = length-pad m xs in
       record {
         each = λ i x y.
-        let j : at + (i - at) ≡ i = omega arith in
-        let v : getD t i 0 ≡ getD xs (i - at) 0 = ap (λ (x : ℕ). getD t x 0) (sym j) ∙ l .same (i - at) (omega arith) ∙ pad-get m xs (i - at) (omega arith) in
-        let w = ltb-true (getD xs (i - at) 0) limit (all-at (λ x. ltb x limit) xs a (i - at) (omega arith)) in
-        omega arith
+            let j : at + (i - at) ≡ i = omega arith in
+            let v : getD t i 0 ≡ getD xs (i - at) 0 = ap (λ (x : ℕ). getD t x 0) (sym j) ∙ l .same (i - at) (omega arith) ∙ pad-get m xs (i - at) (omega arith) in
+            let w = ltb-true (getD xs (i - at) 0) limit (all-at (λ x. ltb x limit) xs a (i - at) (omega arith)) in
+            omega arith;
       }
 
   slice-below : (from n limit : ℕ) → from + n ≤ length t → Below t from (from + n) limit → all (λ x. ltb x limit) (slice from (from + n) t) ≡ true
@@ -174,8 +174,7 @@ module _ (books : ℕ) (t : List ℕ) where
       let long : length s ≡ n = slice-long t (at + 3) n (omega arith) in
       let m = r .master in
       let lie : Lies t (at + 3) (pad 8 s) =
-          lies-padded (at + 3) 8 s (slice-lies (at + 3) n (omega arith)) (omega arith) (omega arith) (rw long (r .list .zeros)) in
-      (
+      lies-padded (at + 3) 8 s (slice-lies (at + 3) n (omega arith)) (omega arith) (omega arith) (rw long (r .list .zeros)) in (
         record {
           dimensions-low = r .low;
           dimensions-high = r .high;
@@ -185,7 +184,7 @@ module _ (books : ℕ) (t : List ℕ) where
           master = m .most;
           count = long;
           set-up = same-limit books s (slice-below (at + 3) n (books + 1) (omega arith) (r .list .set-up));
-          carried = same-limit 255 s (slice-below (at + 3) n 256 (omega arith) (r .list .carried))
+          carried = same-limit 255 s (slice-below (at + 3) n 256 (omega arith) (r .list .carried));
         },
         lies-cons at refl (lies-cons (at + 1) refl (lies-at (omega arith) (lies-cons (at + 2) refl (lies-at (omega arith) lie)))),
       )
@@ -199,11 +198,11 @@ module _ (books : ℕ) (t : List ℕ) where
         few = rw (l .subclasses) (v .subclasses);
         master = rw (l .subclasses, l .master) (record { none = v .no-master; some = v .some-master; most = v .master });
         list = rw (l .subclasses)
-        (record {
-          set-up = padded-below (at + 3) 8 (2 ^ c .subclasses) (books + 1) (c .books) (v .count) few (l .books) (other-limit books (c .books) refl (v .set-up));
-          carried = padded-below (at + 3) 8 (2 ^ c .subclasses) 256 (c .books) (v .count) few (l .books) (other-limit 255 (c .books) refl (v .carried));
-          zeros = padded-zeros (at + 3) 8 (2 ^ c .subclasses) (c .books) (v .count) (l .books)
-        })
+            (record {
+              set-up = padded-below (at + 3) 8 (2 ^ c .subclasses) (books + 1) (c .books) (v .count) few (l .books) (other-limit books (c .books) refl (v .set-up));
+              carried = padded-below (at + 3) 8 (2 ^ c .subclasses) 256 (c .books) (v .count) few (l .books) (other-limit 255 (c .books) refl (v .carried));
+              zeros = padded-zeros (at + 3) 8 (2 ^ c .subclasses) (c .books) (v .count) (l .books);
+            });
       }
 
   -- ---- classes
@@ -228,7 +227,7 @@ module _ (books : ℕ) (t : List ℕ) where
       record {
         long = ap suc (later .long);
         valid = (here .0, later .valid);
-        lie = lies-both (classRow (classAt t at)) (rows classRow (classesAt t (at + 11) n)) (here .1) (rw (class-long (classAt t at)) (later .lie))
+        lie = lies-both (classRow (classAt t at)) (rows classRow (classesAt t (at + 11) n)) (here .1) (rw (class-long (classAt t at)) (later .lie));
       }
 
   valid-at : (cs : List Class) → ValidClasses books cs → (c : ℕ) → c < length cs → ValidClass books (getD cs c noClass)
@@ -278,12 +277,11 @@ module _ (books : ℕ) (t : List ℕ) where
       let L : Lies t (at + 212) (pad 65 (xList b xs)) = list-lies at b xs (r .list .first) (r .list .second) X in
       let vl : 2 + length xs ≡ v = omega arith in
       let whole : slice (at + 212) (at + 212 + v) t ≡ xList b xs =
-          ap (λ (x : ℕ). slice (at + 212) (at + 212 + x) t) (sym vl) ∙ lies-slice 65 (2 + length xs) (xList b xs) L (omega arith) (omega arith) in
+      ap (λ (x : ℕ). slice (at + 212) (at + 212 + x) t) (sym vl) ∙ lies-slice 65 (2 + length xs) (xList b xs) L (omega arith) (omega arith) in
       let counted : m ≡ classCount ps =
-          r .classes .count ∙ ap (λ (x : List ℕ). classesTo x n) Pw ∙ ap (classesTo (pad 31 ps)) (sym pl) ∙ classes-counted 31 ps (omega arith) in
+      r .classes .count ∙ ap (λ (x : List ℕ). classesTo x n) Pw ∙ ap (classesTo (pad 31 ps)) (sym pl) ∙ classes-counted 31 ps (omega arith) in
       let valued : valuesTo (slice (at + 36) (at + 212) t) (slice (at + 5) (at + 36) t) n ≡ valueCount (map (λ (x : Class). x .dimensions) cs) ps =
-          (λ j. valuesTo (Cw j) (Pw j) (sym pl j)) ∙ values-counted cs 31 ps (omega arith) named in
-      (
+      (λ j. valuesTo (Cw j) (Pw j) (sym pl j)) ∙ values-counted cs 31 ps (omega arith) named in (
         record {
           partitions = omega arith;
           classes-named = named;
@@ -295,7 +293,7 @@ module _ (books : ℕ) (t : List ℕ) where
           value-count = omega arith;
           few = omega arith;
           in-range = xr;
-          different = ap distinct (sym whole) ∙ r .list .different
+          different = ap distinct (sym whole) ∙ r .list .different;
         },
         row-lies at n m (getD t (at + 2) 0) b v ps (rows classRow cs) xs pl (held .long) vl refl refl refl refl refl P C L,
       )
@@ -308,14 +306,14 @@ module _ (books : ℕ) (t : List ℕ) where
       let fewx = v .few in
       let whole = lies-slice 65 (2 + length (f .xs)) (xList (f .rangebits) (f .xs)) (k .list) (omega arith) (omega arith) in
       let range : Below t (at + 214) (at + 212 + (2 + length (f .xs))) (2 ^ f .rangebits) =
-          rw end at (padded-below (at + 214) 63 (length (f .xs)) (2 ^ f .rangebits) (f .xs) refl (v .few) X (v .in-range)) in
+      rw end at (padded-below (at + 214) 63 (length (f .xs)) (2 ^ f .rangebits) (f .xs) refl (v .few) X (v .in-range)) in
       let zeros : Below t (at + 212 + (2 + length (f .xs))) (at + 277) 1 = rw (end, place at 214 63 277 refl) at (padded-zeros (at + 214) 63 (length (f .xs)) (f .xs) refl X) in
       record {
         first = lies-first (k .list);
         second = ap (λ (j : ℕ). getD t j 0) (omega arith) ∙ lies-first (lies-rest (k .list)) ∙ ap (λ (e : ℕ). 2 ^ e) (sym (k .rangebits));
         range = rw (k .values, k .rangebits) range;
         zeros = rw (k .values) zeros;
-        different = rw (k .values) (ap distinct whole ∙ v .different)
+        different = rw (k .values) (ap distinct whole ∙ v .different);
       }
 
   pub floor-tested : (at : ℕ) (f : Floor) → ValidFloor books f → Lies t at (floorRow f) → FloorRules books t at
@@ -329,9 +327,9 @@ module _ (books : ℕ) (t : List ℕ) where
       let Cw : slice (at + 36) (at + 212) t ≡ pad 176 (rows classRow cs) = lies-whole (at + 36) 176 (rows classRow cs) (at + 212) (omega arith) (k .classes) in
       let cl : length (rows classRow cs) ≡ 11 * length cs = rows-length classRow 11 class-long cs in
       let counted : length cs ≡ classesTo (slice (at + 5) (at + 36) t) (getD t at 0) =
-          v .class-count ∙ sym (classes-counted 31 ps (v .partitions)) ∙ (λ j. classesTo (sym Pw j) (sym (k .count) j)) in
+      v .class-count ∙ sym (classes-counted 31 ps (v .partitions)) ∙ (λ j. classesTo (sym Pw j) (sym (k .count) j)) in
       let valued : valuesTo (slice (at + 36) (at + 212) t) (slice (at + 5) (at + 36) t) (getD t at 0) ≡ valueCount (map (λ (x : Class). x .dimensions) cs) ps =
-          (λ j. valuesTo (Cw j) (Pw j) (k .count j)) ∙ values-counted cs 31 ps (v .partitions) (v .classes-named) in
+      (λ j. valuesTo (Cw j) (Pw j) (k .count j)) ∙ values-counted cs 31 ps (v .partitions) (v .classes-named) in
       let vc = v .value-count in
       let kv = k .values in
       let fewx = v .few in
@@ -339,22 +337,22 @@ module _ (books : ℕ) (t : List ℕ) where
         partitions = record {
           few = rw (k .count) (v .partitions);
           named = rw (k .count) (padded-below (at + 5) 31 (length ps) 16 ps refl (v .partitions) (k .partitions) (v .classes-named));
-          zeros = rw (k .count, ← place at 5 31 36 refl) (padded-zeros (at + 5) 31 (length ps) ps refl (k .partitions))
+          zeros = rw (k .count, ← place at 5 31 36 refl) (padded-zeros (at + 5) 31 (length ps) ps refl (k .partitions));
         };
         classes = record {
           count = k .named ∙ counted;
           few = rw (k .named) few;
           classes = rw (k .named) (classes-tested (at + 36) cs few (v .classes) (k .classes));
-          zeros = rw (k .named, ← place at 36 176 212 refl) (padded-zeros (at + 36) 176 (11 * length cs) (rows classRow cs) cl (k .classes))
+          zeros = rw (k .named, ← place at 36 176 212 refl) (padded-zeros (at + 36) 176 (11 * length cs) (rows classRow cs) cl (k .classes));
         };
         head = record {
           low = rw (k .multiplier) (v .multiplier-low);
           high = rw (k .multiplier) (v .multiplier-high);
           rangebits = rw (k .rangebits) (v .rangebits);
           values = omega arith;
-          few = omega arith
+          few = omega arith;
         };
-        list = list-tested at f v k
+        list = list-tested at f v k;
       }
 
   -- ---- a table of floors
@@ -377,7 +375,7 @@ module _ (books : ℕ) (t : List ℕ) where
       record {
         long = ap suc (later .long);
         valid = (here .0, later .valid);
-        lie = lies-both (floorRow (floorAt t at)) (rows floorRow (floorsAt (at + 277) n)) (here .1) (rw (floor-long (floorAt t at)) (later .lie))
+        lie = lies-both (floorRow (floorAt t at)) (rows floorRow (floorsAt (at + 277) n)) (here .1) (rw (floor-long (floorAt t at)) (later .lie));
       }
 
   pub floors-stand : (count : ℕ) → count ≤ 64 → 17728 ≤ length t → FloorsRules books t count → Below t (277 * count) (length t) 1 → FloorsStand books count t
@@ -392,7 +390,7 @@ module _ (books : ℕ) (t : List ℕ) where
         content = fs;
         counted = held .long;
         valid = held .valid;
-        written = sym (take-length t) ∙ lies-whole 0 (length t) (rows floorRow fs) (length t) (omega arith) lie
+        written = sym (take-length t) ∙ lies-whole 0 (length t) (rows floorRow fs) (length t) (omega arith) lie;
       }
 
   valid-floor : (fs : List Floor) → ValidFloors books fs → (f : ℕ) → f < length fs → ValidFloor books (getD fs f noFloor)
@@ -407,7 +405,7 @@ module _ (books : ℕ) (t : List ℕ) where
       let r = st .room in
       record {
         each = λ f h.
-        floor-tested (277 * f) (getD (st .content) f noFloor) (valid-floor (st .content) (st .valid) f (omega arith)) (floors-row (st .content) t (st .written) (omega arith) f (omega arith))
+            floor-tested (277 * f) (getD (st .content) f noFloor) (valid-floor (st .content) (st .valid) f (omega arith)) (floors-row (st .content) t (st .written) (omega arith) f (omega arith));
       }
 
   pub floors-trailing : (count : ℕ) → FloorsStand books count t → Below t (277 * count) (length t) 1

@@ -1,7 +1,7 @@
 // Whether a table of floors that anyone hands in is the writing-out of floors that meet every rule.
-use reading::buffers;
 use super::floor;
 use super::numbers;
+use reading::buffers;
 ghost use mathlib.Core.Path.{_≡_};
 ghost use mathlib.Core.Bool.{true};
 ghost use mathlib.Core.Logic.{_↔_};
@@ -83,7 +83,12 @@ fn is_class(floors: &[u16], at: usize, books: usize) -> bool
     if !is_master(books, numbers::wide(subclasses), number(floors, at + 2)) {
         return false;
     }
-    are_books(floors, at + 3, books, numbers::wide(numbers::power(subclasses as u32)))
+    are_books(
+        floors,
+        at + 3,
+        books,
+        numbers::wide(numbers::power(subclasses as u32)),
+    )
 }
 
 // Whether the rows of `count` classes lie from place `at` on.
@@ -153,7 +158,11 @@ fn is_head(floors: &[u16], at: usize) -> bool
     if 65 < values {
         return false;
     }
-    let read = floor::value_count(&floors[at + 5..at + 36], number(floors, at), &floors[at + 36..at + 212]);
+    let read = floor::value_count(
+        &floors[at + 5..at + 36],
+        number(floors, at),
+        &floors[at + 36..at + 212],
+    );
     if values < 2 {
         return false;
     }

@@ -1,12 +1,10 @@
+-- `floors::stand::are_below` meets its contract. Assumes nothing.
 use Prim.Native.Nat.{_≤_, _-_}
 use Rattle.floors.specs.Rules.{Below}
 use Rattle.floors.proofs.TestLaws.{below-laws}
 use borrow.Author.Needs.{needs}
 use Rattle.floors.proofs.stand.are_below.Statement.{statement}
 use Rattle.floors.proofs.stand.are_below.Tie as tie
-use Rattle.floors.proofs.stand.are_below.Reads as reads
-use Rattle.floors.proofs.stand.are_below.Lts as lts
-use Rattle.floors.proofs.stand.number.Reads as number-reads
 
 abbrev Inv-loop : tie.InvT-loop
 Inv-loop floors from to limit i₀ i = (from ≤ i) × Below floors from i limit
@@ -14,31 +12,24 @@ Inv-loop floors from to limit i₀ i = (from ≤ i) × Below floors from i limit
 abbrev μ-loop : tie.MeasureT-loop
 μ-loop floors from to limit i₀ i = to - i
 
--- src/stand.rt:25:5
 loop-holds : tie.Need-loop-holds Inv-loop μ-loop
 loop-holds c = search below-laws
 
--- src/stand.rt:26:21
 number-requires : tie.Need-number-requires Inv-loop μ-loop
 number-requires c κs = search needs
 
--- src/stand.rt:27:13
 returns : tie.Need-returns Inv-loop μ-loop
 returns c = search below-laws
 
--- src/stand.rt:29:13
 add-i : tie.Need-add-i Inv-loop μ-loop
 add-i c = search needs
 
--- src/stand.rt:25:5
 loop-less : tie.Need-loop-less Inv-loop μ-loop
 loop-less c = search needs
 
--- src/stand.rt:25:5
 loop-again : tie.Need-loop-again Inv-loop μ-loop
 loop-again c = search below-laws
 
--- src/stand.rt:21:1
 returns-2 : tie.Need-returns-2 Inv-loop μ-loop
 returns-2 c = search below-laws
 

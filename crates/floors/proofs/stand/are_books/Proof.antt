@@ -1,52 +1,39 @@
+-- `floors::stand::are_books` meets its contract. Assumes nothing.
 use Rattle.floors.proofs.TestLaws.{books-laws}
 use borrow.Author.Needs.{needs}
 use Rattle.floors.proofs.stand.are_books.Statement.{statement}
 use Rattle.floors.proofs.stand.are_books.Tie as tie
-use Rattle.floors.proofs.stand.are_books.Reads as reads
-use Rattle.floors.proofs.stand.are_books.Lts as lts
-use Rattle.floors.proofs.stand.are_below.Reads as are-below-reads
 
--- src/stand.rt:58:31
 add-are-below : tie.Need-add-are-below
 add-are-below c = search needs
 
--- src/stand.rt:58:43
 add-are-below-2 : tie.Need-add-are-below-2
 add-are-below-2 c = search needs
 
--- src/stand.rt:58:9
 are-below-requires : tie.Need-are-below-requires
 are-below-requires c κs = search needs
 
--- src/stand.rt:59:9
 returns : tie.Need-returns
 returns c = search books-laws
 
--- src/stand.rt:61:31
 add-are-below-3 : tie.Need-add-are-below-3
 add-are-below-3 c = search needs
 
--- src/stand.rt:61:9
 are-below-requires-2 : tie.Need-are-below-requires-2
 are-below-requires-2 c κs = search needs
 
--- src/stand.rt:62:9
 returns-2 : tie.Need-returns-2
 returns-2 c = search books-laws
 
--- src/stand.rt:64:23
 add-are-below-4 : tie.Need-add-are-below-4
 add-are-below-4 c = search needs
 
--- src/stand.rt:64:35
 add-are-below-5 : tie.Need-add-are-below-5
 add-are-below-5 c = search needs
 
--- src/stand.rt:64:5
 are-below-requires-3 : tie.Need-are-below-requires-3
 are-below-requires-3 c κs = search needs
 
--- src/stand.rt:54:1
 returns-3 : tie.Need-returns-3
 returns-3 c = search books-laws
 

@@ -1,3 +1,4 @@
+-- `floors::stand::are_classes` meets its contract. Assumes nothing.
 use Prim.Native.Nat.{_≤_, _-_}
 use mathlib.Core.Path.{refl}
 use native.Mathlib.Omega.{arith}
@@ -6,9 +7,6 @@ use Rattle.floors.proofs.TestLaws.{classes-start, classes-not, classes-
 use borrow.Author.Needs.{needs}
 use Rattle.floors.proofs.stand.are_classes.Statement.{statement}
 use Rattle.floors.proofs.stand.are_classes.Tie as tie
-use Rattle.floors.proofs.stand.are_classes.Reads as reads
-use Rattle.floors.proofs.stand.are_classes.Lts as lts
-use Rattle.floors.proofs.stand.is_class.Reads as is-class-reads
 
 abbrev Inv-loop : tie.InvT-loop
 Inv-loop floors at count books c₀ c = (at ≤ 20000) × (count ≤ 16) × (books ≤ 256) × (c ≤ count) × ClassesRules books floors at c
@@ -16,39 +14,30 @@ Inv-loop floors at count books c₀ c = (at ≤ 20000) × (count ≤ 16) × (boo
 abbrev μ-loop : tie.MeasureT-loop
 μ-loop floors at count books c₀ c = count - c
 
--- src/stand.rt:95:5
 loop-holds : tie.Need-loop-holds Inv-loop μ-loop
 loop-holds c = (search needs, search needs, search needs, search needs, classes-start _ _ _)
 
--- src/stand.rt:96:35
 mul-is-class : tie.Need-mul-is-class Inv-loop μ-loop
 mul-is-class c = search needs
 
--- src/stand.rt:96:30
 add-is-class : tie.Need-add-is-class Inv-loop μ-loop
 add-is-class c = search needs
 
--- src/stand.rt:96:13
 is-class-requires : tie.Need-is-class-requires Inv-loop μ-loop
 is-class-requires c κs = search needs
 
--- src/stand.rt:97:13
 returns : tie.Need-returns Inv-loop μ-loop
 returns c = classes-not _ _ _ (c .before .before .before .loop .c) refl (c .before .is-class .ensures) _ (omega arith) (c .if1 .taken)
 
--- src/stand.rt:99:13
 add-c : tie.Need-add-c Inv-loop μ-loop
 add-c c = search needs
 
--- src/stand.rt:95:5
 loop-less : tie.Need-loop-less Inv-loop μ-loop
 loop-less c = search needs
 
--- src/stand.rt:95:5
 loop-again : tie.Need-loop-again Inv-loop μ-loop
 loop-again c = (search needs, search needs, search needs, omega arith, classes-more _ _ _ (c .before .before .before .loop .c) refl (c .before .is-class .ensures) (c .if1 .left) (c .before .before .before .loop .inv .4))
 
--- src/stand.rt:90:1
 returns-2 : tie.Need-returns-2 Inv-loop μ-loop
 returns-2 c = classes-all _ _ _ (c .before .loop .c) _ (omega arith) (c .before .loop .inv .4)
 

@@ -1,97 +1,70 @@
+-- `floors::stand::are_named` meets its contract. Assumes nothing.
 use native.Mathlib.Omega.{arith}
-use Rattle.floors.proofs.TestLaws.{named-other, named-not, named-end}
-use Rattle.floors.proofs.TestLaws.{named-laws}
+use Rattle.floors.proofs.TestLaws.{named-other, named-not, named-end, named-laws}
 use borrow.Author.Needs.{needs}
 use Rattle.floors.proofs.stand.are_named.Statement.{statement}
 use Rattle.floors.proofs.stand.are_named.Tie as tie
-use Rattle.floors.proofs.stand.are_named.Reads as reads
-use Rattle.floors.proofs.stand.are_named.Lts as lts
-use Rattle.floors.proofs.floor.class_count.Reads as class-count-reads
-use Rattle.floors.proofs.stand.are_below.Reads as are-below-reads
-use Rattle.floors.proofs.stand.are_classes.Reads as are-classes-reads
-use Rattle.floors.proofs.stand.number.Reads as number-reads
 
--- src/stand.rt:124:32
 add-number : tie.Need-add-number
 add-number c = search needs
 
--- src/stand.rt:124:9
 number-requires : tie.Need-number-requires
 number-requires c κs = search needs
 
--- src/stand.rt:126:9
 returns : tie.Need-returns
 returns c = search named-laws
 
--- src/stand.rt:128:44
 add-class-count : tie.Need-add-class-count
 add-class-count c = search needs
 
--- src/stand.rt:128:52
 add-class-count-2 : tie.Need-add-class-count-2
 add-class-count-2 c = search needs
 
--- src/stand.rt:128:36
 mul-class-count : tie.Need-mul-class-count
 mul-class-count c = search needs
 
--- src/stand.rt:128:36
 sub-class-count : tie.Need-sub-class-count
 sub-class-count c = search needs
 
--- src/stand.rt:128:36
 part-class-count-start : tie.Need-part-class-count-start
 part-class-count-start c = search needs
 
--- src/stand.rt:128:36
 part-class-count-end : tie.Need-part-class-count-end
 part-class-count-end c = search needs
 
--- src/stand.rt:128:62
 number-requires-2 : tie.Need-number-requires-2
 number-requires-2 c κs = search needs
 
--- src/stand.rt:128:17
 class-count-requires : tie.Need-class-count-requires
 class-count-requires c κs = search needs
 
--- src/stand.rt:129:9
 returns-2 : tie.Need-returns-2
 returns-2 c = named-other _ (c .before .before .before .before .before .before .before .args .floors .now) (c .before .before .before .before .before .before .before .args .at) (c .before .before .before .before .before .number .ensures .0) (omega arith) (c .before .before .number2 .ensures .0) (c .before .class-count .ensures) (c .if2 .taken)
 
--- src/stand.rt:131:29
 add-are-classes : tie.Need-add-are-classes
 add-are-classes c = search needs
 
--- src/stand.rt:131:9
 are-classes-requires : tie.Need-are-classes-requires
 are-classes-requires c κs = search needs
 
--- src/stand.rt:132:9
 returns-3 : tie.Need-returns-3
 returns-3 c = named-not _ (c .before .before .before .before .before .before .before .before .before .args .floors .now) (c .before .before .before .before .before .before .before .before .before .args .at) (c .before .before .before .before .before .before .before .number .ensures .0) (omega arith) (c .before .before .before .before .number2 .ensures .0) (c .before .before .before .class-count .ensures) (c .before .before .if2 .left) (c .before .are-classes .ensures) (c .if3 .taken)
 
--- src/stand.rt:134:23
 add-are-below : tie.Need-add-are-below
 add-are-below c = search needs
 
--- src/stand.rt:134:33
 mul-are-below : tie.Need-mul-are-below
 mul-are-below c = search needs
 
--- src/stand.rt:134:23
 add-are-below-2 : tie.Need-add-are-below-2
 add-are-below-2 c = search needs
 
--- src/stand.rt:134:45
 add-are-below-3 : tie.Need-add-are-below-3
 add-are-below-3 c = search needs
 
--- src/stand.rt:134:5
 are-below-requires : tie.Need-are-below-requires
 are-below-requires c κs = search needs
 
--- src/stand.rt:120:1
 returns-4 : tie.Need-returns-4
 returns-4 c = named-end _ (c .before .before .before .before .before .before .before .before .before .before .args .floors .now) (c .before .before .before .before .before .before .before .before .before .before .args .at) (c .before .before .before .before .before .before .before .before .number .ensures .0) (omega arith) (c .before .before .before .before .before .number2 .ensures .0) (c .before .before .before .before .class-count .ensures) (c .before .before .before .if2 .left) (c .before .before .are-classes .ensures) (c .before .if3 .left) (c .are-below .ensures)
 

@@ -1,57 +1,42 @@
+-- `floors::stand::are_partitions` meets its contract. Assumes nothing.
 use Rattle.floors.proofs.TestLaws.{partition-laws}
 use borrow.Author.Needs.{needs}
 use Rattle.floors.proofs.stand.are_partitions.Statement.{statement}
 use Rattle.floors.proofs.stand.are_partitions.Tie as tie
-use Rattle.floors.proofs.stand.are_partitions.Reads as reads
-use Rattle.floors.proofs.stand.are_partitions.Lts as lts
-use Rattle.floors.proofs.stand.are_below.Reads as are-below-reads
-use Rattle.floors.proofs.stand.number.Reads as number-reads
 
--- src/stand.rt:109:9
 number-requires : tie.Need-number-requires
 number-requires c κs = search needs
 
--- src/stand.rt:111:9
 returns : tie.Need-returns
 returns c = search partition-laws
 
--- src/stand.rt:113:27
 add-are-below : tie.Need-add-are-below
 add-are-below c = search needs
 
--- src/stand.rt:113:35
 add-are-below-2 : tie.Need-add-are-below-2
 add-are-below-2 c = search needs
 
--- src/stand.rt:113:35
 add-are-below-3 : tie.Need-add-are-below-3
 add-are-below-3 c = search needs
 
--- src/stand.rt:113:9
 are-below-requires : tie.Need-are-below-requires
 are-below-requires c κs = search needs
 
--- src/stand.rt:114:9
 returns-2 : tie.Need-returns-2
 returns-2 c = search partition-laws
 
--- src/stand.rt:116:23
 add-are-below-4 : tie.Need-add-are-below-4
 add-are-below-4 c = search needs
 
--- src/stand.rt:116:23
 add-are-below-5 : tie.Need-add-are-below-5
 add-are-below-5 c = search needs
 
--- src/stand.rt:116:39
 add-are-below-6 : tie.Need-add-are-below-6
 add-are-below-6 c = search needs
 
--- src/stand.rt:116:5
 are-below-requires-2 : tie.Need-are-below-requires-2
 are-below-requires-2 c κs = search needs
 
--- src/stand.rt:105:1
 returns-3 : tie.Need-returns-3
 returns-3 c = search partition-laws
 

@@ -1,3 +1,4 @@
+-- `floors::stand::are_rows` meets its contract. Assumes nothing.
 use Prim.Native.Nat.{_≤_, _-_}
 use lib.ListN.{length}
 use native.Mathlib.Omega.{arith}
@@ -6,9 +7,6 @@ use Rattle.floors.proofs.TestLaws.{floors-start, floors-not, floors-mor
 use borrow.Author.Needs.{needs}
 use Rattle.floors.proofs.stand.are_rows.Statement.{statement}
 use Rattle.floors.proofs.stand.are_rows.Tie as tie
-use Rattle.floors.proofs.stand.are_rows.Reads as reads
-use Rattle.floors.proofs.stand.are_rows.Lts as lts
-use Rattle.floors.proofs.stand.is_floor.Reads as is-floor-reads
 
 abbrev Inv-loop : tie.InvT-loop
 Inv-loop floors count books f₀ f = (count ≤ 64) × (books ≤ 256) × (17728 ≤ length floors) × (f ≤ count) × FloorsRules books floors f
@@ -16,35 +14,27 @@ Inv-loop floors count books f₀ f = (count ≤ 64) × (books ≤ 256) × (17728
 abbrev μ-loop : tie.MeasureT-loop
 μ-loop floors count books f₀ f = count - f
 
--- src/stand.rt:211:5
 loop-holds : tie.Need-loop-holds Inv-loop μ-loop
 loop-holds c = (search needs, search needs, search needs, search needs, floors-start _ _)
 
--- src/stand.rt:212:30
 mul-is-floor : tie.Need-mul-is-floor Inv-loop μ-loop
 mul-is-floor c = search needs
 
--- src/stand.rt:212:13
 is-floor-requires : tie.Need-is-floor-requires Inv-loop μ-loop
 is-floor-requires c κs = search needs
 
--- src/stand.rt:213:13
 returns : tie.Need-returns Inv-loop μ-loop
 returns c = floors-not _ _ (c .before .before .before .loop .f) (c .before .is-floor .ensures) _ (omega arith) (c .if1 .taken)
 
--- src/stand.rt:215:13
 add-f : tie.Need-add-f Inv-loop μ-loop
 add-f c = search needs
 
--- src/stand.rt:211:5
 loop-less : tie.Need-loop-less Inv-loop μ-loop
 loop-less c = search needs
 
--- src/stand.rt:211:5
 loop-again : tie.Need-loop-again Inv-loop μ-loop
 loop-again c = (search needs, search needs, search needs, omega arith, floors-more _ _ (c .before .before .before .loop .f) (c .before .is-floor .ensures) (c .if1 .left) (c .before .before .before .loop .inv .4))
 
--- src/stand.rt:206:1
 returns-2 : tie.Need-returns-2 Inv-loop μ-loop
 returns-2 c = floors-all _ _ (c .before .loop .f) _ (omega arith) (c .before .loop .inv .4)
 
