@@ -78,7 +78,7 @@ ends-fit place n s k {x} e =
       long = many-length (field (b .0 .0)) n s (b .0 .1) (v .0 .0) (f .1);
       few = f .0;
       in-range = many-all (λ x. ltb x (2 ^ b .0 .0)) (field (b .0 .0)) s (field-below (b .0 .0) s) n (b .0 .1) (f .1);
-      different = d .0
+      different = d .0;
     })
 
 -- a class
@@ -105,7 +105,7 @@ class-valid books s k {x} e =
       master = mf .most;
       count = many-length (subclassBook books) (2 ^ u .0 .0) s (m .0 .1) (l .0 .0) (l .1);
       set-up = many-all (λ b. leb b books) (subclassBook books) s (λ j y g. judged-ok (λ b. leb b books) 11 (field 8) s j g .1) (2 ^ u .0 .0) (m .0 .1) (l .1);
-      carried = many-all (λ b. leb b 255) (subclassBook books) s (λ j y g. below-256 j (judged-ok (λ b. leb b books) 11 (field 8) s j g .0)) (2 ^ u .0 .0) (m .0 .1) (l .1)
+      carried = many-all (λ b. leb b 255) (subclassBook books) s (λ j y g. below-256 j (judged-ok (λ b. leb b books) 11 (field 8) s j g .0)) (2 ^ u .0 .0) (m .0 .1) (l .1);
     })
   where
     below-256 : (j : ℕ) {y : ℕ × ℕ} → field 8 s j ≡ ok y → leb (y .0) 255 ≡ true

@@ -49,7 +49,7 @@ module _ {A : Type 0} (row : A → List ℕ) (o : Outcome (List A × ℕ)) (n : 
         items = m .0;
         read = m .1;
         long = long (m .0) (position c) (m .1);
-        holds = sym cells ∙ ap (λ (x : List ℕ). sets x at (rows row (m .0))) e ∙ sets-pad room (rows row (m .0)) before at a
+        holds = sym cells ∙ ap (λ (x : List ℕ). sets x at (rows row (m .0))) e ∙ sets-pad room (rows row (m .0)) before at a;
       }
 
 pub many-length : {A : Type 0} (r : Reader A) (n : ℕ) (s : List ℕ) (k : ℕ) (items : List A) {j : ℕ} → many r n s k ≡ ok (items, j) → length items ≡ n

@@ -44,7 +44,7 @@ class-lies {t} {at} c l =
       dimensions = lies-first l;
       subclasses = lies-first l₁;
       master = lies-first l₂;
-      books = lies-at (omega arith) (lies-rest l₂)
+      books = lies-at (omega arith) (lies-rest l₂);
     }
 
 pub class-decoded : {t : List ℕ} {at : ℕ} (c : Class) → length (c .books) ≡ 2 ^ c .subclasses → c .subclasses ≤ 3 → ClassLies t at c → classAt t at ≡ c
@@ -52,7 +52,7 @@ unfolding classAt
 class-decoded {t} {at} c n h l =
     let few : 2 ^ c .subclasses ≤ 8 = pow-mono h in
     let b : slice (at + 3) (at + 3 + 2 ^ getD t (at + 1) 0) t ≡ c .books =
-        ap (λ (e : ℕ). slice (at + 3) (at + 3 + 2 ^ e) t) (l .subclasses) ∙ lies-slice 8 (2 ^ c .subclasses) (c .books) (l .books) n few in
+    ap (λ (e : ℕ). slice (at + 3) (at + 3 + 2 ^ e) t) (l .subclasses) ∙ lies-slice 8 (2 ^ c .subclasses) (c .books) (l .books) n few in
     λ j. record { dimensions = l .dimensions j; subclasses = l .subclasses j; master = l .master j; books = b j }
 
 -- the class in front of the others
@@ -61,7 +61,7 @@ unfolding rows
 classes-lie {t} {at} m c cs l =
     let e : 11 * suc m ≡ length (classRow c) + 11 * m = mul-suc 11 m ∙ add-comm (11 * m) 11 ∙ ap (λ (x : ℕ). x + 11 * m) (sym (class-long c)) in
     let p : pad (11 * suc m) (classRow c ++ rows classRow cs) ≡ classRow c ++ pad (11 * m) (rows classRow cs) =
-        ap (λ (x : ℕ). pad x (classRow c ++ rows classRow cs)) e ∙ pad-before (classRow c) (rows classRow cs) (11 * m) in
+    ap (λ (x : ℕ). pad x (classRow c ++ rows classRow cs)) e ∙ pad-before (classRow c) (rows classRow cs) (11 * m) in
     let k : Lies t at (classRow c ++ pad (11 * m) (rows classRow cs)) = rw p at l in
     (lies-left (classRow c) (pad (11 * m) (rows classRow cs)) k, rw (class-long c) at (lies-right (classRow c) (pad (11 * m) (rows classRow cs)) k))
 
@@ -108,7 +108,7 @@ floor-lies {t} {at} f l =
       values = lies-first l₄;
       partitions = lies-left P (C ++ X) l₅;
       classes = lies-left C X l₆;
-      list = lies-at (omega arith) (lies-right C X l₆)
+      list = lies-at (omega arith) (lies-right C X l₆);
     }
 
 -- the X values behind the two implied ones
@@ -124,13 +124,13 @@ floor-decoded-at {t} at books f v l =
     let most = class-count-most (f .partitions) (v .classes-named) in
     let few : length (f .classes) ≤ 16 = rw (v .class-count) most in
     let ps : slice (at + 5) (at + 5 + getD t at 0) t ≡ f .partitions =
-        ap (λ (n : ℕ). slice (at + 5) (at + 5 + n) t) (k .count) ∙ lies-slice 31 (length (f .partitions)) (f .partitions) (k .partitions) refl (v .partitions) in
+    ap (λ (n : ℕ). slice (at + 5) (at + 5 + n) t) (k .count) ∙ lies-slice 31 (length (f .partitions)) (f .partitions) (k .partitions) refl (v .partitions) in
     let cs : classesAt t (at + 36) (getD t (at + 1) 0) ≡ f .classes =
-        ap (classesAt t (at + 36)) (k .named) ∙ classes-decoded (at + 36) books 16 (f .classes) few (v .classes) (k .classes) in
+    ap (classesAt t (at + 36)) (k .named) ∙ classes-decoded (at + 36) books 16 (f .classes) few (v .classes) (k .classes) in
     let end : at + 212 + (2 + length (f .xs)) ≡ at + 214 + length (f .xs) = omega arith in
     let xs : slice (at + 214) (at + 212 + getD t (at + 4) 0) t ≡ f .xs =
-        ap (λ (n : ℕ). slice (at + 214) (at + 212 + n) t) (k .values) ∙ ap (λ (n : ℕ). slice (at + 214) n t) end
-        ∙ lies-slice 63 (length (f .xs)) (f .xs) (xs-lie at (f .rangebits) (f .xs) (k .list)) refl (v .few) in
+    ap (λ (n : ℕ). slice (at + 214) (at + 212 + n) t) (k .values) ∙ ap (λ (n : ℕ). slice (at + 214) n t) end
+    ∙ lies-slice 63 (length (f .xs)) (f .xs) (xs-lie at (f .rangebits) (f .xs) (k .list)) refl (v .few) in
     λ j. record { partitions = ps j; classes = cs j; multiplier = k .multiplier j; rangebits = k .rangebits j; xs = xs j }
 
 -- ONE ROW, ONE FLOOR

@@ -52,7 +52,7 @@ floor1-valid books place s k {x} e =
       value-count = fits .long;
       few = rw (fits .long) (fits .few);
       in-range = fits .in-range;
-      different = fits .different
+      different = fits .different;
     })
 
 pub floor-valid : (books : ℕ) (s : List ℕ) (k : ℕ) {x : Floor × ℕ} → floor books s k ≡ ok x → ValidFloor books (x .0)
@@ -89,14 +89,14 @@ floors-row fs t e h f k =
     record {
       room = omega arith;
       same = λ i m.
-      ap (λ (x : List ℕ). getD x (277 * f + i) 0) e ∙ pad-get (length t) (rows floorRow fs) (277 * f + i) (omega arith) ∙ rows-place fs f i k (omega arith)
+          ap (λ (x : List ℕ). getD x (277 * f + i) 0) e ∙ pad-get (length t) (rows floorRow fs) (277 * f + i) (omega arith) ∙ rows-place fs f i k (omega arith);
     }
 
 pub floors-lie : (fs : List Floor) (t : List ℕ) → t ≡ pad (length t) (rows floorRow fs) → 277 * length fs ≤ length t → (f : ℕ) → f < length fs → FloorLies t (277 * f) (getD fs f noFloor)
 floors-lie fs t e h f k = floor-lies (getD fs f noFloor) (floors-row fs t e h f k)
 
 -- row c of the rows of classes
-class-row : {t : List ℕ} (at m : ℕ) (cs : List Class) (c : ℕ) → c < length cs → length cs ≤ m → Lies t at (pad (11 * m) (rows classRow cs)) → Lies t (at + 11 * c) (classRow (getD cs c noClass))
+pub class-row : {t : List ℕ} (at m : ℕ) (cs : List Class) (c : ℕ) → c < length cs → length cs ≤ m → Lies t at (pad (11 * m) (rows classRow cs)) → Lies t (at + 11 * c) (classRow (getD cs c noClass))
 class-row at m [] c h k l = absurd (omega arith)
 class-row at zero (x ∷ cs) c h k l = absurd (omega arith)
 class-row at (suc m) (x ∷ cs) zero h k l = lies-at (omega arith) (classes-lie m x cs l .0)

@@ -9,3 +9,5 @@ pub mod RowLaws
 pub mod Lies
 pub mod Decoded
 pub mod Laws
+pub mod TestLaws
+pub mod Tested

@@ -31,7 +31,7 @@ module _ {t : List ℕ} {at : ℕ} where
       let r = l .room in
       record {
         room = omega arith;
-        same = λ i h. ap (λ (j : ℕ). getD t j 0) (add-assoc at (length a) i) ∙ l .same (length a + i) (omega arith) ∙ getD-append-add a b i 0
+        same = λ i h. ap (λ (j : ℕ). getD t j 0) (add-assoc at (length a) i) ∙ l .same (length a + i) (omega arith) ∙ getD-append-add a b i 0;
       }
 
   pub lies-both : (a b : List ℕ) → Lies t at a → Lies t (at + length a) b → Lies t at (a ++ b)

@@ -28,7 +28,7 @@ module _ {A : Type 0} {row : A → List ℕ} {r : Reader A} {s : List ℕ} {n si
       record {
         within = omega arith;
         long = refl;
-        rest = loop-start (putRow row) r s n _ from (table entry (at + size * 0)) (ap (λ (p : ℕ). into (putRow row) (many r n s (position from)) (table entry p)) e)
+        rest = loop-start (putRow row) r s n _ from (table entry (at + size * 0)) (ap (λ (p : ℕ). into (putRow row) (many r n s (position from)) (table entry p)) e);
       }
 
   module _ {now : List ℕ} {c : Cursor} {i : ℕ} (f : Filling row r s n size entry at from now c i) where
@@ -38,7 +38,7 @@ module _ {A : Type 0} {row : A → List ℕ} {r : Reader A} {s : List ℕ} {n si
           record {
             within = omega arith;
             long = l ∙ f .long;
-            rest = rw (← g) (loop-next (putRow row) r s n _ i c (table now p) (rw e at (f .rest)) h one t)
+            rest = rw (← g) (loop-next (putRow row) r s n _ i c (table now p) (rw e at (f .rest)) h one t);
           }
 
       pub fill-refused : {z : Refusal} → st ≡ Refused z → (u : Table) → Wrote (into (putRow row) (many r n s (position from)) (table entry at)) (Refused z) u

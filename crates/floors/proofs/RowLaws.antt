@@ -56,11 +56,11 @@ row-written count named ps cs e entry i p q {m} {b} {l} h {h₁} {h₂} {h₃} {
     let eb : e .rangebits ≡ b = ap (λ (y : Held). y .rangebits) h in
     let el : pad 65 (xList (e .rangebits) (e .xs)) ≡ l = ap (λ (y : Held). y .list) h in
     let heads : (h₁ ∷ h₂ ∷ h₃ ∷ h₄ ∷ h₅ ∷ []) ≡ (count ∷ named ∷ e .multiplier ∷ e .rangebits ∷ (2 + length (e .xs)) ∷ []) =
-        λ j. x₁ j ∷ x₂ j ∷ (x₃ ∙ sym em) j ∷ (x₄ ∙ sym eb) j ∷ (x₅ ∙ ap (λ (y : ℕ). 2 + y) (sym g)) j ∷ [] in
+    λ j. x₁ j ∷ x₂ j ∷ (x₃ ∙ sym em) j ∷ (x₄ ∙ sym eb) j ∷ (x₅ ∙ ap (λ (y : ℕ). 2 + y) (sym g)) j ∷ [] in
     let same : t ≡ sets entry i (rowOf count named ps cs e) =
-        w
-        ∙ ap (sets entry i) (append-assoc (h₁ ∷ h₂ ∷ h₃ ∷ h₄ ∷ h₅ ∷ []) ps (cs ++ l)
-        ∙ (λ j. heads j ++ (ps ++ (cs ++ sym el j)))) in
+    w
+    ∙ ap (sets entry i) (append-assoc (h₁ ∷ h₂ ∷ h₃ ∷ h₄ ∷ h₅ ∷ []) ps (cs ++ l)
+    ∙ (λ j. heads j ++ (ps ++ (cs ++ sym el j)))) in
     λ j. table (sym same j) (i + sym (row-long count named ps cs e p q) j)
 
 module _ (place : Cursor) (count named : ℕ) (ps cs : List ℕ) (s : List ℕ) (k : Cursor) (entry : List ℕ) (i : ℕ) {n : ℕ} (values : n ≡ valuesTo cs ps count) {st : Step} {m b : ℕ} {l : List ℕ}
@@ -171,7 +171,7 @@ from-parts : (books place : ℕ) (ps : List ℕ) (count : ℕ) → length ps ≡
 unfolding floorFrom
 from-parts books place ps count long few named s k j cs read {n} c {buffer} {l} b e t w =
     let v : valuesTo l buffer count ≡ valueCount (map (λ (x : Class). x .dimensions) cs) ps =
-        (λ i. valuesTo (e i) (b i) (sym long i)) ∙ values-counted cs 31 ps (omega arith) named in
+    (λ i. valuesTo (e i) (b i) (sym long i)) ∙ values-counted cs 31 ps (omega arith) named in
     rw read (wrote-as ((λ i. into1 (putRow (rowOf count n (b i) (e i))) (ends place (v i) s j) t)
     ∙ same-rows ps count long cs n c (ends place (valueCount (map (λ (x : Class). x .dimensions) cs) ps) s j) t) w)
 
@@ -239,7 +239,7 @@ module _ (books : ℕ) (place : Cursor) (s : List ℕ) (k : Cursor) (entry : Lis
               few = few;
               long = ap length taken ∙ parts .long;
               holds = plain ∙ ap (pad 31) (sym taken);
-              named = ap (all (λ c. ltb c 16)) taken ∙ many-all (λ c. ltb c 16) (field 4) s (field-below 4 s) n (position k₁) (parts .read)
+              named = ap (all (λ c. ltb c 16)) taken ∙ many-all (λ c. ltb c 16) (field 4) s (field-below 4 s) n (position k₁) (parts .read);
             }
 
         pub floor1-read : {y : Step} {u : Table} → Wrote (into1 (putRow floorRow) (floorFrom books (position place) (take n l) s (position c)) (table entry i)) y u

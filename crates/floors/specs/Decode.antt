@@ -13,7 +13,7 @@ classAt t at =
       dimensions = getD t at 0;
       subclasses = getD t (at + 1) 0;
       master = getD t (at + 2) 0;
-      books = slice (at + 3) (at + 3 + 2 ^ getD t (at + 1) 0) t
+      books = slice (at + 3) (at + 3 + 2 ^ getD t (at + 1) 0) t;
     }
 
 -- n classes from place `at` on
@@ -29,7 +29,7 @@ floorAt t at =
       classes = classesAt t (at + 36) (getD t (at + 1) 0);
       multiplier = getD t (at + 2) 0;
       rangebits = getD t (at + 3) 0;
-      xs = slice (at + 214) (at + 212 + getD t (at + 4) 0) t
+      xs = slice (at + 214) (at + 212 + getD t (at + 4) 0) t;
     }
 
 -- the floor of a row

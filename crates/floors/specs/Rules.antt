@@ -19,15 +19,19 @@ pub record MasterFits (books subclasses master : ℕ) : Type 0 where
   pub some : (subclasses ≡ 0 → ⊥) → 1 ≤ master
   pub most : master ≤ books
 
+-- `count` subclass books from place `at` on, and zeros in what is left of 8 places
+pub record BookRules (books : ℕ) (t : List ℕ) (at count : ℕ) : Type 0 where
+  pub set-up : Below t at (at + count) (books + 1)
+  pub carried : Below t at (at + count) 256
+  pub zeros : Below t (at + count) (at + 8) 1
+
 -- a class, whose row begins at place `at`
 pub record ClassRules (books : ℕ) (t : List ℕ) (at : ℕ) : Type 0 where
   pub low : 1 ≤ getD t at 0
   pub high : getD t at 0 ≤ 8
   pub few : getD t (at + 1) 0 ≤ 3
   pub master : MasterFits books (getD t (at + 1) 0) (getD t (at + 2) 0)
-  pub set-up : Below t (at + 3) (at + 3 + 2 ^ getD t (at + 1) 0) (books + 1)
-  pub carried : Below t (at + 3) (at + 3 + 2 ^ getD t (at + 1) 0) 256
-  pub zeros : Below t (at + 3 + 2 ^ getD t (at + 1) 0) (at + 11) 1
+  pub list : BookRules books t (at + 3) (2 ^ getD t (at + 1) 0)
 
 pub record ClassesRules (books : ℕ) (t : List ℕ) (at count : ℕ) : Type 0 where
   pub each : (c : ℕ) → c < count → ClassRules books t (at + 11 * c)
@@ -41,6 +45,7 @@ pub record PartitionRules (t : List ℕ) (at : ℕ) : Type 0 where
 -- its classes
 pub record NamedRules (books : ℕ) (t : List ℕ) (at : ℕ) : Type 0 where
   pub count : getD t (at + 1) 0 ≡ classesTo (slice (at + 5) (at + 36) t) (getD t at 0)
+  pub few : getD t (at + 1) 0 ≤ 16
   pub classes : ClassesRules books t (at + 36) (getD t (at + 1) 0)
   pub zeros : Below t (at + 36 + 11 * getD t (at + 1) 0) (at + 212) 1
 

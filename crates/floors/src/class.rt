@@ -1,10 +1,10 @@
 // The partition classes of a floor (004, "header decode", steps 7 to 12). `books` is how many codebooks are set up.
+use super::numbers;
 use bits::Cursor;
 use bits::Field;
 use bits::Refusal;
 use bits::Step;
 use reading::buffers;
-use super::numbers;
 ghost use mathlib.Core.Path.{_≡_};
 ghost use Prim.Native.Nat.{_+_, _*_, _^_, _<_, _≤_};
 ghost use Rattle.reading.specs.Reader.{many, into, into1};
@@ -27,7 +27,10 @@ pub fn read_master_book(packet: &[u8], from: Cursor, books: u32, subclasses: u32
         Field::Refused(z) => Field::Refused(z),
         Field::Value(v, next) => {
             if books <= v {
-                return Field::Refused(Refusal { number: 11, place: from });
+                return Field::Refused(Refusal {
+                    number: 11,
+                    place: from,
+                });
             }
             Field::Value(v + 1, next)
         }
@@ -35,14 +38,23 @@ pub fn read_master_book(packet: &[u8], from: Cursor, books: u32, subclasses: u32
 }
 
 // A subclass book, into place `at`.
-pub fn read_subclass_book(packet: &[u8], from: Cursor, books: u32, list: &mut [u16], at: usize) -> Step
+pub fn read_subclass_book(
+    packet: &[u8],
+    from: Cursor,
+    books: u32,
+    list: &mut [u16],
+    at: usize,
+) -> Step
     ensures { λ r. ⌜ Wrote (into1 (putRow cell) (subclassBook books (now (packet .entry)) (position from)) (table (now (list .entry)) at)) r (table (now (list .exit)) (at + 1)) ⌝ }
 {
     match from.field(packet, 8) {
         Field::Refused(z) => Step::Refused(z),
         Field::Value(v, next) => {
             if books < v {
-                return Step::Refused(Refusal { number: 11, place: from });
+                return Step::Refused(Refusal {
+                    number: 11,
+                    place: from,
+                });
             }
             buffers::put_u16(list, at, numbers::narrow(v));
             Step::Next(next)
@@ -51,7 +63,13 @@ pub fn read_subclass_book(packet: &[u8], from: Cursor, books: u32, list: &mut [u
 }
 
 // `count` subclass books, into the first places.
-pub fn read_subclass_books(packet: &[u8], from: Cursor, books: u32, count: usize, list: &mut [u16]) -> Step
+pub fn read_subclass_books(
+    packet: &[u8],
+    from: Cursor,
+    books: u32,
+    count: usize,
+    list: &mut [u16],
+) -> Step
     requires { ⌜ count ≤ 8 ⌝ }
     ensures { λ r. ⌜ Wrote (into (putRow cell) (many (subclassBook books) count (now (packet .entry)) (position from)) (table (now (list .entry)) 0)) r (table (now (list .exit)) count) ⌝ }
 {
@@ -72,7 +90,16 @@ pub fn read_subclass_books(packet: &[u8], from: Cursor, books: u32, count: usize
 }
 
 // The subclass books of a class whose other numbers are known, and with them its row, from place `at` on.
-pub fn read_class_row(packet: &[u8], from: Cursor, books: u32, dimensions: u32, subclasses: u32, master: u32, classes: &mut [u16], at: usize) -> Step
+pub fn read_class_row(
+    packet: &[u8],
+    from: Cursor,
+    books: u32,
+    dimensions: u32,
+    subclasses: u32,
+    master: u32,
+    classes: &mut [u16],
+    at: usize,
+) -> Step
     requires { ⌜ (dimensions ≤ 8) × (subclasses ≤ 3) × (master ≤ 256) × (at ≤ 165) ⌝ }
     ensures { λ r. ⌜ Wrote (into1 (putRow (classRowOf dimensions subclasses master)) (many (subclassBook books) (2 ^ subclasses) (now (packet .entry)) (position from)) (table (now (classes .entry)) at)) r (table (now (classes .exit)) (at + 11)) ⌝ }
 {
@@ -81,7 +108,11 @@ pub fn read_class_row(packet: &[u8], from: Cursor, books: u32, dimensions: u32, 
     match read_subclass_books(packet, from, books, count, &mut list) {
         Step::Refused(z) => Step::Refused(z),
         Step::Next(next) => {
-            let head = [numbers::narrow(dimensions), numbers::narrow(subclasses), numbers::narrow(master)];
+            let head = [
+                numbers::narrow(dimensions),
+                numbers::narrow(subclasses),
+                numbers::narrow(master),
+            ];
             numbers::write_pair(classes, at, &head, &list);
             Step::Next(next)
         }
@@ -97,10 +128,24 @@ pub fn read_class(packet: &[u8], from: Cursor, books: u32, classes: &mut [u16], 
         Field::Refused(z) => Step::Refused(z),
         Field::Value(dimensions, at_subclasses) => match at_subclasses.field(packet, 2) {
             Field::Refused(z) => Step::Refused(z),
-            Field::Value(subclasses, at_master) => match read_master_book(packet, at_master, books, subclasses) {
+            Field::Value(subclasses, at_master) => match read_master_book(
+                packet,
+                at_master,
+                books,
+                subclasses,
+            ) {
                 Field::Refused(z) => Step::Refused(z),
                 Field::Value(master, at_books) => {
-                    read_class_row(packet, at_books, books, dimensions + 1, subclasses, master, classes, at)
+                    read_class_row(
+                        packet,
+                        at_books,
+                        books,
+                        dimensions + 1,
+                        subclasses,
+                        master,
+                        classes,
+                        at,
+                    )
                 }
             },
         },
@@ -108,7 +153,13 @@ pub fn read_class(packet: &[u8], from: Cursor, books: u32, classes: &mut [u16], 
 }
 
 // `count` classes, their rows one after the other.
-pub fn read_classes(packet: &[u8], from: Cursor, books: u32, count: usize, classes: &mut [u16]) -> Step
+pub fn read_classes(
+    packet: &[u8],
+    from: Cursor,
+    books: u32,
+    count: usize,
+    classes: &mut [u16],
+) -> Step
     requires { ⌜ (books ≤ 256) × (count ≤ 16) ⌝ }
     ensures { λ r. ⌜ Wrote (into (putRow classRow) (many (class books) count (now (packet .entry)) (position from)) (table (now (classes .entry)) 0)) r (table (now (classes .exit)) (11 * count)) ⌝ }
 {

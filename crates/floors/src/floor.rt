@@ -1,11 +1,11 @@
 // A floor of type 1 (004, "header decode"; 01, "Setup order"). Its row is put together from three buffers: partitions, classes, X list.
+use super::class;
+use super::numbers;
 use bits::Cursor;
 use bits::Field;
 use bits::Refusal;
 use bits::Step;
 use reading::buffers;
-use super::class;
-use super::numbers;
 ghost use mathlib.Core.Path.{_≡_};
 ghost use mathlib.Core.Bool.{true};
 ghost use mathlib.Core.List.{_++_};
@@ -30,10 +30,16 @@ pub fn read_type(packet: &[u8], from: Cursor) -> Field
         Field::Refused(z) => Field::Refused(z),
         Field::Value(number, next) => {
             if number == 0 {
-                return Field::Refused(Refusal { number: 14, place: from });
+                return Field::Refused(Refusal {
+                    number: 14,
+                    place: from,
+                });
             }
             if 1 < number {
-                return Field::Refused(Refusal { number: 10, place: from });
+                return Field::Refused(Refusal {
+                    number: 10,
+                    place: from,
+                });
             }
             Field::Value(number, next)
         }
@@ -78,7 +84,14 @@ pub fn value_count(partitions: &[u16], count: usize, classes: &[u16]) -> usize
 }
 
 // The X values, from place 2 on. The count is judged before each is read: of more than 63 the 64th is refused.
-pub fn read_x_values(packet: &[u8], from: Cursor, place: Cursor, rangebits: usize, count: usize, list: &mut [u16]) -> Step
+pub fn read_x_values(
+    packet: &[u8],
+    from: Cursor,
+    place: Cursor,
+    rangebits: usize,
+    count: usize,
+    list: &mut [u16],
+) -> Step
     requires { ⌜ rangebits ≤ 15 ⌝ }
     ensures { λ r. ⌜ Wrote (into (putRow cell) (xValues (position place) rangebits count (now (packet .entry)) (position from)) (table (now (list .entry)) 2)) r (table (now (list .exit)) (2 + count)) ⌝ }
 {
@@ -99,18 +112,38 @@ pub struct Ends {
 }
 
 // The X list, judged when it is complete.
-pub fn read_x_list(packet: &[u8], from: Cursor, place: Cursor, count: usize, multiplier: u32, rangebits: u32, list: &mut [u16]) -> Ends
+pub fn read_x_list(
+    packet: &[u8],
+    from: Cursor,
+    place: Cursor,
+    count: usize,
+    multiplier: u32,
+    rangebits: u32,
+    list: &mut [u16],
+) -> Ends
     requires { ⌜ (rangebits ≤ 15) × (now list ≡ replicate 65 0) ⌝ }
     ensures { λ r. ⌜ Wrote (mapped hold (endsFrom (position place) count multiplier rangebits (now (packet .entry)) (position from))) (r .step) (held (r .multiplier) (r .rangebits) (now (list .exit))) ⌝ }
 {
     buffers::put_u16(list, 1, numbers::power(rangebits));
     match read_x_values(packet, from, place, numbers::long(rangebits), count, list) {
-        Step::Refused(z) => Ends { multiplier, rangebits, step: Step::Refused(z) },
+        Step::Refused(z) => Ends {
+            multiplier,
+            rangebits,
+            step: Step::Refused(z),
+        },
         Step::Next(next) => {
             if !numbers::are_distinct(list, 0, 2 + count) {
-                return Ends { multiplier, rangebits, step: Step::Refused(Refusal { number: 12, place }) };
+                return Ends {
+                    multiplier,
+                    rangebits,
+                    step: Step::Refused(Refusal { number: 12, place }),
+                };
             }
-            Ends { multiplier, rangebits, step: Step::Next(next) }
+            Ends {
+                multiplier,
+                rangebits,
+                step: Step::Next(next),
+            }
         }
     }
 }
@@ -121,16 +154,39 @@ pub fn read_ends(packet: &[u8], from: Cursor, place: Cursor, count: usize, list:
     ensures { λ r. ⌜ Wrote (mapped hold (ends (position place) count (now (packet .entry)) (position from))) (r .step) (held (r .multiplier) (r .rangebits) (now (list .exit))) ⌝ }
 {
     match from.field(packet, 2) {
-        Field::Refused(z) => Ends { multiplier: 0, rangebits: 0, step: Step::Refused(z) },
+        Field::Refused(z) => Ends {
+            multiplier: 0,
+            rangebits: 0,
+            step: Step::Refused(z),
+        },
         Field::Value(multiplier, at_range) => match at_range.field(packet, 4) {
-            Field::Refused(z) => Ends { multiplier: 0, rangebits: 0, step: Step::Refused(z) },
-            Field::Value(rangebits, next) => read_x_list(packet, next, place, count, multiplier + 1, rangebits, list),
+            Field::Refused(z) => Ends {
+                multiplier: 0,
+                rangebits: 0,
+                step: Step::Refused(z),
+            },
+            Field::Value(rangebits, next) => read_x_list(
+                packet,
+                next,
+                place,
+                count,
+                multiplier + 1,
+                rangebits,
+                list,
+            ),
         },
     }
 }
 
 // A floor's row, from place `at` on.
-pub fn write_row(floors: &mut [u16], at: usize, head: &[u16], partitions: &[u16], classes: &[u16], list: &[u16])
+pub fn write_row(
+    floors: &mut [u16],
+    at: usize,
+    head: &[u16],
+    partitions: &[u16],
+    classes: &[u16],
+    list: &[u16],
+)
     requires { ⌜ (at ≤ 17728) × (length (now head) ≡ 5) × (length (now partitions) ≡ 31) × (length (now classes) ≡ 176) ⌝ }
     ensures { λ _. ⌜ now (floors .exit) ≡ sets (now (floors .entry)) at ((now (head .entry) ++ now (partitions .entry)) ++ (now (classes .entry) ++ now (list .entry))) ⌝ }
 {
@@ -139,7 +195,17 @@ pub fn write_row(floors: &mut [u16], at: usize, head: &[u16], partitions: &[u16]
 }
 
 // The rest of a floor whose partitions and classes are read, and with it the row.
-pub fn read_behind_classes(packet: &[u8], from: Cursor, place: Cursor, partitions: &[u16], count: usize, classes: &[u16], named: usize, floors: &mut [u16], at: usize) -> Step
+pub fn read_behind_classes(
+    packet: &[u8],
+    from: Cursor,
+    place: Cursor,
+    partitions: &[u16],
+    count: usize,
+    classes: &[u16],
+    named: usize,
+    floors: &mut [u16],
+    at: usize,
+) -> Step
     requires { ⌜ (count ≤ 31) × (named ≤ 16) × (at ≤ 17728) × (length (now partitions) ≡ 31) × (length (now classes) ≡ 176) ⌝ }
     ensures { λ r. ⌜ Wrote (into1 (putRow (rowOf count named (now (partitions .entry)) (now (classes .entry)))) (ends (position place) (valuesTo (now (classes .entry)) (now (partitions .entry)) count) (now (packet .entry)) (position from)) (table (now (floors .entry)) at)) r (table (now (floors .exit)) (at + 277)) ⌝ }
 {
@@ -150,7 +216,13 @@ pub fn read_behind_classes(packet: &[u8], from: Cursor, place: Cursor, partition
     match step {
         Step::Refused(z) => Step::Refused(z),
         Step::Next(next) => {
-            let head = [numbers::short(count), numbers::short(named), numbers::narrow(ends.multiplier), numbers::narrow(ends.rangebits), numbers::short(2 + values)];
+            let head = [
+                numbers::short(count),
+                numbers::short(named),
+                numbers::narrow(ends.multiplier),
+                numbers::narrow(ends.rangebits),
+                numbers::short(2 + values),
+            ];
             write_row(floors, at, &head, partitions, classes, &list);
             Step::Next(next)
         }
@@ -158,7 +230,16 @@ pub fn read_behind_classes(packet: &[u8], from: Cursor, place: Cursor, partition
 }
 
 // The rest of a floor whose partitions are read.
-pub fn read_behind_partitions(packet: &[u8], from: Cursor, place: Cursor, books: u32, partitions: &[u16], count: usize, floors: &mut [u16], at: usize) -> Step
+pub fn read_behind_partitions(
+    packet: &[u8],
+    from: Cursor,
+    place: Cursor,
+    books: u32,
+    partitions: &[u16],
+    count: usize,
+    floors: &mut [u16],
+    at: usize,
+) -> Step
     requires { ⌜ (books ≤ 256) × (at ≤ 17728) × Partitions count (now partitions) ⌝ }
     ensures { λ r. ⌜ Wrote (into1 (putRow floorRow) (floorFrom books (position place) (take count (now (partitions .entry))) (now (packet .entry)) (position from)) (table (now (floors .entry)) at)) r (table (now (floors .exit)) (at + 277)) ⌝ }
 {
@@ -166,12 +247,29 @@ pub fn read_behind_partitions(packet: &[u8], from: Cursor, place: Cursor, books:
     let mut classes = [0u16; 176];
     match class::read_classes(packet, from, books, named, &mut classes) {
         Step::Refused(z) => Step::Refused(z),
-        Step::Next(next) => read_behind_classes(packet, next, place, partitions, count, &classes, named, floors, at),
+        Step::Next(next) => read_behind_classes(
+            packet,
+            next,
+            place,
+            partitions,
+            count,
+            &classes,
+            named,
+            floors,
+            at,
+        ),
     }
 }
 
 // A floor behind its type, which stands at `place`.
-pub fn read_floor1(packet: &[u8], from: Cursor, place: Cursor, books: u32, floors: &mut [u16], at: usize) -> Step
+pub fn read_floor1(
+    packet: &[u8],
+    from: Cursor,
+    place: Cursor,
+    books: u32,
+    floors: &mut [u16],
+    at: usize,
+) -> Step
     requires { ⌜ (books ≤ 256) × (at ≤ 17728) ⌝ }
     ensures { λ r. ⌜ Wrote (into1 (putRow floorRow) (floor1 books (position place) (now (packet .entry)) (position from)) (table (now (floors .entry)) at)) r (table (now (floors .exit)) (at + 277)) ⌝ }
 {
@@ -182,7 +280,16 @@ pub fn read_floor1(packet: &[u8], from: Cursor, place: Cursor, books: u32, floor
             let mut partitions = [0u16; 31];
             match numbers::read_numbers(packet, next, 4, count, &mut partitions, 0) {
                 Step::Refused(z) => Step::Refused(z),
-                Step::Next(after) => read_behind_partitions(packet, after, place, books, &partitions, count, floors, at),
+                Step::Next(after) => read_behind_partitions(
+                    packet,
+                    after,
+                    place,
+                    books,
+                    &partitions,
+                    count,
+                    floors,
+                    at,
+                ),
             }
         }
     }
@@ -200,7 +307,13 @@ pub fn read_floor(packet: &[u8], from: Cursor, books: u32, floors: &mut [u16], a
 }
 
 // `count` floors, their rows one after the other.
-pub fn read_floors(packet: &[u8], from: Cursor, count: usize, books: u32, floors: &mut [u16]) -> Step
+pub fn read_floors(
+    packet: &[u8],
+    from: Cursor,
+    count: usize,
+    books: u32,
+    floors: &mut [u16],
+) -> Step
     requires { ⌜ (count ≤ 64) × (books ≤ 256) ⌝ }
     ensures { λ r. ⌜ Wrote (into (putRow floorRow) (many (floor books) count (now (packet .entry)) (position from)) (table (now (floors .entry)) 0)) r (table (now (floors .exit)) (277 * count)) ⌝ }
 {

@@ -2,4 +2,5 @@
 pub mod class;
 pub mod floor;
 pub mod numbers;
+pub mod stand;
 pub mod table;

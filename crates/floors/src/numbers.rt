@@ -42,7 +42,13 @@ pub fn long(v: u32) -> usize
 }
 
 // A number of `width` bits, into place `at`.
-pub fn read_number(packet: &[u8], from: Cursor, width: usize, numbers: &mut [u16], at: usize) -> Step
+pub fn read_number(
+    packet: &[u8],
+    from: Cursor,
+    width: usize,
+    numbers: &mut [u16],
+    at: usize,
+) -> Step
     requires { ⌜ width ≤ 16 ⌝ }
     ensures { λ r. ⌜ Wrote (into1 (putRow cell) (field width (now (packet .entry)) (position from)) (table (now (numbers .entry)) at)) r (table (now (numbers .exit)) (at + 1)) ⌝ }
 {
@@ -56,7 +62,14 @@ pub fn read_number(packet: &[u8], from: Cursor, width: usize, numbers: &mut [u16
 }
 
 // `count` numbers of `width` bits, into the places from `at` on.
-pub fn read_numbers(packet: &[u8], from: Cursor, width: usize, count: usize, numbers: &mut [u16], at: usize) -> Step
+pub fn read_numbers(
+    packet: &[u8],
+    from: Cursor,
+    width: usize,
+    count: usize,
+    numbers: &mut [u16],
+    at: usize,
+) -> Step
     requires { ⌜ (width ≤ 16) × (count ≤ 63) × (at ≤ 2) ⌝ }
     ensures { λ r. ⌜ Wrote (into (putRow cell) (many (field width) count (now (packet .entry)) (position from)) (table (now (numbers .entry)) at)) r (table (now (numbers .exit)) (at + count)) ⌝ }
 {

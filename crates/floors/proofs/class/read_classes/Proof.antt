@@ -1,3 +1,4 @@
+-- `floors::class::read_classes` meets its contract. The loop: what is left to read, written into the buffer as it is, is the whole (proofs/Loops). Assumes nothing.
 use Prim.Native.Nat.{_≤_, _-_}
 use native.Mathlib.Omega.{arith}
 use borrow.Author.Needs.{needs}
@@ -6,9 +7,6 @@ use Rattle.floors.specs.Reading.{class}
 use Rattle.floors.proofs.Loops.{Filling, fill-start, fill-next, fill-refused, fill-done}
 use Rattle.floors.proofs.class.read_classes.Statement.{statement}
 use Rattle.floors.proofs.class.read_classes.Tie as tie
-use Rattle.floors.proofs.class.read_classes.Reads as reads
-use Rattle.floors.proofs.class.read_classes.Lts as lts
-use Rattle.floors.proofs.class.read_class.Reads as read-class-reads
 
 abbrev Inv-loop : tie.InvT-loop
 Inv-loop packet books count classes₀ next₀ i₀ classes next i = (books ≤ 256) × (count ≤ 16) × Filling classRow (class books) packet count 11 classes₀ 0 next₀ classes next i
@@ -16,51 +14,39 @@ Inv-loop packet books count classes₀ next₀ i₀ classes next i = (books ≤ 
 abbrev μ-loop : tie.MeasureT-loop
 μ-loop packet books count classes₀ next₀ i₀ classes next i = count - i
 
--- src/class.rt:117:5
 loop-holds : tie.Need-loop-holds Inv-loop μ-loop
 loop-holds c = (search needs, search needs, fill-start)
 
--- src/class.rt:118:56
 mul-read-class : tie.Need-mul-read-class Inv-loop μ-loop
 mul-read-class c = search needs
 
--- src/class.rt:118:15
 read-class-requires : tie.Need-read-class-requires Inv-loop μ-loop
 read-class-requires c κs = search needs
 
--- src/class.rt:119:27
 enum-known-z : tie.Need-enum-known-z Inv-loop μ-loop
 enum-known-z c = search needs
 
--- src/class.rt:120:17
 same-length : tie.Need-same-length Inv-loop μ-loop
 same-length c = search needs
 
--- src/class.rt:120:17
 returns : tie.Need-returns Inv-loop μ-loop
 returns c = fill-refused (c .before .before .before .before .before .before .before .before .loop .inv .2) (omega arith) (c .before .before .before .before .before .read-class .ensures) (omega arith) (c .before .z .given .1) _
 
--- src/class.rt:122:24
 enum-known-after : tie.Need-enum-known-after Inv-loop μ-loop
 enum-known-after c = search needs
 
--- src/class.rt:126:13
 add-i : tie.Need-add-i Inv-loop μ-loop
 add-i c = search needs
 
--- src/class.rt:117:5
 loop-less : tie.Need-loop-less Inv-loop μ-loop
 loop-less c = search needs
 
--- src/class.rt:117:5
 loop-again : tie.Need-loop-again Inv-loop μ-loop
 loop-again c = (search needs, search needs, fill-next (c .before .before .before .before .before .before .before .before .loop .inv .2) (omega arith) (c .before .before .before .before .before .read-class .ensures) (omega arith) (search needs) (omega arith) (c .before .after .given .1))
 
--- src/class.rt:111:1
 same-length-2 : tie.Need-same-length-2 Inv-loop μ-loop
 same-length-2 c = search needs
 
--- src/class.rt:111:1
 returns-2 : tie.Need-returns-2 Inv-loop μ-loop
 returns-2 c = fill-done (c .before .loop .inv .2) (omega arith) (omega arith)
 

@@ -1,40 +1,30 @@
+-- `floors::class::read_master_book` meets its contract. Assumes nothing.
 use Rattle.floors.proofs.ClassLaws.{master-laws}
 use borrow.Author.Needs.{needs}
 use Rattle.floors.proofs.class.read_master_book.Statement.{statement}
 use Rattle.floors.proofs.class.read_master_book.Tie as tie
-use Rattle.floors.proofs.class.read_master_book.Reads as reads
-use Rattle.floors.proofs.class.read_master_book.Lts as lts
-use Rattle.bits.proofs.Cursor.field.Reads as field-reads
 
--- src/class.rt:24:9
 returns : tie.Need-returns
 returns c = search master-laws
 
--- src/class.rt:26:11
 field-requires : tie.Need-field-requires
 field-requires c κs = search needs
 
--- src/class.rt:27:24
 enum-known-z : tie.Need-enum-known-z
 enum-known-z c = search needs
 
--- src/class.rt:28:22
 enum-known-v : tie.Need-enum-known-v
 enum-known-v c = search needs
 
--- src/class.rt:30:17
 returns-2 : tie.Need-returns-2
 returns-2 c = search master-laws
 
--- src/class.rt:32:26
 add-t13 : tie.Need-add-t13
 add-t13 c = search needs
 
--- src/class.rt:19:1
 returns-3 : tie.Need-returns-3
 returns-3 c = search master-laws
 
--- src/class.rt:19:1
 returns-4 : tie.Need-returns-4
 returns-4 c = search master-laws
 

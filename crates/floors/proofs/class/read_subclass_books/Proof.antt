@@ -1,3 +1,4 @@
+-- `floors::class::read_subclass_books` meets its contract. The loop: what is left to read, written into the buffer as it is, is the whole (proofs/Loops). Assumes nothing.
 use Prim.Native.Nat.{_≤_, _-_}
 use native.Mathlib.Omega.{arith}
 use Rattle.floors.specs.Cell.{cell}
@@ -6,9 +7,6 @@ use Rattle.floors.proofs.Loops.{Filling, fill-start, fill-next, fill-re
 use borrow.Author.Needs.{needs}
 use Rattle.floors.proofs.class.read_subclass_books.Statement.{statement}
 use Rattle.floors.proofs.class.read_subclass_books.Tie as tie
-use Rattle.floors.proofs.class.read_subclass_books.Reads as reads
-use Rattle.floors.proofs.class.read_subclass_books.Lts as lts
-use Rattle.floors.proofs.class.read_subclass_book.Reads as read-subclass-book-reads
 
 abbrev Inv-loop : tie.InvT-loop
 Inv-loop packet books count list₀ next₀ i₀ list next i = (count ≤ 8) × Filling cell (subclassBook books) packet count 1 list₀ 0 next₀ list next i
@@ -16,47 +14,36 @@ Inv-loop packet books count list₀ next₀ i₀ list next i = (count ≤ 8) × 
 abbrev μ-loop : tie.MeasureT-loop
 μ-loop packet books count list₀ next₀ i₀ list next i = count - i
 
--- src/class.rt:60:5
 loop-holds : tie.Need-loop-holds Inv-loop μ-loop
 loop-holds c = (search needs, fill-start)
 
--- src/class.rt:61:15
 read-subclass-book-requires : tie.Need-read-subclass-book-requires Inv-loop μ-loop
 read-subclass-book-requires c κs = search needs
 
--- src/class.rt:62:27
 enum-known-z : tie.Need-enum-known-z Inv-loop μ-loop
 enum-known-z c = search needs
 
--- src/class.rt:63:17
 same-length : tie.Need-same-length Inv-loop μ-loop
 same-length c = search needs
 
--- src/class.rt:63:17
 returns : tie.Need-returns Inv-loop μ-loop
 returns c = fill-refused (c .before .before .before .before .before .before .before .before .loop .inv .1) (omega arith) (c .before .before .before .before .before .read-subclass-book .ensures) (omega arith) (c .before .z .given .1) _
 
--- src/class.rt:65:24
 enum-known-after : tie.Need-enum-known-after Inv-loop μ-loop
 enum-known-after c = search needs
 
--- src/class.rt:69:13
 add-i : tie.Need-add-i Inv-loop μ-loop
 add-i c = search needs
 
--- src/class.rt:60:5
 loop-less : tie.Need-loop-less Inv-loop μ-loop
 loop-less c = search needs
 
--- src/class.rt:60:5
 loop-again : tie.Need-loop-again Inv-loop μ-loop
 loop-again c = (search needs, fill-next (c .before .before .before .before .before .before .before .before .loop .inv .1) (omega arith) (c .before .before .before .before .before .read-subclass-book .ensures) (omega arith) (search needs) (omega arith) (c .before .after .given .1))
 
--- src/class.rt:54:1
 same-length-2 : tie.Need-same-length-2 Inv-loop μ-loop
 same-length-2 c = search needs
 
--- src/class.rt:54:1
 returns-2 : tie.Need-returns-2 Inv-loop μ-loop
 returns-2 c = fill-done (c .before .loop .inv .1) (omega arith) (omega arith)
 

@@ -1,83 +1,59 @@
+-- `floors::floor::read_behind_classes` meets its contract. Assumes nothing.
 use mathlib.Core.List.{[]}
 use native.Mathlib.Omega.{arith}
-use Rattle.floors.proofs.RowLaws.{behind-few}
-use Rattle.floors.proofs.RowLaws.{behind-laws}
+use Rattle.floors.proofs.RowLaws.{behind-few, behind-laws}
 use borrow.Author.Needs.{needs}
 use Rattle.floors.proofs.floor.read_behind_classes.Statement.{statement}
 use Rattle.floors.proofs.floor.read_behind_classes.Tie as tie
-use Rattle.floors.proofs.floor.read_behind_classes.Reads as reads
-use Rattle.floors.proofs.floor.read_behind_classes.Lts as lts
-use Rattle.floors.proofs.floor.read_ends.Reads as read-ends-reads
-use Rattle.floors.proofs.floor.value_count.Reads as value-count-reads
-use Rattle.floors.proofs.floor.write_row.Reads as write-row-reads
-use Rattle.floors.proofs.numbers.narrow.Reads as narrow-reads
-use Rattle.floors.proofs.numbers.short.Reads as short-reads
 
--- src/floor.rt:146:9
 value-count-requires : tie.Need-value-count-requires
 value-count-requires c κs = search needs
 
--- src/floor.rt:148:55
 slice-aggregate-read-ends : tie.Need-slice-aggregate-read-ends
 slice-aggregate-read-ends c = search needs
 
--- src/floor.rt:148:9
 read-ends-requires : tie.Need-read-ends-requires
 read-ends-requires c κs = search needs
 
--- src/floor.rt:151:23
 enum-known-step : tie.Need-enum-known-step
 enum-known-step c = search needs
 
--- src/floor.rt:152:20
 enum-known-step-2 : tie.Need-enum-known-step-2
 enum-known-step-2 c = search needs
 
--- src/floor.rt:153:25
 short-requires : tie.Need-short-requires
 short-requires c κs = search behind-laws
 
--- src/floor.rt:153:48
 short-requires-2 : tie.Need-short-requires-2
 short-requires-2 c κs = search behind-laws
 
--- src/floor.rt:153:71
 narrow-requires : tie.Need-narrow-requires
 narrow-requires c κs = search behind-laws
 
--- src/floor.rt:153:105
 narrow-requires-2 : tie.Need-narrow-requires-2
 narrow-requires-2 c κs = search behind-laws
 
--- src/floor.rt:153:153
 add-short : tie.Need-add-short
 add-short c = omega (arith, behind-few _ (c .before .before .before .before .before .before .before .before .before .before .before .before .before .before .before .args .count) 0 _ _ _ _ [] 0 (c .before .before .before .before .before .before .before .before .before .before .value-count .ensures) (c .before .before .before .before .before .before .before .before .read-ends .ensures) (c .before .before .before .before .before .step2 .given .1))
 
--- src/floor.rt:153:138
 short-requires-3 : tie.Need-short-requires-3
 short-requires-3 c κs = search behind-laws
 
--- src/floor.rt:154:35
 slice-aggregate-write-row : tie.Need-slice-aggregate-write-row
 slice-aggregate-write-row c = search needs
 
--- src/floor.rt:154:63
 slice-aggregate-write-row-2 : tie.Need-slice-aggregate-write-row-2
 slice-aggregate-write-row-2 c = search needs
 
--- src/floor.rt:154:13
 write-row-requires : tie.Need-write-row-requires
 write-row-requires c κs = search needs
 
--- src/floor.rt:142:1
 returns : tie.Need-returns
 returns c = search behind-laws
 
--- src/floor.rt:142:1
 same-length : tie.Need-same-length
 same-length c = search needs
 
--- src/floor.rt:142:1
 returns-2 : tie.Need-returns-2
 returns-2 c = search behind-laws
 

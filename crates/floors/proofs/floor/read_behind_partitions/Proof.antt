@@ -1,50 +1,36 @@
+-- `floors::floor::read_behind_partitions` meets its contract. Assumes nothing.
 use Rattle.floors.proofs.RowLaws.{from-laws}
 use borrow.Author.Needs.{needs}
 use Rattle.floors.proofs.floor.read_behind_partitions.Statement.{statement}
 use Rattle.floors.proofs.floor.read_behind_partitions.Tie as tie
-use Rattle.floors.proofs.floor.read_behind_partitions.Reads as reads
-use Rattle.floors.proofs.floor.read_behind_partitions.Lts as lts
-use Rattle.floors.proofs.class.read_classes.Reads as read-classes-reads
-use Rattle.floors.proofs.floor.class_count.Reads as class-count-reads
-use Rattle.floors.proofs.floor.read_behind_classes.Reads as read-behind-classes-reads
 
--- src/floor.rt:165:9
 class-count-requires : tie.Need-class-count-requires
 class-count-requires c κs = search needs
 
--- src/floor.rt:167:59
 slice-aggregate-read-classes : tie.Need-slice-aggregate-read-classes
 slice-aggregate-read-classes c = search needs
 
--- src/floor.rt:167:11
 read-classes-requires : tie.Need-read-classes-requires
 read-classes-requires c κs = search from-laws
 
--- src/floor.rt:168:23
 enum-known-z : tie.Need-enum-known-z
 enum-known-z c = search needs
 
--- src/floor.rt:169:20
 enum-known-next : tie.Need-enum-known-next
 enum-known-next c = search needs
 
--- src/floor.rt:169:89
 slice-aggregate-read-behind-classes : tie.Need-slice-aggregate-read-behind-classes
 slice-aggregate-read-behind-classes c = search needs
 
--- src/floor.rt:169:29
 read-behind-classes-requires : tie.Need-read-behind-classes-requires
 read-behind-classes-requires c κs = search from-laws
 
--- src/floor.rt:161:1
 returns : tie.Need-returns
 returns c = search from-laws
 
--- src/floor.rt:161:1
 same-length : tie.Need-same-length
 same-length c = search needs
 
--- src/floor.rt:161:1
 returns-2 : tie.Need-returns-2
 returns-2 c = search from-laws
 

@@ -1,15 +1,11 @@
+-- `floors::floor::value_count` meets its contract. Assumes nothing.
 use Prim.Native.Nat.{_≤_, _-_, _*_}
 use mathlib.Core.Path.{_≡_}
-use native.Mathlib.Omega.{arith}
 use borrow.Author.Needs.{needs}
 use Rattle.floors.specs.Pieces.{valuesTo}
 use Rattle.floors.proofs.FloorLaws.{count-laws}
 use Rattle.floors.proofs.floor.value_count.Statement.{statement}
 use Rattle.floors.proofs.floor.value_count.Tie as tie
-use Rattle.floors.proofs.floor.value_count.Reads as reads
-use Rattle.floors.proofs.floor.value_count.Lts as lts
-use Rattle.floors.proofs.numbers.wide.Reads as wide-reads
-use Rattle.reading.proofs.buffers.get_u16.Reads as get-u16-reads
 
 abbrev Inv-loop : tie.InvT-loop
 Inv-loop partitions count classes sum₀ i₀ sum i = (i ≤ count) × (count ≤ 31) × (sum ≤ 65535 * i) × (sum ≡ valuesTo classes partitions i)
@@ -17,47 +13,36 @@ Inv-loop partitions count classes sum₀ i₀ sum i = (i ≤ count) × (count �
 abbrev μ-loop : tie.MeasureT-loop
 μ-loop partitions count classes sum₀ i₀ sum i = count - i
 
--- src/floor.rt:72:5
 loop-holds : tie.Need-loop-holds Inv-loop μ-loop
 loop-holds c = search count-laws
 
--- src/floor.rt:73:35
 get-u16-requires : tie.Need-get-u16-requires Inv-loop μ-loop
 get-u16-requires c κs = search needs
 
--- src/floor.rt:73:13
 wide-requires : tie.Need-wide-requires Inv-loop μ-loop
 wide-requires c κs = search needs
 
--- src/floor.rt:74:61
 mul-get-u16 : tie.Need-mul-get-u16 Inv-loop μ-loop
 mul-get-u16 c = search needs
 
--- src/floor.rt:74:35
 get-u16-requires-2 : tie.Need-get-u16-requires-2 Inv-loop μ-loop
 get-u16-requires-2 c κs = search needs
 
--- src/floor.rt:74:21
 wide-requires-2 : tie.Need-wide-requires-2 Inv-loop μ-loop
 wide-requires-2 c κs = search needs
 
--- src/floor.rt:74:15
 add-sum : tie.Need-add-sum Inv-loop μ-loop
 add-sum c = search needs
 
--- src/floor.rt:75:13
 add-i : tie.Need-add-i Inv-loop μ-loop
 add-i c = search needs
 
--- src/floor.rt:72:5
 loop-less : tie.Need-loop-less Inv-loop μ-loop
 loop-less c = search needs
 
--- src/floor.rt:72:5
 loop-again : tie.Need-loop-again Inv-loop μ-loop
 loop-again c = search count-laws
 
--- src/floor.rt:66:1
 returns : tie.Need-returns Inv-loop μ-loop
 returns c = search count-laws
 

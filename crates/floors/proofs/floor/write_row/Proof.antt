@@ -1,28 +1,21 @@
+-- `floors::floor::write_row` meets its contract. Assumes nothing.
 use Rattle.floors.proofs.Collected.{two-runs-at}
 use borrow.Author.Needs.{needs}
 use Rattle.floors.proofs.floor.write_row.Statement.{statement}
 use Rattle.floors.proofs.floor.write_row.Tie as tie
-use Rattle.floors.proofs.floor.write_row.Reads as reads
-use Rattle.floors.proofs.floor.write_row.Lts as lts
-use Rattle.floors.proofs.numbers.write_pair.Reads as write-pair-reads
 
--- src/floor.rt:137:5
 write-pair-requires : tie.Need-write-pair-requires
 write-pair-requires c κs = search needs
 
--- src/floor.rt:138:33
 add-write-pair : tie.Need-add-write-pair
 add-write-pair c = search needs
 
--- src/floor.rt:138:5
 write-pair-requires-2 : tie.Need-write-pair-requires-2
 write-pair-requires-2 c κs = search needs
 
--- src/floor.rt:133:1
 same-length : tie.Need-same-length
 same-length c = search needs
 
--- src/floor.rt:133:1
 returns : tie.Need-returns
 returns c = search (needs, two-runs-at)
 

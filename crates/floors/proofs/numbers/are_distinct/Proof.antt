@@ -1,6 +1,7 @@
+-- `floors::numbers::are_distinct` meets its contract. Assumes nothing.
 use Prim.Native.Nat.{_≤_, _-_}
 use native.Mathlib.Omega.{arith}
-use mathlib.Core.Path.{_≡_, refl, sym, _∙_}
+use mathlib.Core.Path.{_≡_, refl, _∙_}
 use lib.ListN.{length}
 use lib.Seq.{slice}
 use borrow.Author.Needs.{needs}
@@ -8,9 +9,6 @@ use Rattle.reading.specs.Lists.{distinct}
 use Rattle.floors.proofs.NumberLaws.{distinct-end, distinct-not, distinct-later}
 use Rattle.floors.proofs.numbers.are_distinct.Statement.{statement}
 use Rattle.floors.proofs.numbers.are_distinct.Tie as tie
-use Rattle.floors.proofs.numbers.are_distinct.Reads as reads
-use Rattle.floors.proofs.numbers.are_distinct.Lts as lts
-use Rattle.floors.proofs.numbers.is_listed.Reads as is-listed-reads
 
 abbrev Inv-loop : tie.InvT-loop
 Inv-loop numbers from to i₀ i = (to ≤ length numbers) × (distinct (slice i to numbers) ≡ distinct (slice i₀ to numbers))
@@ -18,43 +16,33 @@ Inv-loop numbers from to i₀ i = (to ≤ length numbers) × (distinct (slice i 
 abbrev μ-loop : tie.MeasureT-loop
 μ-loop numbers from to i₀ i = to - i
 
--- src/numbers.rt:92:5
 loop-holds : tie.Need-loop-holds Inv-loop μ-loop
 loop-holds c = (omega arith, refl)
 
--- src/numbers.rt:93:31
 add-is-listed : tie.Need-add-is-listed Inv-loop μ-loop
 add-is-listed c = search needs
 
--- src/numbers.rt:93:42
 mul-is-listed : tie.Need-mul-is-listed Inv-loop μ-loop
 mul-is-listed c = search needs
 
--- src/numbers.rt:93:42
 shared-slice-read-is-listed : tie.Need-shared-slice-read-is-listed Inv-loop μ-loop
 shared-slice-read-is-listed c = search needs
 
--- src/numbers.rt:93:12
 is-listed-requires : tie.Need-is-listed-requires Inv-loop μ-loop
 is-listed-requires c κs = search needs
 
--- src/numbers.rt:94:13
 returns : tie.Need-returns Inv-loop μ-loop
 returns c = distinct-not (c .before .before .before .before .before .before .args .numbers .now) (c .before .before .before .before .before .before .args .to) (c .before .before .before .before .loop .i) (omega arith) (omega arith) (c .before .is-listed .ensures) (c .if1 .taken) ∙ c .before .before .before .before .loop .inv .1
 
--- src/numbers.rt:96:13
 add-i : tie.Need-add-i Inv-loop μ-loop
 add-i c = search needs
 
--- src/numbers.rt:92:5
 loop-less : tie.Need-loop-less Inv-loop μ-loop
 loop-less c = search needs
 
--- src/numbers.rt:92:5
 loop-again : tie.Need-loop-again Inv-loop μ-loop
 loop-again c = (omega arith, distinct-later (c .before .before .before .before .before .before .args .numbers .now) (c .before .before .before .before .before .before .args .to) (c .before .before .before .before .loop .i) (omega arith) (omega arith) (c .before .is-listed .ensures) (c .if1 .left) ∙ c .before .before .before .before .loop .inv .1)
 
--- src/numbers.rt:87:1
 returns-2 : tie.Need-returns-2 Inv-loop μ-loop
 returns-2 c = distinct-end (c .before .before .before .args .numbers .now) (c .before .before .before .args .to) (c .before .loop .i) (omega arith) ∙ c .before .loop .inv .1
 

@@ -1,3 +1,4 @@
+-- `floors::numbers::read_numbers` meets its contract. The loop: what is left to read, written into the buffer as it is, is the whole (proofs/Loops). Assumes nothing.
 use Prim.Native.Nat.{_≤_, _-_}
 use native.Mathlib.Omega.{arith}
 use borrow.Author.Needs.{needs}
@@ -6,9 +7,6 @@ use Rattle.floors.specs.Cell.{cell}
 use Rattle.floors.proofs.Loops.{Filling, fill-start, fill-next, fill-refused, fill-done}
 use Rattle.floors.proofs.numbers.read_numbers.Statement.{statement}
 use Rattle.floors.proofs.numbers.read_numbers.Tie as tie
-use Rattle.floors.proofs.numbers.read_numbers.Reads as reads
-use Rattle.floors.proofs.numbers.read_numbers.Lts as lts
-use Rattle.floors.proofs.numbers.read_number.Reads as read-number-reads
 
 abbrev Inv-loop : tie.InvT-loop
 Inv-loop packet width count numbers₀ at next₀ i₀ numbers next i = (width ≤ 16) × (count ≤ 63) × (at ≤ 2) × Filling cell (field width) packet count 1 numbers₀ at next₀ numbers next i
@@ -16,51 +14,39 @@ Inv-loop packet width count numbers₀ at next₀ i₀ numbers next i = (width �
 abbrev μ-loop : tie.MeasureT-loop
 μ-loop packet width count numbers₀ at next₀ i₀ numbers next i = count - i
 
--- src/numbers.rt:57:5
 loop-holds : tie.Need-loop-holds Inv-loop μ-loop
 loop-holds c = (search needs, search needs, search needs, fill-start)
 
--- src/numbers.rt:58:57
 add-read-number : tie.Need-add-read-number Inv-loop μ-loop
 add-read-number c = search needs
 
--- src/numbers.rt:58:15
 read-number-requires : tie.Need-read-number-requires Inv-loop μ-loop
 read-number-requires c κs = search needs
 
--- src/numbers.rt:59:27
 enum-known-z : tie.Need-enum-known-z Inv-loop μ-loop
 enum-known-z c = search needs
 
--- src/numbers.rt:60:17
 same-length : tie.Need-same-length Inv-loop μ-loop
 same-length c = search needs
 
--- src/numbers.rt:60:17
 returns : tie.Need-returns Inv-loop μ-loop
 returns c = fill-refused (c .before .before .before .before .before .before .before .before .loop .inv .3) (omega arith) (c .before .before .before .before .before .read-number .ensures) (omega arith) (c .before .z .given .1) _
 
--- src/numbers.rt:62:24
 enum-known-after : tie.Need-enum-known-after Inv-loop μ-loop
 enum-known-after c = search needs
 
--- src/numbers.rt:66:13
 add-i : tie.Need-add-i Inv-loop μ-loop
 add-i c = search needs
 
--- src/numbers.rt:57:5
 loop-less : tie.Need-loop-less Inv-loop μ-loop
 loop-less c = search needs
 
--- src/numbers.rt:57:5
 loop-again : tie.Need-loop-again Inv-loop μ-loop
 loop-again c = (search needs, search needs, search needs, fill-next (c .before .before .before .before .before .before .before .before .loop .inv .3) (omega arith) (c .before .before .before .before .before .read-number .ensures) (omega arith) (search needs) (omega arith) (c .before .after .given .1))
 
--- src/numbers.rt:51:1
 same-length-2 : tie.Need-same-length-2 Inv-loop μ-loop
 same-length-2 c = search needs
 
--- src/numbers.rt:51:1
 returns-2 : tie.Need-returns-2 Inv-loop μ-loop
 returns-2 c = fill-done (c .before .loop .inv .3) (omega arith) (omega arith)
 
