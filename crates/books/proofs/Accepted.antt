@@ -83,7 +83,7 @@ runs-known place (suc t) left s k {ls} {j} e = go (λ m i ks h f. runs-known pla
         let a = then-ok (judged (λ n. leb n left) 6 (field (ilog left)) s k) _ f in
         let b = then-ok (runs place t (left - a .0 .0) s (a .0 .1)) _ (a .2) in
         let q : _≡_ {A = List ℕ × ℕ} (replicate (a .0 .0) (32 - t) ++ b .0 .0, b .0 .1) (ls, j)
-            = same-ok (ok (replicate (a .0 .0) (32 - t) ++ b .0 .0, b .0 .1)) refl (b .2) in
+        = same-ok (ok (replicate (a .0 .0) (32 - t) ++ b .0 .0, b .0 .1)) refl (b .2) in
         let i = again (left - a .0 .0) (a .0 .1) (b .0 .0) (b .0 .1) (b .1) in
         let w : a .0 .0 ≤ left = leb-true _ _ (judged-ok (λ n. leb n left) 6 (field (ilog left)) s k (a .1) .1) in
         let m = length-run (a .0 .0) (32 - t) in
@@ -91,10 +91,12 @@ runs-known place (suc t) left s k {ls} {j} e = go (λ m i ks h f. runs-known pla
         let l : length (replicate (a .0 .0) (32 - t) ++ b .0 .0) ≡ left = length-append (replicate (a .0 .0) (32 - t)) (b .0 .0) ∙ (omega arith) in
         let v : fits (32 - t) ≡ true = le-leb (32 - t) 32 (omega arith) in
         rw (← (ap (λ (x : List ℕ × ℕ). x .0) q)) (l, all-append fits (replicate (a .0 .0) (32 - t)) (b .0 .0) (all-replicate fits (a .0 .0) (32 - t) v) (i .1))
+
     none : left ≡ 0 → _≡_ {A = Outcome (List ℕ × ℕ)} (ok ([], k)) (ok (ls, j)) → (length ls ≡ left) × (all fits ls ≡ true)
     none z f =
         let q : _≡_ {A = List ℕ × ℕ} ([], k) (ls, j) = same-ok (ok ([], k)) refl f in
         rw (← (ap (λ (x : List ℕ × ℕ). x .0) q)) (sym z, refl)
+
     go : Again place t s → (b : Bool) → eqb left 0 ≡ b
         → cond b (ok ([], k)) (then (judged (λ n. leb n left) 6 (field (ilog left)) s k) (moreRuns place t left s)) ≡ ok (ls, j)
         → (length ls ≡ left) × (all fits ls ≡ true)
@@ -165,7 +167,7 @@ lookup-known place entries dimensions room s k {l} {j} e =
           lookup = omega arith;
           none = λ z. absurd (n (sym v₀ ∙ z));
           some = λ z. (v .1, v .2 ∙ ap (λ (x : ℕ). valueCount x entries dimensions) (sym v₀), v .3);
-          within = omega arith
+          within = omega arith;
         }
 
 -- A BOOK THAT WAS READ IS VALID, where the multiplicands before are within the limit
@@ -201,10 +203,10 @@ book-valid l before s k {b} {n} within e =
           accepted = v;
           lookup = w .lookup;
           no-lookup = λ z. let n = w .none z in
-            record { minimum = ap (λ (x : Lookup). x .minimum) n; delta = ap (λ (x : Lookup). x .delta) n; width = ap (λ (x : Lookup). x .width) n; sequence = ap (λ (x : Lookup). x .sequence) n; multiplicands = ap (λ (x : Lookup). x .multiplicands) n };
+              record { minimum = ap (λ (x : Lookup). x .minimum) n; delta = ap (λ (x : Lookup). x .delta) n; width = ap (λ (x : Lookup). x .width) n; sequence = ap (λ (x : Lookup). x .sequence) n; multiplicands = ap (λ (x : Lookup). x .multiplicands) n };
           some-lookup = λ z. let n = w .some z in
-            record { minimum = n .0 .minimum; delta = n .0 .delta; width-low = n .0 .width-low; width-high = n .0 .width-high; sequence = n .0 .sequence; count = n .1 ∙ ap (λ (x : ℕ). valueCount (o .lookup) x (h .dimensions)) (sym m₀); fit = n .2 };
-          values-all = omega (arith, w .within)
+              record { minimum = n .0 .minimum; delta = n .0 .delta; width-low = n .0 .width-low; width-high = n .0 .width-high; sequence = n .0 .sequence; count = n .1 ∙ ap (λ (x : ℕ). valueCount (o .lookup) x (h .dimensions)) (sym m₀); fit = n .2 };
+          values-all = omega (arith, w .within);
         })
 
 -- and so are all books of a section, of which there are as many as were asked for

@@ -61,7 +61,7 @@ head-ok l before s k {h} {n} e =
     let few : Reader ℕ = judged (λ v. leb v (l .«book_entries»)) 14 some in
     let c = then-ok (judged (λ v. leb (before .entries + v) (l .entries)) 14 few s (b .0 .1)) _ (b .2) in
     let q : _≡_ {A = Head × ℕ} (record { dimensions = b .0 .0; entries = c .0 .0 }, c .0 .1) (h, n)
-        = same-ok (ok (record { dimensions = b .0 .0; entries = c .0 .0 }, c .0 .1)) refl (c .2) in
+    = same-ok (ok (record { dimensions = b .0 .0; entries = c .0 .0 }, c .0 .1)) refl (c .2) in
     let d = judged-ok (λ v. not (eqb v 0)) 6 (field 16) s (a .0 .1) (b .1) in
     let c₁ = judged-ok (λ v. leb (before .entries + v) (l .entries)) 14 few s (b .0 .1) (c .1) in
     let c₂ = judged-ok (λ v. leb v (l .«book_entries»)) 14 some s (b .0 .1) (c₁ .0) in
@@ -75,7 +75,7 @@ head-ok l before s k {h} {n} e =
       entries-low = not-zero (c .0 .0) (c₃ .1);
       entries-high = omega arith;
       entries-book = leb-true _ _ (c₂ .1);
-      entries-all = leb-true _ _ (c₁ .1)
+      entries-all = leb-true _ _ (c₁ .1);
     })
 
 -- what follows the head
@@ -126,10 +126,10 @@ module _ (place : Cursor) (h : Head) (room : ℕ) (s : List ℕ) (k : ℕ) (bk l
           let d : before + h .entries - before ≡ h .entries = omega arith in
           let b₁ : sets bk (10 * index) (h .dimensions ∷ length ls ∷ before ∷ a₀ ∷ a₁ ∷ a₂ ∷ a₃ ∷ a₄ ∷ a₅ ∷ values ∷ []) ≡ bk′ = rw el (sym b) in
           let b₂ : sets lens before ls ≡ take before lens ++ (ls ++ drop (before + h .entries - before) (drop before lens))
-              = part-back lens before ls (omega arith) ∙ ap (λ (x : ℕ). take before lens ++ (ls ++ drop x (drop before lens))) (el ∙ sym d) in
+          = part-back lens before ls (omega arith) ∙ ap (λ (x : ℕ). take before lens ++ (ls ++ drop x (drop before lens))) (el ∙ sym d) in
           let b₃ : sets wds before (codewords ls) ≡ take before wds ++ (ws ++ drop (before + h .entries - before) (drop before wds))
-              = ap (sets wds before) (sym (read-ok .1))
-              ∙ part-back wds before ws (omega arith) ∙ ap (λ (x : ℕ). take before wds ++ (ws ++ drop x (drop before wds))) (ew ∙ sym d) in
+          = ap (sets wds before) (sym (read-ok .1))
+          ∙ part-back wds before ws (omega arith) ∙ ap (λ (x : ℕ). take before wds ++ (ws ++ drop x (drop before wds))) (ew ∙ sym d) in
           wrote-as (sym body-as) (λ j. tables (b₁ j) (b₂ j) (b₃ j) m′ (index + 1) (before + el j) (values + a₅)) (wrote-mapped placed w₂)
 
 -- the head and what follows it

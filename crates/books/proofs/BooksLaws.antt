@@ -70,7 +70,7 @@ module _ (l : Limits) (s : List ℕ) (n k : ℕ) (bk₀ lens₀ wds₀ m₀ : Li
           words-long = omega arith;
           multiplicands-long = omega arith;
           few-entries = lent .few-entries;
-          few-values = lent .few-values
+          few-values = lent .few-values;
         }
 
     pub books-done : n ≤ index → Wrote whole (Next c) (tables bk lens wds m n entries values)
@@ -112,7 +112,7 @@ module _ (l : Limits) (s : List ℕ) (n k : ℕ) (bk₀ lens₀ wds₀ m₀ : Li
             m-long = e₄ ∙ w .m-long;
             entries-within = f;
             values-within = g;
-            rest = books-rest q
+            rest = books-rest q;
           }
 
 pub books-start : (l : Limits) (s : List ℕ) (n : ℕ) (c : Cursor) (bk lens wds m : List ℕ) → BooksRead l s n (position c) bk lens wds m c bk lens wds m 0 0 0
@@ -125,5 +125,5 @@ books-start l s n c bk lens wds m =
       m-long = refl;
       entries-within = omega arith;
       values-within = omega arith;
-      rest = rw sub-zero
+      rest = rw sub-zero;
     }

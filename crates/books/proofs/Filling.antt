@@ -87,10 +87,10 @@ module _ (r : Reader ℕ) (s : List ℕ) (k : ℕ) (entry : List ℕ) where
             within = omega arith;
             long = simp length-set (w .long);
             rest =
-              rw (add-one, take-suc-set part i v (omega arith))
-              (sym (behind-append (take i part) (v ∷ []) (many r (length entry - suc i) s (position c′)))
-              ∙ ap (behind (take i part)) (sym (many-more r s (length entry - i) (length entry - suc i) (omega arith) e))
-              ∙ w .rest)
+                rw (add-one, take-suc-set part i v (omega arith))
+                (sym (behind-append (take i part) (v ∷ []) (many r (length entry - suc i) s (position c′)))
+                ∙ ap (behind (take i part)) (sym (many-more r s (length entry - i) (length entry - suc i) (omega arith) e))
+                ∙ w .rest);
           }
 
 pub filling-start : (r : Reader ℕ) (s : List ℕ) (c : Cursor) (entry : List ℕ) → Filling r s (position c) entry c entry 0

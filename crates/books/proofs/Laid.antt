@@ -127,11 +127,11 @@ decode-laid [] before behind l l′ m m′ e f = refl
 decode-laid (b ∷ bs) before behind l l′ m m′ e f =
     let a : l ++ ((b .lengths ++ allLengths bs) ++ l′) ≡ l ++ (b .lengths ++ (allLengths bs ++ l′)) = ap (λ (x : List ℕ). l ++ x) (append-assoc (b .lengths) (allLengths bs) l′) in
     let c : m ++ ((b .multiplicands ++ allMultiplicands bs) ++ m′) ≡ m ++ (b .multiplicands ++ (allMultiplicands bs ++ m′))
-        = ap (λ (x : List ℕ). m ++ x) (append-assoc (b .multiplicands) (allMultiplicands bs) m′) in
+    = ap (λ (x : List ℕ). m ++ x) (append-assoc (b .multiplicands) (allMultiplicands bs) m′) in
     let a₂ : l ++ (b .lengths ++ (allLengths bs ++ l′)) ≡ (l ++ b .lengths) ++ (allLengths bs ++ l′) = sym (append-assoc l (b .lengths) (allLengths bs ++ l′)) in
     let c₂ : m ++ (b .multiplicands ++ (allMultiplicands bs ++ m′)) ≡ (m ++ b .multiplicands) ++ (allMultiplicands bs ++ m′) = sym (append-assoc m (b .multiplicands) (allMultiplicands bs ++ m′)) in
     let i = decode-laid bs (andThis before b) behind (l ++ b .lengths) l′ (m ++ b .multiplicands) m′
-        (sym (length-append l (b .lengths) ∙ (omega arith))) (sym (length-append m (b .multiplicands) ∙ (omega arith))) in
+    (sym (length-append l (b .lengths) ∙ (omega arith))) (sym (length-append m (b .multiplicands) ∙ (omega arith))) in
     let p = middle l (b .lengths) (allLengths bs ++ l′) (before .entries) (length (b .lengths)) e refl in
     let q = middle m (b .multiplicands) (allMultiplicands bs ++ m′) (before .values) (length (b .multiplicands)) f refl in
     rw (a, c)
@@ -144,7 +144,7 @@ decode-laid (b ∷ bs) before behind l l′ m m′ e f =
       delta = b .delta;
       width = b .width;
       sequence = b .sequence;
-      multiplicands = q j
+      multiplicands = q j;
     } ∷ (ap (λ (x : List ℕ). decodeBooks (length bs) (bookRows (andThis before b) bs ++ behind) x (m ++ (b .multiplicands ++ (allMultiplicands bs ++ m′)))) a₂
     ∙ ap (λ (x : List ℕ). decodeBooks (length bs) (bookRows (andThis before b) bs ++ behind) ((l ++ b .lengths) ++ (allLengths bs ++ l′)) x) c₂
     ∙ i) j)

@@ -88,6 +88,7 @@ entry-small sparse s k {v} {n} e = go (eqb sparse 0) e
         let z : 0 ≡ v = ap (λ (x : ℕ × ℕ). x .0) g in
         omega arith
     flagged false j q = used-small s j q
+
     go : (b : Bool) → cond b (mapped suc (field 5 s k)) (then (field 1 s k) (λ flag. cond (eqb (flag .0) 0) (ok (0, flag .1)) (mapped suc (field 5 s (flag .1))))) ≡ ok (v, n) → v ≤ 32
     go true q = used-small s k q
     go false q =
@@ -150,7 +151,7 @@ module _ (entry : List ℕ) (first number value : ℕ) where
         record {
           within = omega arith;
           long = simp length-set (w .long);
-          writing = write-turn entry first (replicate number value) part i (set part (first + i) value) (omega arith) (w .writing) (ap (set part (first + i)) v)
+          writing = write-turn entry first (replicate number value) part i (set part (first + i) value) (omega arith) (w .writing) (ap (set part (first + i)) v);
         }
 
     pub run-end : number ≤ i → part ≡ sets entry first (replicate number value)
@@ -227,7 +228,7 @@ module _ (place : Cursor) (first : ℕ) (s : List ℕ) (k : ℕ) (entry : List �
               let m = length-run n bits in
               let low = w .low in
               let t : take (i + n) (sets part i (replicate n bits)) ≡ take i part ++ replicate n bits
-                  = ap (λ (x : ℕ). take (i + x) (sets part i (replicate n bits))) (sym m) ∙ take-sets part (replicate n bits) i (omega arith) in
+              = ap (λ (x : ℕ). take (i + x) (sets part i (replicate n bits))) (sym m) ∙ take-sets part (replicate n bits) i (omega arith) in
               let f : 33 - (bits + 1) ≡ 32 - bits = omega arith in
               let d : length entry - (i + n) ≡ length entry - i - n = omega arith in
               let u : 32 - (32 - bits) ≡ bits = omega arith in
@@ -237,12 +238,12 @@ module _ (place : Cursor) (first : ℕ) (s : List ℕ) (k : ℕ) (entry : List �
                 low = omega arith;
                 high = omega arith;
                 rest =
-                  rw (e, t, f, d)
-                  (sym (behind-append (take i part) (replicate n bits) (runs (position place) (32 - bits) (length entry - i - n) s (position c′)))
-                  ∙ ap (behind (take i part))
-                  (ap (λ (x : ℕ). behind (replicate n x) (runs (position place) (32 - bits) (length entry - i - n) s (position c′))) (sym u)
-                  ∙ sym (runs-more (position place) s (33 - bits) (32 - bits) {left = length entry - i} (position c) (omega arith) (λ (q : length entry - i ≡ 0). omega arith) (value-is (here r p) q)))
-                  ∙ w .rest)
+                    rw (e, t, f, d)
+                    (sym (behind-append (take i part) (replicate n bits) (runs (position place) (32 - bits) (length entry - i - n) s (position c′)))
+                    ∙ ap (behind (take i part))
+                    (ap (λ (x : ℕ). behind (replicate n x) (runs (position place) (32 - bits) (length entry - i - n) s (position c′))) (sym u)
+                    ∙ sym (runs-more (position place) s (33 - bits) (32 - bits) {left = length entry - i} (position c) (omega arith) (λ (q : length entry - i ≡ 0). omega arith) (value-is (here r p) q)))
+                    ∙ w .rest);
               }
 
 pub running-start : (place : Cursor) (first : ℕ) (s : List ℕ) (c : Cursor) (entry : List ℕ) → first < 32 → Running place first s (position c) entry c (first + 1) entry 0
@@ -290,6 +291,29 @@ module _ (place n : ℕ) (s : List ℕ) (k : Cursor) where
       unfolding lengths ordered
       lengths-ordered e w = rw (value-is p q, ne-eqb _ _ e) w
 
-pub ruleset length-laws =
-    (needs, used-cut, used-fits, used-whole, entry-dense, flag-cut, flag-unused, flag-used, entry-fits, run-width, run-cut, run-past, run-whole, run-start, run-turn, run-end,
-    unordered-cut, unordered-rest, ordered-cut, first-below, ordered-rest, lengths-cut, lengths-unordered, lengths-ordered)
+pub ruleset length-laws = (
+  needs,
+  used-cut,
+  used-fits,
+  used-whole,
+  entry-dense,
+  flag-cut,
+  flag-unused,
+  flag-used,
+  entry-fits,
+  run-width,
+  run-cut,
+  run-past,
+  run-whole,
+  run-start,
+  run-turn,
+  run-end,
+  unordered-cut,
+  unordered-rest,
+  ordered-cut,
+  first-below,
+  ordered-rest,
+  lengths-cut,
+  lengths-unordered,
+  lengths-ordered,
+)

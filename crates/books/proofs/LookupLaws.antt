@@ -122,7 +122,7 @@ parameters-ok s k {p} {n} e =
     let c = then-ok (field 4 s (b .0 .1)) _ (b .2) in
     let d = then-ok (field 1 s (c .0 .1)) _ (c .2) in
     let q : _≡_ {A = Parameters × ℕ} (record { minimum = a .0 .0; delta = b .0 .0; width = c .0 .0 + 1; sequence = d .0 .0 }, d .0 .1) (p, n)
-        = same-ok (ok (record { minimum = a .0 .0; delta = b .0 .0; width = c .0 .0 + 1; sequence = d .0 .0 }, d .0 .1)) refl (d .2) in
+    = same-ok (ok (record { minimum = a .0 .0; delta = b .0 .0; width = c .0 .0 + 1; sequence = d .0 .0 }, d .0 .1)) refl (d .2) in
     let p₁ = field-ok s k 32 (a .1) .below in
     let p₂ = field-ok s (a .0 .1) 32 (b .1) .below in
     let p₃ = field-ok s (b .0 .1) 4 (c .1) .below in
@@ -180,7 +180,7 @@ module _ (place : Cursor) (type count first most : ℕ) (s : List ℕ) (k : ℕ)
     values-whole h g {n} e {st} {part} w l =
         let f : first + count - first ≡ count = omega arith in
         let b : sets m first part ≡ take first m ++ (part ++ drop (first + count - first) (drop first m))
-            = part-back m first part (omega arith) ∙ ap (λ (x : ℕ). take first m ++ (part ++ drop x (drop first m))) (l ∙ sym f) in
+        = part-back m first part (omega arith) ∙ ap (λ (x : ℕ). take first m ++ (part ++ drop x (drop first m))) (l ∙ sym f) in
         wrote-as
         (sym (values-list h ∙ ap (λ (x : ℕ). mapped (λ list. laid m first (withValues type (fromAnswer a) list)) (many (field (a .width)) x s (position c))) (sym e)))
         (λ j. (type ∷ a .minimum ∷ a .delta ∷ a .width ∷ a .sequence ∷ l j ∷ [], b j))

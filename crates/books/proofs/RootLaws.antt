@@ -68,7 +68,7 @@ module _ (entries dimensions : ℕ) where
           ordered = omega arith;
           within = omega arith;
           reached = w .reached;
-          same = sym (greatest-below dimensions entries (high - (high - low) / 2) high (omega arith) (omega arith) (sym e ∙ t)) ∙ w .same
+          same = sym (greatest-below dimensions entries (high - (high - low) / 2) high (omega arith) (omega arith) (sym e ∙ t)) ∙ w .same;
         }
 
     pub halving-end : high ≤ low → low ≡ lookup1Values entries dimensions

@@ -26,7 +26,7 @@ tables books lengths words multiplicands count entries values =
       codewords = words;
       multiplicands = multiplicands;
       count = count;
-      before = record { entries = entries; values = values }
+      before = record { entries = entries; values = values };
     }
 
 unfoldable pub putBook : Book → Tables → Tables
@@ -37,5 +37,5 @@ putBook b t =
       codewords = sets (t .codewords) (t .before .entries) (codewords (b .lengths));
       multiplicands = sets (t .multiplicands) (t .before .values) (b .multiplicands);
       count = t .count + 1;
-      before = andThis (t .before) b
+      before = andThis (t .before) b;
     }

@@ -66,7 +66,7 @@ bookOf h ls l =
       delta = l .delta;
       width = l .width;
       sequence = l .sequence;
-      multiplicands = l .multiplicands
+      multiplicands = l .multiplicands;
     }
 
 unfoldable pub body : ℕ → Head → ℕ → Reader Book

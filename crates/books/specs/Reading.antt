@@ -101,7 +101,7 @@ head limits before s k =
     then (judged (λ v. eqb v 0x564342) 6 (field 24) s k) (λ pattern.
     then (judged (λ v. not (eqb v 0)) 6 (field 16) s (pattern .1)) (λ dimensions.
     then (judged (λ v. leb (before .entries + v) (limits .entries)) 14
-      (judged (λ v. leb v (limits .«book_entries»)) 14 (judged (λ v. not (eqb v 0)) 6 (field 24))) s (dimensions .1)) (λ entries.
+    (judged (λ v. leb v (limits .«book_entries»)) 14 (judged (λ v. not (eqb v 0)) 6 (field 24))) s (dimensions .1)) (λ entries.
     ok (record { dimensions = dimensions .0; entries = entries .0 }, entries .1))))
 
 -- a book of the setup packet
@@ -110,16 +110,19 @@ book limits before s k =
     then (head limits before s k) (λ h.
     then (then (lengths k (h .0 .entries) s (h .1)) (λ ls. entered k (ls .0) (ok ls))) (λ ls.
     then (lookup k (h .0 .entries) (h .0 .dimensions) (limits .multiplicands - before .values) s (ls .1)) (λ l.
-    ok (record {
-      dimensions = h .0 .dimensions;
-      lengths = ls .0;
-      lookup = l .0 .lookup;
-      minimum = l .0 .minimum;
-      delta = l .0 .delta;
-      width = l .0 .width;
-      sequence = l .0 .sequence;
-      multiplicands = l .0 .multiplicands
-    }, l .1))))
+    ok (
+      record {
+        dimensions = h .0 .dimensions;
+        lengths = ls .0;
+        lookup = l .0 .lookup;
+        minimum = l .0 .minimum;
+        delta = l .0 .delta;
+        width = l .0 .width;
+        sequence = l .0 .sequence;
+        multiplicands = l .0 .multiplicands;
+      },
+      l .1,
+    ))))
 
 abbrev pub andThis : Before → Book → Before
 andThis before b = record { entries = before .entries + length (b .lengths); values = before .values + length (b .multiplicands) }

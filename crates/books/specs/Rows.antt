@@ -39,7 +39,7 @@ decodeBook row lengths multiplicands =
       delta = getD row 5 0;
       width = getD row 6 0;
       sequence = getD row 7 0;
-      multiplicands = take (getD row 8 0) (drop (getD row 9 0) multiplicands)
+      multiplicands = take (getD row 8 0) (drop (getD row 9 0) multiplicands);
     }
 
 -- the first n books of the tables

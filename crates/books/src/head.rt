@@ -28,27 +28,48 @@ pub fn read_head(packet: &[u8], from: Cursor, limits: Limits, before: u32) -> He
         Field::Refused(z) => HeadRead::Refused(z),
         Field::Value(pattern, at_dimensions) => {
             if pattern != 0x564342 {
-                return HeadRead::Refused(Refusal { number: 6, place: from });
+                return HeadRead::Refused(Refusal {
+                    number: 6,
+                    place: from,
+                });
             }
             match at_dimensions.field(packet, 16) {
                 Field::Refused(z) => HeadRead::Refused(z),
                 Field::Value(dimensions, at_entries) => {
                     if dimensions == 0 {
-                        return HeadRead::Refused(Refusal { number: 6, place: at_dimensions });
+                        return HeadRead::Refused(Refusal {
+                            number: 6,
+                            place: at_dimensions,
+                        });
                     }
                     match at_entries.field(packet, 24) {
                         Field::Refused(z) => HeadRead::Refused(z),
                         Field::Value(entries, next) => {
                             if entries == 0 {
-                                return HeadRead::Refused(Refusal { number: 6, place: at_entries });
+                                return HeadRead::Refused(Refusal {
+                                    number: 6,
+                                    place: at_entries,
+                                });
                             }
                             if limits.book_entries < entries {
-                                return HeadRead::Refused(Refusal { number: 14, place: at_entries });
+                                return HeadRead::Refused(Refusal {
+                                    number: 14,
+                                    place: at_entries,
+                                });
                             }
                             if limits.entries - before < entries {
-                                return HeadRead::Refused(Refusal { number: 14, place: at_entries });
+                                return HeadRead::Refused(Refusal {
+                                    number: 14,
+                                    place: at_entries,
+                                });
                             }
-                            HeadRead::Value(Head { dimensions, entries }, next)
+                            HeadRead::Value(
+                                Head {
+                                    dimensions,
+                                    entries,
+                                },
+                                next,
+                            )
                         }
                     }
                 }

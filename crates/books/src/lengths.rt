@@ -69,7 +69,10 @@ fn read_run(packet: &[u8], from: Cursor, left: u32) -> Field
         Field::Refused(z) => Field::Refused(z),
         Field::Value(number, next) => {
             if left < number {
-                return Field::Refused(Refusal { number: 6, place: from });
+                return Field::Refused(Refusal {
+                    number: 6,
+                    place: from,
+                });
             }
             Field::Value(number, next)
         }

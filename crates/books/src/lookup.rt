@@ -50,7 +50,15 @@ fn read_parameters(packet: &[u8], from: Cursor) -> ParametersRead
                 Field::Value(bits, at_sequence) => match at_sequence.field(packet, 1) {
                     Field::Refused(z) => ParametersRead::Refused(z),
                     Field::Value(sequence, next) => {
-                        ParametersRead::Value(Parameters { minimum, delta, width: bits + 1, sequence }, next)
+                        ParametersRead::Value(
+                            Parameters {
+                                minimum,
+                                delta,
+                                width: bits + 1,
+                                sequence,
+                            },
+                            next,
+                        )
                     }
                 },
             },
@@ -92,11 +100,28 @@ fn read_multiplicands(packet: &[u8], from: Cursor, width: usize, part: &mut [u16
 fn without(step: Step) -> LookupRead
     ensures { λ r. ⌜ (r .step ≡ step) × (numbersOf r ≡ 0 ∷ 0 ∷ 0 ∷ 0 ∷ 0 ∷ 0 ∷ []) × (r .count ≡ 0) ⌝ }
 {
-    LookupRead { step, lookup: 0, minimum: 0, delta: 0, width: 0, sequence: 0, count: 0 }
+    LookupRead {
+        step,
+        lookup: 0,
+        minimum: 0,
+        delta: 0,
+        width: 0,
+        sequence: 0,
+        count: 0,
+    }
 }
 
 // What follows a type that is not 0: `count` multiplicands go from place `first` of their table on, and `most` is the limit for all.
-fn read_values(packet: &[u8], from: Cursor, place: Cursor, lookup: u32, count: u64, first: u32, most: u32, multiplicands: &mut [u16]) -> LookupRead
+fn read_values(
+    packet: &[u8],
+    from: Cursor,
+    place: Cursor,
+    lookup: u32,
+    count: u64,
+    first: u32,
+    most: u32,
+    multiplicands: &mut [u16],
+) -> LookupRead
     requires { ⌜ (first ≤ most) × (most ≤ length (now multiplicands)) ⌝ }
     ensures { λ r. ⌜ Wrote (mapped (laid (now (multiplicands .entry)) first) (values (position place) lookup count (most - first) (now (packet .entry)) (position from))) (r .step) (numbersOf r, now (multiplicands .exit)) ⌝ }
     ensures { λ r. ⌜ first + r .count ≤ most ⌝ }
@@ -125,7 +150,16 @@ fn read_values(packet: &[u8], from: Cursor, place: Cursor, lookup: u32, count: u
 }
 
 // The lookup of a book of so many entries and dimensions. `place` is the book's first bit.
-pub fn read_lookup(packet: &[u8], from: Cursor, place: Cursor, entries: u32, dimensions: u32, first: u32, most: u32, multiplicands: &mut [u16]) -> LookupRead
+pub fn read_lookup(
+    packet: &[u8],
+    from: Cursor,
+    place: Cursor,
+    entries: u32,
+    dimensions: u32,
+    first: u32,
+    most: u32,
+    multiplicands: &mut [u16],
+) -> LookupRead
     requires { ⌜ (first ≤ most) × (most ≤ length (now multiplicands)) ⌝ }
     ensures { λ r. ⌜ Wrote (mapped (laid (now (multiplicands .entry)) first) (lookup (position place) entries dimensions (most - first) (now (packet .entry)) (position from))) (r .step) (numbersOf r, now (multiplicands .exit)) ⌝ }
     ensures { λ r. ⌜ first + r .count ≤ most ⌝ }
@@ -134,13 +168,25 @@ pub fn read_lookup(packet: &[u8], from: Cursor, place: Cursor, entries: u32, dim
         Field::Refused(z) => without(Step::Refused(z)),
         Field::Value(lookup, next) => {
             if 2 < lookup {
-                return without(Step::Refused(Refusal { number: 6, place: from }));
+                return without(Step::Refused(Refusal {
+                    number: 6,
+                    place: from,
+                }));
             }
             if lookup == 0 {
                 return without(Step::Next(next));
             }
             let count = value_count(lookup, entries, dimensions);
-            read_values(packet, next, place, lookup, count, first, most, multiplicands)
+            read_values(
+                packet,
+                next,
+                place,
+                lookup,
+                count,
+                first,
+                most,
+                multiplicands,
+            )
         }
     }
 }

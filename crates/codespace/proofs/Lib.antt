@@ -9,3 +9,4 @@ pub mod Numbers
 pub mod Laws
 pub mod Assigning
 pub mod Figures
+pub mod Comparing

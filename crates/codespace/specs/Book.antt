@@ -117,3 +117,8 @@ pub record NextUsed (lengths : List ℕ) (from r : ℕ) : Type 0 where
   pub within : r ≤ length lengths
   pub same : used (drop from lengths) ≡ used (drop r lengths)
   pub isUsed : r < length lengths → 0 < getD lengths r 0
+
+-- lengths that are accepted, and their codewords
+pub record Coded (lengths words : List ℕ) : Type 0 where
+  pub accepted : verdict lengths ≡ Accepted
+  pub assigned : words ≡ codewords lengths

@@ -6,13 +6,14 @@ use crate::space::is_full;
 use crate::space::take_codeword;
 use reading::buffers::clear_u32;
 ghost use mathlib.Core.Path.{_≡_};
-ghost use mathlib.Core.Bool.{cond};
-ghost use Prim.Native.Nat.{_≤_};
+ghost use mathlib.Core.Bool.{true, cond};
+ghost use mathlib.Core.Logic.{_↔_};
+ghost use Prim.Native.Nat.{_<_, _≤_};
 ghost use lib.Dec.{eqb};
 ghost use lib.ListN.{length, replicate};
 ghost use Rattle.codespace.specs.Blocks.{enterAnswer, enterBlocks};
 ghost use Rattle.codespace.specs.Answers.{number};
-ghost use Rattle.codespace.specs.Book.{used, isLone, verdict, assigned, written, codewords, Decodable, NextUsed};
+ghost use Rattle.codespace.specs.Book.{used, isLone, verdict, assigned, written, codewords, Decodable, NextUsed, Coded};
 
 pub enum Assigned {
     // Each used entry has its codeword, and no space is left over; or the only used entry has length 1.
@@ -73,6 +74,38 @@ fn hand_out(lengths: &[u8], words: &mut [u32]) -> Assigned
         return Assigned::Accepted;
     }
     Assigned::Underspecified
+}
+
+// The lengths are accepted and these are their codewords: what `assign_codewords` would write, compared instead of stored.
+pub fn are_codewords(lengths: &[u8], words: &[u32]) -> bool
+    ensures { λ r. ⌜ (r ≡ true) ↔ Coded (now (lengths .entry)) (now (words .entry)) ⌝ }
+{
+    if lengths.len() != words.len() {
+        return false;
+    }
+    let space = Space::empty();
+    let mut blocks = space.blocks;
+    let mut entry = 0;
+    while entry < lengths.len() {
+        let value = entry_codeword(&mut blocks, lengths[entry]);
+        if value != wide(words[entry]) {
+            return false;
+        }
+        entry += 1;
+    }
+    if is_full(&blocks) {
+        return true;
+    }
+    if is_lone(lengths) {
+        return true;
+    }
+    false
+}
+
+fn wide(x: u32) -> u64
+    ensures { λ r. ⌜ (r ≡ x) × (x < 4294967296) ⌝ }
+{
+    x as u64
 }
 
 // What an entry's place holds: 0 for an unused entry, which takes nothing; else the codeword taken, or VACANT.
