@@ -3,8 +3,8 @@ mod heights;
 pub mod lines;
 mod neighbours;
 
-use reading::buffers::clear_u8;
 use heights::final_points;
+use reading::buffers::clear_u8;
 ghost use mathlib.Core.Path.{_≡_};
 ghost use mathlib.Core.Bool.{false};
 ghost use Prim.Native.Nat.{_≤_};
