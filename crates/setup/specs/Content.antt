@@ -7,7 +7,7 @@ use Rattle.floors.specs.Content.{Floor}
 use Rattle.residues.specs.Content.{Residue}
 use Rattle.residues.specs.Reading.{Books}
 use Rattle.mappings.specs.Content.{Mapping}
-use Rattle.mappings.specs.Reading.{Known}
+use Rattle.mappings.specs.declared.Known.{Known}
 use Rattle.modes.specs.Content.{Mode}
 
 pub record Setup : Type 0 where
@@ -24,7 +24,7 @@ booksKnown bs =
       count = length bs;
       dimensions = λ b. getD (map (λ x. x .dimensions) bs) b 0;
       entries = λ b. getD (map (λ x. length (x .lengths)) bs) b 0;
-      lookup = λ b. getD (map (λ x. x .lookup) bs) b 0
+      lookup = λ b. getD (map (λ x. x .lookup) bs) b 0;
     }
 
 -- what a mapping is judged against

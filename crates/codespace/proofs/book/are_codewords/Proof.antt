@@ -68,9 +68,10 @@ loop-less c = search needs
 
 -- src/book.rt:88:5
 loop-again : tie.Need-loop-again Inv-loop μ-loop
-loop-again c =
-    (c .before .before .before .before .before .before .before .loop .inv .0,
-    comparing-turn _ _ _ _ _ (c .before .before .before .before .before .before .loop-test .taken) (c .before .before .before .before .before .before .before .loop .inv .1) (c .before .before .before .entry-codeword .ensures .0) (c .before .before .before .before .before .before .before .loop .inv .0) (c .before .wide .ensures) (c .if2 .left) _ (c .before .before .before .entry-codeword .ensures .1))
+loop-again c = (
+  c .before .before .before .before .before .before .before .loop .inv .0,
+  comparing-turn _ _ _ _ _ (c .before .before .before .before .before .before .loop-test .taken) (c .before .before .before .before .before .before .before .loop .inv .1) (c .before .before .before .entry-codeword .ensures .0) (c .before .before .before .before .before .before .before .loop .inv .0) (c .before .wide .ensures) (c .if2 .left) _ (c .before .before .before .entry-codeword .ensures .1),
+)
 
 -- src/book.rt:95:8
 is-full-requires : tie.Need-is-full-requires Inv-loop μ-loop
