@@ -6,23 +6,18 @@ use Rattle.book.proofs.number.Lts as lts
 use Rattle.book.proofs.wide.Reads as wide-reads
 use Rattle.reading.proofs.buffers.get_u32.Reads as get-u32-reads
 
--- src/lib.rt:17:22
 wide-requires : tie.Need-wide-requires
 wide-requires c κs = search needs
 
--- src/lib.rt:17:17
 mul-place : tie.Need-mul-place
 mul-place c = search needs
 
--- src/lib.rt:17:17
 add-place : tie.Need-add-place
 add-place c = search needs
 
--- src/lib.rt:18:5
 get-u32-requires : tie.Need-get-u32-requires
 get-u32-requires c κs = search needs
 
--- src/lib.rt:13:1
 returns : tie.Need-returns
 returns c = rw (← c .before .wide .ensures) (c .«get-u32» .ensures)
 

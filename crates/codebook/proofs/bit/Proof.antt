@@ -6,35 +6,27 @@ use Rattle.codebook.proofs.bit.Reads as reads
 use Rattle.codebook.proofs.bit.Lts as lts
 use Rattle.codebook.proofs.wide.Reads as wide-reads
 
--- src/lib.rt:99:15
 wide-requires : tie.Need-wide-requires
 wide-requires c κs = search needs
 
--- src/lib.rt:99:15
 add-bit : tie.Need-add-bit
 add-bit c = search needs
 
--- src/lib.rt:100:16
 add-byte : tie.Need-add-byte
 add-byte c = search needs
 
--- src/lib.rt:101:7
 shared-slice-read-result : tie.Need-shared-slice-read-result
 shared-slice-read-result c = search needs
 
--- src/lib.rt:101:24
 cast-result : tie.Need-cast-result
 cast-result c = search needs
 
--- src/lib.rt:101:7
 shr-result : tie.Need-shr-result
 shr-result c = search needs
 
--- src/lib.rt:101:5
 cast-result-2 : tie.Need-cast-result-2
 cast-result-2 c = search needs
 
--- src/lib.rt:95:1
 returns : tie.Need-returns
 returns c = bit-behind _ _ _ _ _ (c .before .before .wide .ensures)
 

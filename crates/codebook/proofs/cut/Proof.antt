@@ -5,7 +5,6 @@ use Rattle.codebook.proofs.cut.Tie as tie
 use Rattle.codebook.proofs.cut.Reads as reads
 use Rattle.codebook.proofs.cut.Lts as lts
 
--- src/lib.rt:93:1
 returns : tie.Need-returns
 unfolding outcome
 returns c = refl

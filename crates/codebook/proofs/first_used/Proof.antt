@@ -17,31 +17,24 @@ Inv-loop lengths entry₀ entry = (entry ≤ length lengths) × ((u : ℕ) → u
 abbrev μ-loop : tie.MeasureT-loop
 μ-loop lengths entry₀ entry = length lengths - entry
 
--- src/lib.rt:46:5
 loop-holds : tie.Need-loop-holds Inv-loop μ-loop
 loop-holds c = (omega arith, λ u h. absurd (omega arith))
 
--- src/lib.rt:47:12
 shared-slice-read-if1 : tie.Need-shared-slice-read-if1 Inv-loop μ-loop
 shared-slice-read-if1 c = search needs
 
--- src/lib.rt:48:13
 returns : tie.Need-returns Inv-loop μ-loop
 returns c = (sym (first-is _ (c .before .before .before .before .pre) _ (c .before .before .before .loop .inv .1) (c .if1 .taken) (omega arith)), omega arith)
 
--- src/lib.rt:50:17
 add-entry : tie.Need-add-entry Inv-loop μ-loop
 add-entry c = search needs
 
--- src/lib.rt:46:5
 loop-less : tie.Need-loop-less Inv-loop μ-loop
 loop-less c = search needs
 
--- src/lib.rt:46:5
 loop-again : tie.Need-loop-again Inv-loop μ-loop
 loop-again c = (omega arith, used-passed _ _ (c .before .before .before .loop .inv .1) (c .if1 .left))
 
--- src/lib.rt:41:1
 returns-2 : tie.Need-returns-2 Inv-loop μ-loop
 returns-2 c = absurd (lone-there _ (c .before .before .pre) _ (c .before .loop .inv .1) (omega arith))
 

@@ -6,23 +6,18 @@ use Rattle.codebook.proofs.has_bit.Reads as reads
 use Rattle.codebook.proofs.has_bit.Lts as lts
 use Rattle.codebook.proofs.wide.Reads as wide-reads
 
--- src/lib.rt:89:9
 returns : tie.Need-returns
 returns c = bit-past _ _ _ _ (c .if1 .taken)
 
--- src/lib.rt:91:6
 wide-requires : tie.Need-wide-requires
 wide-requires c κs = search needs
 
--- src/lib.rt:91:6
 add-result : tie.Need-add-result
 add-result c = search needs
 
--- src/lib.rt:91:36
 sub-result : tie.Need-sub-result
 sub-result c = search needs
 
--- src/lib.rt:83:1
 returns-2 : tie.Need-returns-2
 returns-2 c = bit-there _ _ _ _ _ (c .wide .ensures) (c .before .if1 .left)
 

@@ -7,31 +7,24 @@ use Rattle.codebook.proofs.lone_entry.Lts as lts
 use Rattle.bits.proofs.Cursor.field.Reads as field-reads
 use Rattle.codebook.proofs.first_used.Reads as first-used-reads
 
--- src/lib.rt:34:11
 field-requires : tie.Need-field-requires
 field-requires c κs = search needs
 
--- src/lib.rt:35:24
 enum-known-z : tie.Need-enum-known-z
 enum-known-z c = search needs
 
--- src/lib.rt:36:25
 enum-known-next : tie.Need-enum-known-next
 enum-known-next c = search needs
 
--- src/lib.rt:36:47
 first-used-requires : tie.Need-first-used-requires
 first-used-requires c κs = search needs
 
--- src/lib.rt:36:47
 cast-t9 : tie.Need-cast-t9
 cast-t9 c = search needs
 
--- src/lib.rt:30:1
 returns : tie.Need-returns
 returns c = search lone-laws
 
--- src/lib.rt:30:1
 returns-2 : tie.Need-returns-2
 returns-2 c = search lone-laws
 

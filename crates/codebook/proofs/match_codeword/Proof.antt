@@ -27,95 +27,72 @@ Inv-word packet from lengths words word₀ taken₀ entry₀ word taken entry = 
 abbrev μ-word : tie.MeasureT-word
 μ-word packet from lengths words word₀ taken₀ entry₀ word taken entry = 32 - taken
 
--- src/lib.rt:65:5
 word-holds : tie.Need-word-holds Inv-entry μ-entry Inv-word μ-word
 word-holds c = search asked
 
--- src/lib.rt:67:25
 cut-requires : tie.Need-cut-requires Inv-entry μ-entry Inv-word μ-word
 cut-requires c κs = search needs
 
--- src/lib.rt:69:13
 has-bit-requires : tie.Need-has-bit-requires Inv-entry μ-entry Inv-word μ-word
 has-bit-requires c κs = search needs
 
--- src/lib.rt:70:25
 cut-requires-2 : tie.Need-cut-requires-2 Inv-entry μ-entry Inv-word μ-word
 cut-requires-2 c κs = search needs
 
--- src/lib.rt:72:16
 mul-word : tie.Need-mul-word Inv-entry μ-entry Inv-word μ-word
 mul-word c = search asked
 
--- src/lib.rt:72:27
 bit-requires : tie.Need-bit-requires Inv-entry μ-entry Inv-word μ-word
 bit-requires c κs = search asked
 
--- src/lib.rt:72:16
 add-word : tie.Need-add-word Inv-entry μ-entry Inv-word μ-word
 add-word c = search asked
 
--- src/lib.rt:73:17
 add-taken : tie.Need-add-taken Inv-entry μ-entry Inv-word μ-word
 add-taken c = search needs
 
--- src/lib.rt:74:9
 entry-holds : tie.Need-entry-holds Inv-entry μ-entry Inv-word μ-word
 entry-holds c = taken-one _ _ _ _ _ _ _ (c .before .before .before .before .word .inv) _ (c .before .before .has-bit .ensures) (c .before .before .before .if1 .left) (c .before .if2 .left) _ (c .bit .ensures)
 
--- src/lib.rt:76:29
 cut-requires-3 : tie.Need-cut-requires-3 Inv-entry μ-entry Inv-word μ-word
 cut-requires-3 c κs = search needs
 
--- src/lib.rt:78:31
 shared-slice-read-wide : tie.Need-shared-slice-read-wide Inv-entry μ-entry Inv-word μ-word
 shared-slice-read-wide c = search needs
 
--- src/lib.rt:78:17
 wide-requires : tie.Need-wide-requires Inv-entry μ-entry Inv-word μ-word
 wide-requires c κs = search needs
 
--- src/lib.rt:80:20
 mul-if5 : tie.Need-mul-if5 Inv-entry μ-entry Inv-word μ-word
 mul-if5 c = search needs
 
--- src/lib.rt:80:20
 shared-slice-read-if5 : tie.Need-shared-slice-read-if5 Inv-entry μ-entry Inv-word μ-word
 shared-slice-read-if5 c = search asked
 
--- src/lib.rt:80:37
 cast-if5 : tie.Need-cast-if5 Inv-entry μ-entry Inv-word μ-word
 cast-if5 c = let h = length-within _ _ (c .before .before .before .before .before .before .before .before .before .before .before .before .before .before .pre) _ _ _ _ _ (c .before .before .before .before .before .entry .inv) (c .before .before .before .before .if3 .left) _ (c .before .before .wide .ensures) (c .before .if4 .taken) in omega arith
 
--- src/lib.rt:80:20
 shr-if5 : tie.Need-shr-if5 Inv-entry μ-entry Inv-word μ-word
 shr-if5 c = let h = length-within _ _ (c .before .before .before .before .before .before .before .before .before .before .before .before .before .before .pre) _ _ _ _ _ (c .before .before .before .before .before .entry .inv) (c .before .before .before .before .if3 .left) _ (c .before .before .wide .ensures) (c .before .if4 .taken) in omega arith
 
--- src/lib.rt:82:50
 cast-t26 : tie.Need-cast-t26 Inv-entry μ-entry Inv-word μ-word
 cast-t26 c = search needs
 
--- src/lib.rt:82:64
 behind-requires : tie.Need-behind-requires Inv-entry μ-entry Inv-word μ-word
 behind-requires c κs = search asked
 
--- src/lib.rt:65:5
 word-less : tie.Need-word-less Inv-entry μ-entry Inv-word μ-word
 word-less c = search needs
 
--- src/lib.rt:65:5
 word-again : tie.Need-word-again Inv-entry μ-entry Inv-word μ-word
 word-again c = search asked
 
--- src/lib.rt:87:21
 add-entry : tie.Need-add-entry Inv-entry μ-entry Inv-word μ-word
 add-entry c = search needs
 
--- src/lib.rt:74:9
 entry-less : tie.Need-entry-less Inv-entry μ-entry Inv-word μ-word
 entry-less c = search needs
 
--- src/lib.rt:74:9
 entry-again : tie.Need-entry-again Inv-entry μ-entry Inv-word μ-word
 entry-again c =
     ⊎-elim
@@ -123,19 +100,15 @@ entry-again c =
     (λ w. length-short _ _ (c .before .before .before .before .before .before .before .before .before .before .before .before .before .pre) _ _ _ _ _ (c .before .before .before .before .entry .inv) (c .before .before .before .if3 .left) _ (c .before .wide .ensures) (w .left))
     (c .if4 .came)
 
--- src/lib.rt:58:1
 returns : tie.Need-returns Inv-entry μ-entry Inv-word μ-word
 returns c = search asked
 
--- src/lib.rt:58:1
 returns-2 : tie.Need-returns-2 Inv-entry μ-entry Inv-word μ-word
 returns-2 c = search asked
 
--- src/lib.rt:58:1
 returns-3 : tie.Need-returns-3 Inv-entry μ-entry Inv-word μ-word
 returns-3 c = search asked
 
--- src/lib.rt:58:1
 returns-4 : tie.Need-returns-4 Inv-entry μ-entry Inv-word μ-word
 returns-4 c = search asked
 

@@ -8,23 +8,18 @@ use Rattle.codebook.proofs.lone_entry.Reads as lone-entry-reads
 use Rattle.codebook.proofs.match_codeword.Reads as match-codeword-reads
 use Rattle.codespace.proofs.book.is_lone.Reads as is-lone-reads
 
--- src/lib.rt:23:8
 is-lone-requires : tie.Need-is-lone-requires
 is-lone-requires c κs = search needs
 
--- src/lib.rt:24:9
 lone-entry-requires : tie.Need-lone-entry-requires
 lone-entry-requires c κs = lone-asked _ _ (c .before .before .before .before .before .pre) _ (c .before .is-lone .ensures) (c .if1 .taken)
 
--- src/lib.rt:24:9
 returns : tie.Need-returns
 returns c = by-lone _ _ (c .before .before .before .before .before .before .pre) _ _ _ (c .lone-entry .ensures)
 
--- src/lib.rt:26:5
 match-codeword-requires : tie.Need-match-codeword-requires
 match-codeword-requires c κs = search needs
 
--- src/lib.rt:18:1
 returns-2 : tie.Need-returns-2
 returns-2 c = by-matching _ _ (c .before .before .before .before .before .before .pre) _ _ _ _ (c .before .before .is-lone .ensures) (c .before .if1 .left) (c .match-codeword .ensures)
 

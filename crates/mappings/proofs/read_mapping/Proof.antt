@@ -12,115 +12,87 @@ use Rattle.mappings.proofs.counts.read_submap_count.Reads as read-subma
 use Rattle.mappings.proofs.read_parts.Reads as read-parts-reads
 use Rattle.reading.proofs.buffers.write_u8.Reads as write-u8-reads
 
--- src/lib.rt:57:11
 field-requires : tie.Need-field-requires
 field-requires c κs = search needs
 
--- src/lib.rt:58:24
 enum-known-z : tie.Need-enum-known-z
 enum-known-z c = search needs
 
--- src/lib.rt:59:22
 enum-known-kind : tie.Need-enum-known-kind
 enum-known-kind c = search needs
 
--- src/lib.rt:61:17
 returns : tie.Need-returns
 returns c = search mapping-laws
 
--- src/lib.rt:63:19
 read-submap-count-requires : tie.Need-read-submap-count-requires
 read-submap-count-requires c κs = search needs
 
--- src/lib.rt:64:32
 enum-known-z-2 : tie.Need-enum-known-z-2
 enum-known-z-2 c = search needs
 
--- src/lib.rt:65:30
 enum-known-submaps : tie.Need-enum-known-submaps
 enum-known-submaps c = search needs
 
--- src/lib.rt:65:58
 read-coupling-count-requires : tie.Need-read-coupling-count-requires
 read-coupling-count-requires c κs = search needs
 
--- src/lib.rt:66:36
 enum-known-z-3 : tie.Need-enum-known-z-3
 enum-known-z-3 c = search needs
 
--- src/lib.rt:67:34
 enum-known-steps : tie.Need-enum-known-steps
 enum-known-steps c = search needs
 
--- src/lib.rt:69:34
 cast-row : tie.Need-cast-row
 cast-row c = search mapping-laws
 
--- src/lib.rt:69:25
 array-write-row : tie.Need-array-write-row
 array-write-row c = search needs
 
--- src/lib.rt:70:34
 cast-row-2 : tie.Need-cast-row-2
 cast-row-2 c = record { fits = steps-fit _ _ (c .before .before .before .read-coupling-count .ensures) (c .before .steps .given .1) }
 
--- src/lib.rt:70:25
 array-write-row-2 : tie.Need-array-write-row-2
 array-write-row-2 c = search needs
 
--- src/lib.rt:71:34
 cast-row-3 : tie.Need-cast-row-3
 cast-row-3 c = record { fits = submaps-fit _ _ (c .before .before .before .before .before .before .before .read-submap-count .ensures) (c .before .before .before .before .before .submaps .given .1) }
 
--- src/lib.rt:71:25
 array-write-row-3 : tie.Need-array-write-row-3
 array-write-row-3 c = search needs
 
--- src/lib.rt:72:83
 slice-aggregate-read-parts : tie.Need-slice-aggregate-read-parts
 slice-aggregate-read-parts c = search needs
 
--- src/lib.rt:72:31
 read-parts-requires : tie.Need-read-parts-requires
 read-parts-requires c κs = search mapping-laws
 
--- src/lib.rt:73:43
 enum-known-z-4 : tie.Need-enum-known-z-4
 enum-known-z-4 c = search needs
 
--- src/lib.rt:74:40
 enum-known-next : tie.Need-enum-known-next
 enum-known-next c = search needs
 
--- src/lib.rt:75:74
 slice-aggregate-write-u8 : tie.Need-slice-aggregate-write-u8
 slice-aggregate-write-u8 c = search needs
 
--- src/lib.rt:75:33
 write-u8-requires : tie.Need-write-u8-requires
 write-u8-requires c κs = search needs
 
--- src/lib.rt:50:1
 returns-2 : tie.Need-returns-2
 returns-2 c = search mapping-laws
 
--- src/lib.rt:50:1
 returns-3 : tie.Need-returns-3
 returns-3 c = search mapping-laws
 
--- src/lib.rt:50:1
 returns-4 : tie.Need-returns-4
 returns-4 c = search mapping-laws
 
--- src/lib.rt:50:1
 returns-5 : tie.Need-returns-5
 returns-5 c = search mapping-laws
 
--- src/lib.rt:50:1
 same-length : tie.Need-same-length
 same-length c = search needs
 
--- src/lib.rt:50:1
 returns-6 : tie.Need-returns-6
 returns-6 c =
     mapping-whole _ _ _ (c .before .before .before .before .before .before .before .before .before .before .before .before .before .before .before .before .before .before .before .before .before .before .before .field .ensures) (c .before .before .before .before .before .before .before .before .before .before .before .before .before .before .before .before .before .before .before .before .before .kind .given .1) (c .before .before .before .before .before .before .before .before .before .before .before .before .before .before .before .before .before .before .before .if1 .left) (c .before .before .before .before .before .before .before .before .before .before .before .before .before .before .before .before .before .before .read-submap-count .ensures) (c .before .before .before .before .before .before .before .before .before .before .before .before .before .before .before .before .submaps .given .1) (c .before .before .before .before .before .before .before .before .before .before .before .before .before .before .read-coupling-count .ensures) (c .before .before .before .before .before .before .before .before .before .before .before .before .steps .given .1) _

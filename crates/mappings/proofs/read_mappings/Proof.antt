@@ -20,51 +20,39 @@ Inv-loop packet count known mappings₀ k₀ i₀ mappings k i = (1 ≤ known .c
 abbrev μ-loop : tie.MeasureT-loop
 μ-loop packet count known mappings₀ k₀ i₀ mappings k i = count - i
 
--- src/lib.rt:96:5
 loop-holds : tie.Need-loop-holds Inv-loop μ-loop
 loop-holds c = search mappings-laws
 
--- src/lib.rt:97:56
 mul-read-mapping : tie.Need-mul-read-mapping Inv-loop μ-loop
 mul-read-mapping c = search needs
 
--- src/lib.rt:97:15
 read-mapping-requires : tie.Need-read-mapping-requires Inv-loop μ-loop
 read-mapping-requires c κs = search needs
 
--- src/lib.rt:98:27
 enum-known-z : tie.Need-enum-known-z Inv-loop μ-loop
 enum-known-z c = search needs
 
--- src/lib.rt:99:17
 same-length : tie.Need-same-length Inv-loop μ-loop
 same-length c = search mappings-laws
 
--- src/lib.rt:99:17
 returns : tie.Need-returns Inv-loop μ-loop
 returns c = search mappings-laws
 
--- src/lib.rt:101:24
 enum-known-next : tie.Need-enum-known-next Inv-loop μ-loop
 enum-known-next c = search needs
 
--- src/lib.rt:105:13
 add-i : tie.Need-add-i Inv-loop μ-loop
 add-i c = search needs
 
--- src/lib.rt:96:5
 loop-less : tie.Need-loop-less Inv-loop μ-loop
 loop-less c = search needs
 
--- src/lib.rt:96:5
 loop-again : tie.Need-loop-again Inv-loop μ-loop
 loop-again c = search mappings-laws
 
--- src/lib.rt:87:1
 same-length-2 : tie.Need-same-length-2 Inv-loop μ-loop
 same-length-2 c = search mappings-laws
 
--- src/lib.rt:87:1
 returns-2 : tie.Need-returns-2 Inv-loop μ-loop
 returns-2 c = search mappings-laws
 

@@ -9,83 +9,63 @@ use Rattle.mappings.proofs.couplings.read_couplings.Reads as read-coupl
 use Rattle.mappings.proofs.submaps.read_multiplexes.Reads as read-multiplexes-reads
 use Rattle.mappings.proofs.submaps.read_submaps.Reads as read-submaps-reads
 
--- src/lib.rt:32:11
 read-couplings-requires : tie.Need-read-couplings-requires
 read-couplings-requires c κs = search needs
 
--- src/lib.rt:33:23
 enum-known-z : tie.Need-enum-known-z
 enum-known-z c = search needs
 
--- src/lib.rt:34:20
 enum-known-at-reserved : tie.Need-enum-known-at-reserved
 enum-known-at-reserved c = search needs
 
--- src/lib.rt:34:42
 field-requires : tie.Need-field-requires
 field-requires c κs = search needs
 
--- src/lib.rt:35:28
 enum-known-z-2 : tie.Need-enum-known-z-2
 enum-known-z-2 c = search needs
 
--- src/lib.rt:36:26
 enum-known-reserved : tie.Need-enum-known-reserved
 enum-known-reserved c = search needs
 
--- src/lib.rt:38:21
 same-length : tie.Need-same-length
 same-length c = search needs
 
--- src/lib.rt:38:21
 returns : tie.Need-returns
 returns c = search parts-laws
 
--- src/lib.rt:40:23
 read-multiplexes-requires : tie.Need-read-multiplexes-requires
 read-multiplexes-requires c κs = search needs
 
--- src/lib.rt:41:35
 enum-known-z-3 : tie.Need-enum-known-z-3
 enum-known-z-3 c = search needs
 
--- src/lib.rt:42:32
 enum-known-at-submaps : tie.Need-enum-known-at-submaps
 enum-known-at-submaps c = search needs
 
--- src/lib.rt:42:47
 read-submaps-requires : tie.Need-read-submaps-requires
 read-submaps-requires c κs = search needs
 
--- src/lib.rt:26:1
 same-length-2 : tie.Need-same-length-2
 same-length-2 c = search needs
 
--- src/lib.rt:26:1
 returns-2 : tie.Need-returns-2
 returns-2 c = search parts-laws
 
--- src/lib.rt:26:1
 same-length-3 : tie.Need-same-length-3
 same-length-3 c = search needs
 
--- src/lib.rt:26:1
 returns-3 : tie.Need-returns-3
 returns-3 c = search parts-laws
 
--- src/lib.rt:26:1
 same-length-4 : tie.Need-same-length-4
 same-length-4 c = search needs
 
--- src/lib.rt:26:1
 returns-4 : tie.Need-returns-4
 returns-4 c = search parts-laws
 
--- src/lib.rt:26:1
 same-length-5 : tie.Need-same-length-5
 same-length-5 c = search needs
 
--- src/lib.rt:26:1
 returns-5 : tie.Need-returns-5
 returns-5 c = search parts-laws
 

@@ -8,103 +8,78 @@ use Rattle.bits.proofs.Cursor.bit.Reads as bit-reads
 use Rattle.bits.proofs.Cursor.field.Reads as field-reads
 use Rattle.reading.proofs.buffers.write_u8.Reads as write-u8-reads
 
--- src/lib.rt:24:11
 bit-requires : tie.Need-bit-requires
 bit-requires c κs = search needs
 
--- src/lib.rt:25:24
 enum-known-z : tie.Need-enum-known-z
 enum-known-z c = search needs
 
--- src/lib.rt:26:22
 enum-known-blockflag : tie.Need-enum-known-blockflag
 enum-known-blockflag c = search needs
 
--- src/lib.rt:26:53
 field-requires : tie.Need-field-requires
 field-requires c κs = search needs
 
--- src/lib.rt:27:28
 enum-known-z-2 : tie.Need-enum-known-z-2
 enum-known-z-2 c = search needs
 
--- src/lib.rt:28:26
 enum-known-window : tie.Need-enum-known-window
 enum-known-window c = search needs
 
--- src/lib.rt:30:21
 returns : tie.Need-returns
 returns c = search mode-laws
 
--- src/lib.rt:32:23
 field-requires-2 : tie.Need-field-requires-2
 field-requires-2 c κs = search needs
 
--- src/lib.rt:33:36
 enum-known-z-3 : tie.Need-enum-known-z-3
 enum-known-z-3 c = search needs
 
--- src/lib.rt:34:34
 enum-known-transform : tie.Need-enum-known-transform
 enum-known-transform c = search needs
 
--- src/lib.rt:36:29
 returns-2 : tie.Need-returns-2
 returns-2 c = search mode-laws
 
--- src/lib.rt:38:31
 field-requires-3 : tie.Need-field-requires-3
 field-requires-3 c κs = search needs
 
--- src/lib.rt:39:44
 enum-known-z-4 : tie.Need-enum-known-z-4
 enum-known-z-4 c = search needs
 
--- src/lib.rt:40:42
 enum-known-mapping : tie.Need-enum-known-mapping
 enum-known-mapping c = search needs
 
--- src/lib.rt:42:37
 returns-3 : tie.Need-returns-3
 returns-3 c = search mode-laws
 
--- src/lib.rt:44:53
 cast-t33 : tie.Need-cast-t33
 cast-t33 c = search mode-laws
 
--- src/lib.rt:44:70
 cast-t34 : tie.Need-cast-t34
 cast-t34 c = search mode-laws
 
--- src/lib.rt:45:71
 slice-aggregate-write-u8 : tie.Need-slice-aggregate-write-u8
 slice-aggregate-write-u8 c = search needs
 
--- src/lib.rt:45:33
 write-u8-requires : tie.Need-write-u8-requires
 write-u8-requires c κs = search needs
 
--- src/lib.rt:17:1
 returns-4 : tie.Need-returns-4
 returns-4 c = search mode-laws
 
--- src/lib.rt:17:1
 returns-5 : tie.Need-returns-5
 returns-5 c = search mode-laws
 
--- src/lib.rt:17:1
 returns-6 : tie.Need-returns-6
 returns-6 c = search mode-laws
 
--- src/lib.rt:17:1
 returns-7 : tie.Need-returns-7
 returns-7 c = search mode-laws
 
--- src/lib.rt:17:1
 same-length : tie.Need-same-length
 same-length c = search needs
 
--- src/lib.rt:17:1
 returns-8 : tie.Need-returns-8
 returns-8 c =
     mode-whole _ _ _ _ _ (c .before .before .before .before .before .before .before .before .before .before .before .before .before .before .before .before .before .before .before .before .before .before .before .bit .ensures) (c .before .before .before .before .before .before .before .before .before .before .before .before .before .before .before .before .before .before .before .before .before .blockflag .given .1) (c .before .before .before .before .before .before .before .before .before .before .before .before .before .before .before .before .before .before .before .field .ensures) (c .before .before .before .before .before .before .before .before .before .before .before .before .before .before .before .before .before .window .given .1) (c .before .before .before .before .before .before .before .before .before .before .before .before .before .before .before .if1 .left) (c .before .before .before .before .before .before .before .before .before .before .before .before .before .before .field2 .ensures) (c .before .before .before .before .before .before .before .before .before .before .before .before .transform .given .1) (c .before .before .before .before .before .before .before .before .before .before .if2 .left)

@@ -20,51 +20,39 @@ Inv-loop packet count mappings modes₀ k₀ i₀ modes k i = (count ≤ 64) × 
 abbrev μ-loop : tie.MeasureT-loop
 μ-loop packet count mappings modes₀ k₀ i₀ modes k i = count - i
 
--- src/lib.rt:66:5
 loop-holds : tie.Need-loop-holds Inv-loop μ-loop
 loop-holds c = search modes-laws
 
--- src/lib.rt:67:53
 mul-read-mode : tie.Need-mul-read-mode Inv-loop μ-loop
 mul-read-mode c = search needs
 
--- src/lib.rt:67:15
 read-mode-requires : tie.Need-read-mode-requires Inv-loop μ-loop
 read-mode-requires c κs = search needs
 
--- src/lib.rt:68:27
 enum-known-z : tie.Need-enum-known-z Inv-loop μ-loop
 enum-known-z c = search needs
 
--- src/lib.rt:69:17
 same-length : tie.Need-same-length Inv-loop μ-loop
 same-length c = search modes-laws
 
--- src/lib.rt:69:17
 returns : tie.Need-returns Inv-loop μ-loop
 returns c = search modes-laws
 
--- src/lib.rt:71:24
 enum-known-next : tie.Need-enum-known-next Inv-loop μ-loop
 enum-known-next c = search needs
 
--- src/lib.rt:75:13
 add-i : tie.Need-add-i Inv-loop μ-loop
 add-i c = search needs
 
--- src/lib.rt:66:5
 loop-less : tie.Need-loop-less Inv-loop μ-loop
 loop-less c = search needs
 
--- src/lib.rt:66:5
 loop-again : tie.Need-loop-again Inv-loop μ-loop
 loop-again c = search modes-laws
 
--- src/lib.rt:57:1
 same-length-2 : tie.Need-same-length-2 Inv-loop μ-loop
 same-length-2 c = search modes-laws
 
--- src/lib.rt:57:1
 returns-2 : tie.Need-returns-2 Inv-loop μ-loop
 returns-2 c = search modes-laws
 

@@ -6,19 +6,15 @@ use Rattle.power.proofs.power_within.Reads as reads
 use Rattle.power.proofs.power_within.Lts as lts
 use Rattle.power.proofs.grows_within.Reads as grows-within-reads
 
--- src/lib.rt:11:9
 returns : tie.Need-returns
 returns c = search powers
 
--- src/lib.rt:14:9
 returns-2 : tie.Need-returns-2
 returns-2 c = search powers
 
--- src/lib.rt:16:5
 grows-within-requires : tie.Need-grows-within-requires
 grows-within-requires c κs = search needs
 
--- src/lib.rt:7:1
 returns-3 : tie.Need-returns-3
 returns-3 c = search needs
 

@@ -5,11 +5,9 @@ use Rattle.power.proofs.times.Tie as tie
 use Rattle.power.proofs.times.Reads as reads
 use Rattle.power.proofs.times.Lts as lts
 
--- src/lib.rt:42:5
 mul-result : tie.Need-mul-result
 mul-result c = search powers
 
--- src/lib.rt:38:1
 returns : tie.Need-returns
 returns c = search needs
 

@@ -7,91 +7,69 @@ use Rattle.books.proofs.entries.read_entries.Lts as lts
 use Rattle.books.proofs.lengths.read_lengths.Reads as read-lengths-reads
 use Rattle.codespace.proofs.book.assign_codewords.Reads as assign-codewords-reads
 
--- src/entries.rt:19:11
 read-lengths-requires : tie.Need-read-lengths-requires
 read-lengths-requires c κs = search needs
 
--- src/entries.rt:20:23
 enum-known-z : tie.Need-enum-known-z
 enum-known-z c = search needs
 
--- src/entries.rt:21:20
 enum-known-next : tie.Need-enum-known-next
 enum-known-next c = search needs
 
--- src/entries.rt:21:35
 assign-codewords-requires : tie.Need-assign-codewords-requires
 assign-codewords-requires c κs = search needs
 
--- src/entries.rt:22:35
 enum-told : tie.Need-enum-told
 enum-told c = search needs
 
--- src/entries.rt:23:57
 enum-told-2 : tie.Need-enum-told-2
 enum-told-2 c = search needs
 
--- src/entries.rt:24:55
 enum-told-3 : tie.Need-enum-told-3
 enum-told-3 c = search needs
 
--- src/entries.rt:25:51
 enum-told-4 : tie.Need-enum-told-4
 enum-told-4 c = search needs
 
--- src/entries.rt:15:1
 same-length : tie.Need-same-length
 same-length c = search needs
 
--- src/entries.rt:15:1
 returns : tie.Need-returns
 returns c = entries-refused _ _ _ _ (c .before .before .before .before .before .read-lengths .ensures) (c .before .z .given .1) _
 
--- src/entries.rt:15:1
 same-length-2 : tie.Need-same-length-2
 same-length-2 c = search needs
 
--- src/entries.rt:15:1
 same-length-3 : tie.Need-same-length-3
 same-length-3 c = search needs
 
--- src/entries.rt:15:1
 returns-2 : tie.Need-returns-2
 returns-2 c = entries-accepted _ _ _ _ (c .before .before .before .before .before .before .before .before .before .before .before .before .read-lengths .ensures) (c .before .before .before .before .before .before .before .before .next .given .1) _ (c .before .before .before .before .assign-codewords .ensures .0 .0) (search needs) (c .enum-told .given .1) (c .before .before .before .before .assign-codewords .ensures .0 .1)
 
--- src/entries.rt:15:1
 same-length-4 : tie.Need-same-length-4
 same-length-4 c = search needs
 
--- src/entries.rt:15:1
 same-length-5 : tie.Need-same-length-5
 same-length-5 c = search needs
 
--- src/entries.rt:15:1
 returns-3 : tie.Need-returns-3
 returns-3 c = entries-over _ _ _ _ (c .before .before .before .before .before .before .before .before .before .before .before .before .read-lengths .ensures) (c .before .before .before .before .before .before .before .before .next .given .1) _ (c .before .before .before .before .assign-codewords .ensures .0 .0) (search needs) (c .enum-told2 .given .1) _
 
--- src/entries.rt:15:1
 same-length-6 : tie.Need-same-length-6
 same-length-6 c = search needs
 
--- src/entries.rt:15:1
 same-length-7 : tie.Need-same-length-7
 same-length-7 c = search needs
 
--- src/entries.rt:15:1
 returns-4 : tie.Need-returns-4
 returns-4 c = entries-under _ _ _ _ (c .before .before .before .before .before .before .before .before .before .before .before .before .read-lengths .ensures) (c .before .before .before .before .before .before .before .before .next .given .1) _ (c .before .before .before .before .assign-codewords .ensures .0 .0) (search needs) (c .enum-told3 .given .1) _
 
--- src/entries.rt:15:1
 same-length-8 : tie.Need-same-length-8
 same-length-8 c = search needs
 
--- src/entries.rt:15:1
 same-length-9 : tie.Need-same-length-9
 same-length-9 c = search needs
 
--- src/entries.rt:15:1
 returns-5 : tie.Need-returns-5
 returns-5 c = entries-mismatched _ _ _ _ (c .before .before .before .before .before .before .before .before .before .before .before .before .read-lengths .ensures) (c .before .before .before .before .before .before .before .before .next .given .1) _ (c .before .before .before .before .assign-codewords .ensures .0 .0) (search needs) (c .enum-told4 .given .1) _
 

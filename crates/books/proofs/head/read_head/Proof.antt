@@ -6,79 +6,60 @@ use Rattle.books.proofs.head.read_head.Reads as reads
 use Rattle.books.proofs.head.read_head.Lts as lts
 use Rattle.bits.proofs.Cursor.field.Reads as field-reads
 
--- src/head.rt:27:11
 field-requires : tie.Need-field-requires
 field-requires c κs = search needs
 
--- src/head.rt:28:24
 enum-known-z : tie.Need-enum-known-z
 enum-known-z c = search needs
 
--- src/head.rt:29:22
 enum-known-pattern : tie.Need-enum-known-pattern
 enum-known-pattern c = search needs
 
--- src/head.rt:31:17
 returns : tie.Need-returns
 returns c = search head-laws
 
--- src/head.rt:33:19
 field-requires-2 : tie.Need-field-requires-2
 field-requires-2 c κs = search needs
 
--- src/head.rt:34:32
 enum-known-z-2 : tie.Need-enum-known-z-2
 enum-known-z-2 c = search needs
 
--- src/head.rt:35:30
 enum-known-dimensions : tie.Need-enum-known-dimensions
 enum-known-dimensions c = search needs
 
--- src/head.rt:37:25
 returns-2 : tie.Need-returns-2
 returns-2 c = search head-laws
 
--- src/head.rt:39:27
 field-requires-3 : tie.Need-field-requires-3
 field-requires-3 c κs = search needs
 
--- src/head.rt:40:40
 enum-known-z-3 : tie.Need-enum-known-z-3
 enum-known-z-3 c = search needs
 
--- src/head.rt:41:38
 enum-known-entries : tie.Need-enum-known-entries
 enum-known-entries c = search needs
 
--- src/head.rt:43:33
 returns-3 : tie.Need-returns-3
 returns-3 c = search head-laws
 
--- src/head.rt:46:33
 returns-4 : tie.Need-returns-4
 returns-4 c = search head-laws
 
--- src/head.rt:48:32
 sub-if5 : tie.Need-sub-if5
 sub-if5 c = search needs
 
--- src/head.rt:49:33
 returns-5 : tie.Need-returns-5
 returns-5 c = search head-laws
 
--- src/head.rt:23:1
 returns-6 : tie.Need-returns-6
 returns-6 c = search head-laws
 
--- src/head.rt:23:1
 returns-7 : tie.Need-returns-7
 returns-7 c = search head-laws
 
--- src/head.rt:23:1
 returns-8 : tie.Need-returns-8
 returns-8 c = search head-laws
 
--- src/head.rt:23:1
 returns-9 : tie.Need-returns-9
 returns-9 c = search head-laws
 

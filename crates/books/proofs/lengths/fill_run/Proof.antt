@@ -13,35 +13,27 @@ Inv-loop part₀ at number value i₀ part i = (at + number ≤ length part₀) 
 abbrev μ-loop : tie.MeasureT-loop
 μ-loop part₀ at number value i₀ part i = number - i
 
--- src/lengths.rt:85:5
 loop-holds : tie.Need-loop-holds Inv-loop μ-loop
 loop-holds c = search length-laws
 
--- src/lengths.rt:86:14
 add-part : tie.Need-add-part Inv-loop μ-loop
 add-part c = search needs
 
--- src/lengths.rt:86:9
 slice-write-part : tie.Need-slice-write-part Inv-loop μ-loop
 slice-write-part c = search needs
 
--- src/lengths.rt:87:9
 add-i : tie.Need-add-i Inv-loop μ-loop
 add-i c = search needs
 
--- src/lengths.rt:85:5
 loop-less : tie.Need-loop-less Inv-loop μ-loop
 loop-less c = search needs
 
--- src/lengths.rt:85:5
 loop-again : tie.Need-loop-again Inv-loop μ-loop
 loop-again c = search length-laws
 
--- src/lengths.rt:80:1
 same-length : tie.Need-same-length Inv-loop μ-loop
 same-length c = search needs
 
--- src/lengths.rt:80:1
 returns : tie.Need-returns Inv-loop μ-loop
 returns c = search length-laws
 

@@ -18,55 +18,42 @@ Inv-loop packet sparse part₀ at₀ i₀ part at i = Filling (entryLength spars
 abbrev μ-loop : tie.MeasureT-loop
 μ-loop packet sparse part₀ at₀ i₀ part at i = length part₀ - i
 
--- src/lengths.rt:50:5
 loop-holds : tie.Need-loop-holds Inv-loop μ-loop
 loop-holds c = filling-start _ _ _ _
 
--- src/lengths.rt:51:15
 read-length-requires : tie.Need-read-length-requires Inv-loop μ-loop
 read-length-requires c κs = search needs
 
--- src/lengths.rt:52:28
 enum-known-z : tie.Need-enum-known-z Inv-loop μ-loop
 enum-known-z c = search needs
 
--- src/lengths.rt:52:34
 same-length : tie.Need-same-length Inv-loop μ-loop
 same-length c = search needs
 
--- src/lengths.rt:52:34
 returns : tie.Need-returns Inv-loop μ-loop
 returns c = filling-refused _ _ _ _ (c .before .before .before .before .before .loop .inv) (search needs) (refused-is (c .before .before .before .read-length .ensures) (c .before .z .given .1)) _
 
--- src/lengths.rt:53:26
 enum-known-bits : tie.Need-enum-known-bits Inv-loop μ-loop
 enum-known-bits c = search needs
 
--- src/lengths.rt:54:27
 cast-part : tie.Need-cast-part Inv-loop μ-loop
 cast-part c = search length-laws
 
--- src/lengths.rt:54:17
 slice-write-part : tie.Need-slice-write-part Inv-loop μ-loop
 slice-write-part c = search needs
 
--- src/lengths.rt:56:17
 add-i : tie.Need-add-i Inv-loop μ-loop
 add-i c = search needs
 
--- src/lengths.rt:50:5
 loop-less : tie.Need-loop-less Inv-loop μ-loop
 loop-less c = search needs
 
--- src/lengths.rt:50:5
 loop-again : tie.Need-loop-again Inv-loop μ-loop
 loop-again c = filling-next _ _ _ _ (c .before .before .before .before .before .loop .inv) (search needs) (value-is (c .before .before .before .read-length .ensures) (c .before .bits .given .1))
 
--- src/lengths.rt:45:1
 same-length-2 : tie.Need-same-length-2 Inv-loop μ-loop
 same-length-2 c = search needs
 
--- src/lengths.rt:45:1
 returns-2 : tie.Need-returns-2 Inv-loop μ-loop
 returns-2 c = filling-done _ _ _ _ (c .before .loop .inv) (search needs)
 

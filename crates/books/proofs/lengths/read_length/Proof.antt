@@ -7,39 +7,30 @@ use Rattle.books.proofs.lengths.read_length.Lts as lts
 use Rattle.bits.proofs.Cursor.field.Reads as field-reads
 use Rattle.books.proofs.lengths.read_used.Reads as read-used-reads
 
--- src/lengths.rt:31:9
 read-used-requires : tie.Need-read-used-requires
 read-used-requires c κs = search needs
 
--- src/lengths.rt:31:9
 returns : tie.Need-returns
 returns c = search length-laws
 
--- src/lengths.rt:33:11
 field-requires : tie.Need-field-requires
 field-requires c κs = search length-laws
 
--- src/lengths.rt:34:24
 enum-known-z : tie.Need-enum-known-z
 enum-known-z c = search needs
 
--- src/lengths.rt:35:22
 enum-known-flag : tie.Need-enum-known-flag
 enum-known-flag c = search needs
 
--- src/lengths.rt:37:17
 returns-2 : tie.Need-returns-2
 returns-2 c = search length-laws
 
--- src/lengths.rt:39:13
 read-used-requires-2 : tie.Need-read-used-requires-2
 read-used-requires-2 c κs = search needs
 
--- src/lengths.rt:27:1
 returns-3 : tie.Need-returns-3
 returns-3 c = search length-laws
 
--- src/lengths.rt:27:1
 returns-4 : tie.Need-returns-4
 returns-4 c = search length-laws
 

@@ -8,43 +8,33 @@ use Rattle.bits.proofs.Cursor.field.Reads as field-reads
 use Rattle.books.proofs.lengths.read_ordered.Reads as read-ordered-reads
 use Rattle.books.proofs.lengths.read_unordered.Reads as read-unordered-reads
 
--- src/lengths.rt:142:11
 field-requires : tie.Need-field-requires
 field-requires c κs = search needs
 
--- src/lengths.rt:143:24
 enum-known-z : tie.Need-enum-known-z
 enum-known-z c = search needs
 
--- src/lengths.rt:144:22
 enum-known-ordered : tie.Need-enum-known-ordered
 enum-known-ordered c = search needs
 
--- src/lengths.rt:146:17
 read-unordered-requires : tie.Need-read-unordered-requires
 read-unordered-requires c κs = search needs
 
--- src/lengths.rt:146:17
 same-length : tie.Need-same-length
 same-length c = search needs
 
--- src/lengths.rt:146:17
 returns : tie.Need-returns
 returns c = search length-laws
 
--- src/lengths.rt:148:13
 read-ordered-requires : tie.Need-read-ordered-requires
 read-ordered-requires c κs = search needs
 
--- src/lengths.rt:138:1
 returns-2 : tie.Need-returns-2
 returns-2 c = search length-laws
 
--- src/lengths.rt:138:1
 same-length-2 : tie.Need-same-length-2
 same-length-2 c = search needs
 
--- src/lengths.rt:138:1
 returns-3 : tie.Need-returns-3
 returns-3 c = search length-laws
 

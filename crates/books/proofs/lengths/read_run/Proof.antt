@@ -7,31 +7,24 @@ use Rattle.books.proofs.lengths.read_run.Lts as lts
 use Rattle.bits.proofs.Cursor.field.Reads as field-reads
 use Rattle.bits.proofs.ilog.ilog.Reads as ilog-reads
 
--- src/lengths.rt:67:9
 ilog-requires : tie.Need-ilog-requires
 ilog-requires c κs = search needs
 
--- src/lengths.rt:68:11
 field-requires : tie.Need-field-requires
 field-requires c κs = search length-laws
 
--- src/lengths.rt:69:24
 enum-known-z : tie.Need-enum-known-z
 enum-known-z c = search needs
 
--- src/lengths.rt:70:22
 enum-known-number : tie.Need-enum-known-number
 enum-known-number c = search needs
 
--- src/lengths.rt:72:17
 returns : tie.Need-returns
 returns c = search length-laws
 
--- src/lengths.rt:64:1
 returns-2 : tie.Need-returns-2
 returns-2 c = search length-laws
 
--- src/lengths.rt:64:1
 returns-3 : tie.Need-returns-3
 returns-3 c = search length-laws
 

@@ -17,87 +17,66 @@ Inv-loop packet place first part₀ at₀ bits₀ entry₀ part at bits entry = 
 abbrev μ-loop : tie.MeasureT-loop
 μ-loop packet place first part₀ at₀ bits₀ entry₀ part at bits entry = 33 - bits
 
--- src/lengths.rt:97:20
 add-bits : tie.Need-add-bits Inv-loop μ-loop
 add-bits c = search needs
 
--- src/lengths.rt:99:5
 loop-holds : tie.Need-loop-holds Inv-loop μ-loop
 loop-holds c = (search needs, running-start _ _ _ _ _ (search needs))
 
--- src/lengths.rt:101:13
 same-length : tie.Need-same-length Inv-loop μ-loop
 same-length c = search needs
 
--- src/lengths.rt:101:13
 returns : tie.Need-returns Inv-loop μ-loop
 returns c = running-long _ _ _ _ _ (c .before .before .loop .inv .1) (search needs) (c .if1 .taken) _
 
--- src/lengths.rt:103:37
 sub-read-run : tie.Need-sub-read-run Inv-loop μ-loop
 sub-read-run c = search needs
 
--- src/lengths.rt:103:36
 cast-read-run : tie.Need-cast-read-run Inv-loop μ-loop
 cast-read-run c = search needs
 
--- src/lengths.rt:103:15
 read-run-requires : tie.Need-read-run-requires Inv-loop μ-loop
 read-run-requires c κs = search needs
 
--- src/lengths.rt:104:28
 enum-known-z : tie.Need-enum-known-z Inv-loop μ-loop
 enum-known-z c = search needs
 
--- src/lengths.rt:104:34
 same-length-2 : tie.Need-same-length-2 Inv-loop μ-loop
 same-length-2 c = search needs
 
--- src/lengths.rt:104:34
 returns-2 : tie.Need-returns-2 Inv-loop μ-loop
 returns-2 c = running-refused _ _ _ _ _ (c .before .before .before .before .before .before .loop .inv .1) (search needs) (search needs) (c .before .before .before .read-run .ensures) (c .before .z .given .1) _
 
--- src/lengths.rt:105:26
 enum-known-number : tie.Need-enum-known-number Inv-loop μ-loop
 enum-known-number c = search needs
 
--- src/lengths.rt:106:39
 cast-fill-run : tie.Need-cast-fill-run Inv-loop μ-loop
 cast-fill-run c = search needs
 
--- src/lengths.rt:106:56
 cast-fill-run-2 : tie.Need-cast-fill-run-2 Inv-loop μ-loop
 cast-fill-run-2 c = search needs
 
--- src/lengths.rt:106:17
 fill-run-requires : tie.Need-fill-run-requires Inv-loop μ-loop
 fill-run-requires c κs = running-fits _ _ _ _ _ (c .before .before .before .before .before .before .before .loop .inv .1) (search needs) (search needs) (c .before .before .before .before .read-run .ensures) (c .before .before .number .given .1)
 
--- src/lengths.rt:107:26
 cast-entry : tie.Need-cast-entry Inv-loop μ-loop
 cast-entry c = search needs
 
--- src/lengths.rt:107:17
 add-entry : tie.Need-add-entry Inv-loop μ-loop
 add-entry c = search needs
 
--- src/lengths.rt:108:17
 add-bits-2 : tie.Need-add-bits-2 Inv-loop μ-loop
 add-bits-2 c = search needs
 
--- src/lengths.rt:99:5
 loop-less : tie.Need-loop-less Inv-loop μ-loop
 loop-less c = search needs
 
--- src/lengths.rt:99:5
 loop-again : tie.Need-loop-again Inv-loop μ-loop
 loop-again c = (search needs, running-next _ _ _ _ _ (c .before .before .before .before .before .before .before .before .before .before .loop .inv .1) (search needs) (search needs) (c .before .before .before .before .before .before .before .read-run .ensures) (c .before .before .before .before .before .number .given .1) _ (c .before .before .fill-run .ensures))
 
--- src/lengths.rt:92:1
 same-length-3 : tie.Need-same-length-3 Inv-loop μ-loop
 same-length-3 c = search needs
 
--- src/lengths.rt:92:1
 returns-3 : tie.Need-returns-3 Inv-loop μ-loop
 returns-3 c = running-done _ _ _ _ _ (c .before .loop .inv .1) (search needs)
 

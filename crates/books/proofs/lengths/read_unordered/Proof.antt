@@ -7,31 +7,24 @@ use Rattle.books.proofs.lengths.read_unordered.Lts as lts
 use Rattle.bits.proofs.Cursor.field.Reads as field-reads
 use Rattle.books.proofs.lengths.read_each.Reads as read-each-reads
 
--- src/lengths.rt:120:11
 field-requires : tie.Need-field-requires
 field-requires c κs = search needs
 
--- src/lengths.rt:121:24
 enum-known-z : tie.Need-enum-known-z
 enum-known-z c = search needs
 
--- src/lengths.rt:122:22
 enum-known-sparse : tie.Need-enum-known-sparse
 enum-known-sparse c = search needs
 
--- src/lengths.rt:122:39
 read-each-requires : tie.Need-read-each-requires
 read-each-requires c κs = search needs
 
--- src/lengths.rt:117:1
 returns : tie.Need-returns
 returns c = search length-laws
 
--- src/lengths.rt:117:1
 same-length : tie.Need-same-length
 same-length c = search needs
 
--- src/lengths.rt:117:1
 returns-2 : tie.Need-returns-2
 returns-2 c = search length-laws
 

@@ -6,27 +6,21 @@ use Rattle.books.proofs.lengths.read_used.Reads as reads
 use Rattle.books.proofs.lengths.read_used.Lts as lts
 use Rattle.bits.proofs.Cursor.field.Reads as field-reads
 
--- src/lengths.rt:20:11
 field-requires : tie.Need-field-requires
 field-requires c κs = search length-laws
 
--- src/lengths.rt:21:24
 enum-known-z : tie.Need-enum-known-z
 enum-known-z c = search needs
 
--- src/lengths.rt:22:22
 enum-known-bits : tie.Need-enum-known-bits
 enum-known-bits c = search needs
 
--- src/lengths.rt:22:50
 add-t8 : tie.Need-add-t8
 add-t8 c = search length-laws
 
--- src/lengths.rt:17:1
 returns : tie.Need-returns
 returns c = search length-laws
 
--- src/lengths.rt:17:1
 returns-2 : tie.Need-returns-2
 returns-2 c = search length-laws
 

@@ -9,55 +9,42 @@ use Rattle.books.proofs.lookup.read_values.Reads as read-values-reads
 use Rattle.books.proofs.lookup.value_count.Reads as value-count-reads
 use Rattle.books.proofs.lookup.without.Reads as without-reads
 
--- src/lookup.rt:133:11
 field-requires : tie.Need-field-requires
 field-requires c κs = search needs
 
--- src/lookup.rt:134:24
 enum-known-z : tie.Need-enum-known-z
 enum-known-z c = search needs
 
--- src/lookup.rt:134:30
 without-requires : tie.Need-without-requires
 without-requires c κs = search needs
 
--- src/lookup.rt:135:22
 enum-known-lookup : tie.Need-enum-known-lookup
 enum-known-lookup c = search needs
 
--- src/lookup.rt:137:17
 without-requires-2 : tie.Need-without-requires-2
 without-requires-2 c κs = search needs
 
--- src/lookup.rt:137:17
 returns : tie.Need-returns
 returns c = (type-past _ _ _ _ _ _ _ _ (c .before .before .before .before .before .field .ensures) (c .before .before .before .lookup .given .1) (c .before .if1 .taken) (c .without2 .ensures .0) _, search needs)
 
--- src/lookup.rt:140:17
 without-requires-3 : tie.Need-without-requires-3
 without-requires-3 c κs = search needs
 
--- src/lookup.rt:140:17
 returns-2 : tie.Need-returns-2
 returns-2 c = (type-none _ _ _ _ _ _ _ _ (c .before .before .before .before .before .before .field .ensures) (c .before .before .before .before .lookup .given .1) (c .before .before .if1 .left) (c .before .if2 .taken) (c .without3 .ensures .0) (c .without3 .ensures .1), search needs)
 
--- src/lookup.rt:142:17
 value-count-requires : tie.Need-value-count-requires
 value-count-requires c κs = search needs
 
--- src/lookup.rt:143:13
 read-values-requires : tie.Need-read-values-requires
 read-values-requires c κs = search needs
 
--- src/lookup.rt:128:1
 returns-3 : tie.Need-returns-3
 returns-3 c = (type-cut _ _ _ _ _ _ _ _ (c .before .before .before .before .field .ensures) (c .before .before .z .given .1) (c .without .ensures .0) _, search needs)
 
--- src/lookup.rt:128:1
 same-length : tie.Need-same-length
 same-length c = search needs
 
--- src/lookup.rt:128:1
 returns-4 : tie.Need-returns-4
 returns-4 c = (type-some _ _ _ _ _ _ _ _ (c .before .before .before .before .before .before .before .before .before .before .field .ensures) (c .before .before .before .before .before .before .before .before .lookup .given .1) (c .before .before .before .before .before .before .if1 .left) (c .before .before .before .before .before .if2 .left) (c .before .before .before .before .value-count .ensures) (c .before .before .read-values .ensures .0), c .before .before .read-values .ensures .1)
 

@@ -18,59 +18,45 @@ Inv-loop packet width part₀ at₀ i₀ part at i = Filling (field width) packe
 abbrev μ-loop : tie.MeasureT-loop
 μ-loop packet width part₀ at₀ i₀ part at i = length part₀ - i
 
--- src/lookup.rt:78:5
 loop-holds : tie.Need-loop-holds Inv-loop μ-loop
 loop-holds c = filling-start _ _ _ _
 
--- src/lookup.rt:79:15
 field-requires : tie.Need-field-requires Inv-loop μ-loop
 field-requires c κs = search needs
 
--- src/lookup.rt:80:28
 enum-known-z : tie.Need-enum-known-z Inv-loop μ-loop
 enum-known-z c = search needs
 
--- src/lookup.rt:80:34
 same-length : tie.Need-same-length Inv-loop μ-loop
 same-length c = search needs
 
--- src/lookup.rt:80:34
 returns : tie.Need-returns Inv-loop μ-loop
 returns c = filling-refused _ _ _ _ (c .before .before .before .before .before .loop .inv) (search needs) (refused-is (c .before .before .before .field .ensures) (c .before .z .given .1)) _
 
--- src/lookup.rt:81:26
 enum-known-multiplicand : tie.Need-enum-known-multiplicand Inv-loop μ-loop
 enum-known-multiplicand c = search needs
 
--- src/lookup.rt:82:27
 cast-part : tie.Need-cast-part Inv-loop μ-loop
 cast-part c = search lookup-laws
 
--- src/lookup.rt:82:17
 mul-part : tie.Need-mul-part Inv-loop μ-loop
 mul-part c = search needs
 
--- src/lookup.rt:82:17
 slice-write-part : tie.Need-slice-write-part Inv-loop μ-loop
 slice-write-part c = search needs
 
--- src/lookup.rt:84:17
 add-i : tie.Need-add-i Inv-loop μ-loop
 add-i c = search needs
 
--- src/lookup.rt:78:5
 loop-less : tie.Need-loop-less Inv-loop μ-loop
 loop-less c = search needs
 
--- src/lookup.rt:78:5
 loop-again : tie.Need-loop-again Inv-loop μ-loop
 loop-again c = filling-next _ _ _ _ (c .before .before .before .before .before .loop .inv) (search needs) (value-is (c .before .before .before .field .ensures) (c .before .multiplicand .given .1))
 
--- src/lookup.rt:72:1
 same-length-2 : tie.Need-same-length-2 Inv-loop μ-loop
 same-length-2 c = search needs
 
--- src/lookup.rt:72:1
 returns-2 : tie.Need-returns-2 Inv-loop μ-loop
 returns-2 c = filling-done _ _ _ _ (c .before .loop .inv) (search needs)
 

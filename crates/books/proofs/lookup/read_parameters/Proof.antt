@@ -6,75 +6,57 @@ use Rattle.books.proofs.lookup.read_parameters.Reads as reads
 use Rattle.books.proofs.lookup.read_parameters.Lts as lts
 use Rattle.bits.proofs.Cursor.field.Reads as field-reads
 
--- src/lookup.rt:44:11
 field-requires : tie.Need-field-requires
 field-requires c κs = search needs
 
--- src/lookup.rt:45:24
 enum-known-z : tie.Need-enum-known-z
 enum-known-z c = search needs
 
--- src/lookup.rt:46:22
 enum-known-minimum : tie.Need-enum-known-minimum
 enum-known-minimum c = search needs
 
--- src/lookup.rt:46:50
 field-requires-2 : tie.Need-field-requires-2
 field-requires-2 c κs = search needs
 
--- src/lookup.rt:47:28
 enum-known-z-2 : tie.Need-enum-known-z-2
 enum-known-z-2 c = search needs
 
--- src/lookup.rt:48:26
 enum-known-delta : tie.Need-enum-known-delta
 enum-known-delta c = search needs
 
--- src/lookup.rt:48:52
 field-requires-3 : tie.Need-field-requires-3
 field-requires-3 c κs = search needs
 
--- src/lookup.rt:49:32
 enum-known-z-3 : tie.Need-enum-known-z-3
 enum-known-z-3 c = search needs
 
--- src/lookup.rt:50:30
 enum-known-bits : tie.Need-enum-known-bits
 enum-known-bits c = search needs
 
--- src/lookup.rt:50:58
 field-requires-4 : tie.Need-field-requires-4
 field-requires-4 c κs = search needs
 
--- src/lookup.rt:51:36
 enum-known-z-4 : tie.Need-enum-known-z-4
 enum-known-z-4 c = search needs
 
--- src/lookup.rt:52:34
 enum-known-sequence : tie.Need-enum-known-sequence
 enum-known-sequence c = search needs
 
--- src/lookup.rt:53:83
 add-t23 : tie.Need-add-t23
 add-t23 c = search lookup-laws
 
--- src/lookup.rt:41:1
 returns : tie.Need-returns
 returns c = search lookup-laws
 
--- src/lookup.rt:41:1
 returns-2 : tie.Need-returns-2
 returns-2 c = search lookup-laws
 
--- src/lookup.rt:41:1
 returns-3 : tie.Need-returns-3
 returns-3 c = search lookup-laws
 
--- src/lookup.rt:41:1
 returns-4 : tie.Need-returns-4
 returns-4 c = search lookup-laws
 
--- src/lookup.rt:41:1
 returns-5 : tie.Need-returns-5
 returns-5 c = search lookup-laws
 

@@ -8,79 +8,60 @@ use Rattle.books.proofs.lookup.read_multiplicands.Reads as read-multipl
 use Rattle.books.proofs.lookup.read_parameters.Reads as read-parameters-reads
 use Rattle.books.proofs.lookup.without.Reads as without-reads
 
--- src/lookup.rt:104:11
 read-parameters-requires : tie.Need-read-parameters-requires
 read-parameters-requires c κs = search needs
 
--- src/lookup.rt:105:33
 enum-known-z : tie.Need-enum-known-z
 enum-known-z c = search needs
 
--- src/lookup.rt:105:39
 without-requires : tie.Need-without-requires
 without-requires c κs = search needs
 
--- src/lookup.rt:106:31
 enum-known-p : tie.Need-enum-known-p
 enum-known-p c = search needs
 
--- src/lookup.rt:107:18
 sub-if1 : tie.Need-sub-if1
 sub-if1 c = search needs
 
--- src/lookup.rt:107:17
 cast-if1 : tie.Need-cast-if1
 cast-if1 c = search needs
 
--- src/lookup.rt:108:17
 without-requires-2 : tie.Need-without-requires-2
 without-requires-2 c κs = search needs
 
--- src/lookup.rt:108:17
 returns : tie.Need-returns
 returns c = (values-past _ _ _ _ _ _ _ _ (c .before .before .before .before .before .read-parameters .ensures) (c .before .before .before .p .given .1) (c .before .if1 .taken) (c .without2 .ensures .0) _, search needs)
 
--- src/lookup.rt:111:23
 add-end : tie.Need-add-end
 add-end c = search needs
 
--- src/lookup.rt:112:25
 cast-width : tie.Need-cast-width
 cast-width c = search needs
 
--- src/lookup.rt:113:64
 mul-read-multiplicands : tie.Need-mul-read-multiplicands
 mul-read-multiplicands c = search needs
 
--- src/lookup.rt:113:64
 sub-read-multiplicands : tie.Need-sub-read-multiplicands
 sub-read-multiplicands c = search needs
 
--- src/lookup.rt:113:64
 part-read-multiplicands-start : tie.Need-part-read-multiplicands-start
 part-read-multiplicands-start c = search needs
 
--- src/lookup.rt:113:64
 part-read-multiplicands-end : tie.Need-part-read-multiplicands-end
 part-read-multiplicands-end c = search needs
 
--- src/lookup.rt:113:17
 read-multiplicands-requires : tie.Need-read-multiplicands-requires
 read-multiplicands-requires c κs = parameters-width _ _ (c .before .before .before .before .before .before .read-parameters .ensures) (c .before .before .before .before .p .given .1)
 
--- src/lookup.rt:121:24
 cast-t19 : tie.Need-cast-t19
 cast-t19 c = search needs
 
--- src/lookup.rt:99:1
 returns-2 : tie.Need-returns-2
 returns-2 c = (values-refused _ _ _ _ _ _ _ _ (c .before .before .before .before .read-parameters .ensures) (c .before .before .z .given .1) (c .without .ensures .0) _, search needs)
 
--- src/lookup.rt:99:1
 same-length : tie.Need-same-length
 same-length c = search needs
 
--- src/lookup.rt:99:1
 returns-3 : tie.Need-returns-3
 returns-3 c = (values-whole _ _ _ _ _ _ _ _ (c .before .before .before .before .before .before .before .before .before .read-parameters .ensures) (c .before .before .before .before .before .before .before .p .given .1) (search needs) (search needs) (search needs) (c .before .before .read-multiplicands .ensures) (search needs), search needs)
 

@@ -6,23 +6,18 @@ use Rattle.books.proofs.lookup.value_count.Reads as reads
 use Rattle.books.proofs.lookup.value_count.Lts as lts
 use Rattle.books.proofs.root.lookup1_values.Reads as lookup1-values-reads
 
--- src/lookup.rt:66:16
 lookup1-values-requires : tie.Need-lookup1-values-requires
 lookup1-values-requires c κs = search needs
 
--- src/lookup.rt:66:16
 cast-result : tie.Need-cast-result
 cast-result c = search needs
 
--- src/lookup.rt:66:9
 returns : tie.Need-returns
 returns c = search lookup-laws
 
--- src/lookup.rt:68:5
 mul-result : tie.Need-mul-result
 mul-result c = search lookup-laws
 
--- src/lookup.rt:62:1
 returns-2 : tie.Need-returns-2
 returns-2 c = search lookup-laws
 

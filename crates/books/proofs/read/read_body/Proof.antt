@@ -9,99 +9,75 @@ use Rattle.books.proofs.entries.read_entries.Reads as read-entries-read
 use Rattle.books.proofs.lookup.read_lookup.Reads as read-lookup-reads
 use Rattle.books.proofs.read.write_row.Reads as write-row-reads
 
--- src/read.rt:46:23
 cast-end : tie.Need-cast-end
 cast-end c = search needs
 
--- src/read.rt:46:15
 add-end : tie.Need-add-end
 add-end c = search needs
 
--- src/read.rt:47:45
 sub-read-entries : tie.Need-sub-read-entries
 sub-read-entries c = search needs
 
--- src/read.rt:47:45
 part-read-entries-start : tie.Need-part-read-entries-start
 part-read-entries-start c = search needs
 
--- src/read.rt:47:45
 part-read-entries-end : tie.Need-part-read-entries-end
 part-read-entries-end c = search needs
 
--- src/read.rt:47:71
 mul-read-entries : tie.Need-mul-read-entries
 mul-read-entries c = search needs
 
--- src/read.rt:47:71
 sub-read-entries-2 : tie.Need-sub-read-entries-2
 sub-read-entries-2 c = search needs
 
--- src/read.rt:47:71
 part-read-entries-start-2 : tie.Need-part-read-entries-start-2
 part-read-entries-start-2 c = search needs
 
--- src/read.rt:47:71
 part-read-entries-end-2 : tie.Need-part-read-entries-end-2
 part-read-entries-end-2 c = search needs
 
--- src/read.rt:47:11
 read-entries-requires : tie.Need-read-entries-requires
 read-entries-requires c κs = search needs
 
--- src/read.rt:48:23
 enum-known-z : tie.Need-enum-known-z
 enum-known-z c = search needs
 
--- src/read.rt:49:20
 enum-known-next : tie.Need-enum-known-next
 enum-known-next c = search needs
 
--- src/read.rt:50:17
 read-lookup-requires : tie.Need-read-lookup-requires
 read-lookup-requires c κs = search needs
 
--- src/read.rt:51:13
 write-row-requires : tie.Need-write-row-requires
 write-row-requires c κs = c .before .before .before .before .before .before .before .before .before .before .before .before .before .before .before .before .before .before .before .before .before .pre .few-books
 
--- src/read.rt:53:39
 add-t36 : tie.Need-add-t36
 add-t36 c = record { fits = omega (arith, c .before .before .before .before .before .before .before .before .before .before .before .before .before .before .before .before .before .before .before .before .before .before .before .before .before .pre .few-entries, c .before .before .before .before .before .before .before .before .before .before .before .before .before .before .before .before .before .before .before .before .before .before .before .before .before .pre .few-values, c .before .before .before .before .before .before .before .read-lookup .ensures .1) }
 
--- src/read.rt:53:71
 add-t37 : tie.Need-add-t37
 add-t37 c = record { fits = omega (arith, c .before .before .before .before .before .before .before .before .before .before .before .before .before .before .before .before .before .before .before .before .before .before .before .before .before .before .pre .few-entries, c .before .before .before .before .before .before .before .before .before .before .before .before .before .before .before .before .before .before .before .before .before .before .before .before .before .before .pre .few-values, c .before .before .before .before .before .before .before .before .read-lookup .ensures .1) }
 
--- src/read.rt:40:1
 same-length : tie.Need-same-length
 same-length c = search needs
 
--- src/read.rt:40:1
 same-length-2 : tie.Need-same-length-2
 same-length-2 c = search needs
 
--- src/read.rt:40:1
 returns : tie.Need-returns
 returns c = (body-refused _ _ _ _ _ _ _ _ _ _ _ _ (c .before .before .before .before .before .before .before .read-entries .ensures) (search needs) (c .before .z .given .1) _, (search needs, c .before .before .before .before .before .before .before .before .before .before .before .before .before .before .before .before .pre .values-within))
 
--- src/read.rt:40:1
 same-length-3 : tie.Need-same-length-3
 same-length-3 c = search needs
 
--- src/read.rt:40:1
 same-length-4 : tie.Need-same-length-4
 same-length-4 c = search needs
 
--- src/read.rt:40:1
 same-length-5 : tie.Need-same-length-5
 same-length-5 c = search needs
 
--- src/read.rt:40:1
 same-length-6 : tie.Need-same-length-6
 same-length-6 c = search needs
 
--- src/read.rt:40:1
 returns-2 : tie.Need-returns-2
 returns-2 c =
     let g = c .before .before .before .before .before .before .before .before .before .before .before .before .before .before .before .before .before .before .before .read-entries-arg .given in

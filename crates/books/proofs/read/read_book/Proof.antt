@@ -8,46 +8,36 @@ use Rattle.books.proofs.read.read_book.Lts as lts
 use Rattle.books.proofs.head.read_head.Reads as read-head-reads
 use Rattle.books.proofs.read.read_body.Reads as read-body-reads
 
--- src/read.rt:70:11
 read-head-requires : tie.Need-read-head-requires
 read-head-requires c κs = search needs
 
--- src/read.rt:71:27
 enum-known-z : tie.Need-enum-known-z
 enum-known-z c = search needs
 
--- src/read.rt:72:25
 enum-known-head : tie.Need-enum-known-head
 enum-known-head c = search needs
 
--- src/read.rt:73:13
 read-body-requires : tie.Need-read-body-requires
 read-body-requires c κs =
     let k = head-known _ _ _ _ (c .before .before .before .before .before .before .before .read-head .ensures) (c .before .before .before .before .before .head .given .1) in
     let a = c .before .before .before .before .before .before .before .before .before .before .before .before .before .pre in
     record { few-books = a .1 .few-books; lengths-fit = omega arith; words-fit = omega arith; few-entries = omega arith; values-within = a .1 .values-within; values-fit = a .0 .multiplicands-long; few-values = a .0 .few-values }
 
--- src/read.rt:65:1
 returns : tie.Need-returns
 returns c = (book-refused _ _ _ _ _ _ (c .before .before .before .read-head .ensures) (c .before .z .given .1) _, (c .before .before .before .before .before .before .before .before .before .pre .1 .entries-within, c .before .before .before .before .before .before .before .before .before .pre .1 .values-within))
 
--- src/read.rt:65:1
 same-length : tie.Need-same-length
 same-length c = search needs
 
--- src/read.rt:65:1
 same-length-2 : tie.Need-same-length-2
 same-length-2 c = search needs
 
--- src/read.rt:65:1
 same-length-3 : tie.Need-same-length-3
 same-length-3 c = search needs
 
--- src/read.rt:65:1
 same-length-4 : tie.Need-same-length-4
 same-length-4 c = search needs
 
--- src/read.rt:65:1
 returns-2 : tie.Need-returns-2
 returns-2 c =
     let k = head-known _ _ _ _ (c .before .before .before .before .before .before .before .before .before .before .before .before .before .before .before .before .read-head .ensures) (c .before .before .before .before .before .before .before .before .before .before .before .before .before .before .head .given .1) in

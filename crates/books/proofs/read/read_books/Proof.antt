@@ -20,75 +20,58 @@ abbrev μ-loop : tie.MeasureT-loop
 μ-loop packet count limits books₀ lengths₀ words₀ multiplicands₀ at₀ entries₀ values₀ index₀ books lengths words multiplicands at entries values index =
     count - index
 
--- src/read.rt:88:5
 loop-holds : tie.Need-loop-holds Inv-loop μ-loop
 loop-holds c = (c .before .before .before .before .before .pre .0, c .before .before .before .before .before .pre .1, books-start _ _ _ _ _ _ _ _)
 
--- src/read.rt:89:13
 read-book-requires : tie.Need-read-book-requires Inv-loop μ-loop
 read-book-requires c κs =
     let w = c .before .before .before .before .before .loop .inv .2 in
     (books-lent _ _ _ _ _ _ _ _ w (c .before .before .before .before .before .loop .inv .0), record { few-books = omega (arith, c .before .before .before .before .before .loop .inv .1, c .before .before .before .before .loop-test .taken); entries-within = w .entries-within; values-within = w .values-within })
 
--- src/read.rt:94:27
 enum-known-step : tie.Need-enum-known-step Inv-loop μ-loop
 enum-known-step c = search needs
 
--- src/read.rt:94:33
 same-length : tie.Need-same-length Inv-loop μ-loop
 same-length c = search needs
 
--- src/read.rt:94:33
 same-length-2 : tie.Need-same-length-2 Inv-loop μ-loop
 same-length-2 c = search needs
 
--- src/read.rt:94:33
 same-length-3 : tie.Need-same-length-3 Inv-loop μ-loop
 same-length-3 c = search needs
 
--- src/read.rt:94:33
 same-length-4 : tie.Need-same-length-4 Inv-loop μ-loop
 same-length-4 c = search needs
 
--- src/read.rt:94:33
 returns : tie.Need-returns Inv-loop μ-loop
 returns c = (books-refused _ _ _ _ _ _ _ _ (c .before .before .before .before .before .before .before .before .before .before .before .before .before .before .before .before .before .loop .inv .2) (c .before .before .before .before .before .before .before .before .before .before .before .before .before .before .before .before .loop-test .taken) (c .before .before .before .before .before .before .before .before .before .before .before .read-book .ensures .0) (c .before .step .given .1) _, c .before .before .before .before .before .before .before .before .before .before .before .read-book .ensures .1)
 
--- src/read.rt:95:24
 enum-known-step-2 : tie.Need-enum-known-step-2 Inv-loop μ-loop
 enum-known-step-2 c = search needs
 
--- src/read.rt:97:17
 add-index : tie.Need-add-index Inv-loop μ-loop
 add-index c = search needs
 
--- src/read.rt:88:5
 loop-less : tie.Need-loop-less Inv-loop μ-loop
 loop-less c = search needs
 
--- src/read.rt:88:5
 loop-again : tie.Need-loop-again Inv-loop μ-loop
 loop-again c =
     let k = c .before .before .before .before .before .before .before .before .before .before .before .read-book .kept in
     (c .before .before .before .before .before .before .before .before .before .before .before .before .before .before .before .before .before .loop .inv .0, c .before .before .before .before .before .before .before .before .before .before .before .before .before .before .before .before .before .loop .inv .1, books-next _ _ _ _ _ _ _ _ (c .before .before .before .before .before .before .before .before .before .before .before .before .before .before .before .before .before .loop .inv .2) (c .before .before .before .before .before .before .before .before .before .before .before .before .before .before .before .before .loop-test .taken) (c .before .before .before .before .before .before .before .before .before .before .before .read-book .ensures .0) (c .before .step2 .given .1) (omega arith) (omega arith) (omega arith) (omega arith) (c .before .before .before .before .before .before .before .before .before .before .before .read-book .ensures .1 .0) (c .before .before .before .before .before .before .before .before .before .before .before .read-book .ensures .1 .1))
 
--- src/read.rt:79:1
 same-length-5 : tie.Need-same-length-5 Inv-loop μ-loop
 same-length-5 c = search needs
 
--- src/read.rt:79:1
 same-length-6 : tie.Need-same-length-6 Inv-loop μ-loop
 same-length-6 c = search needs
 
--- src/read.rt:79:1
 same-length-7 : tie.Need-same-length-7 Inv-loop μ-loop
 same-length-7 c = search needs
 
--- src/read.rt:79:1
 same-length-8 : tie.Need-same-length-8 Inv-loop μ-loop
 same-length-8 c = search needs
 
--- src/read.rt:79:1
 returns-2 : tie.Need-returns-2 Inv-loop μ-loop
 returns-2 c = (books-done _ _ _ _ _ _ _ _ (c .before .loop .inv .2) (c .loop-test .left), (c .before .loop .inv .2 .entries-within, c .before .loop .inv .2 .values-within))
 

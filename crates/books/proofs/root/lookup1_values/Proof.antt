@@ -13,43 +13,33 @@ Inv-loop entries dimensions low₀ high₀ low high = Halving entries dimensions
 abbrev μ-loop : tie.MeasureT-loop
 μ-loop entries dimensions low₀ high₀ low high = high - low
 
--- src/root.rt:11:5
 loop-holds : tie.Need-loop-holds Inv-loop μ-loop
 loop-holds c = search halving
 
--- src/root.rt:12:30
 sub-middle : tie.Need-sub-middle Inv-loop μ-loop
 sub-middle c = search needs
 
--- src/root.rt:12:22
 sub-middle-2 : tie.Need-sub-middle-2 Inv-loop μ-loop
 sub-middle-2 c = search needs
 
--- src/root.rt:13:12
 power-within-requires : tie.Need-power-within-requires Inv-loop μ-loop
 power-within-requires c κs = search needs
 
--- src/root.rt:11:5
 loop-less : tie.Need-loop-less Inv-loop μ-loop
 loop-less c = search needs
 
--- src/root.rt:11:5
 loop-again : tie.Need-loop-again Inv-loop μ-loop
 loop-again c = search halving
 
--- src/root.rt:16:20
 sub-high : tie.Need-sub-high Inv-loop μ-loop
 sub-high c = search needs
 
--- src/root.rt:11:5
 loop-less-2 : tie.Need-loop-less-2 Inv-loop μ-loop
 loop-less-2 c = search needs
 
--- src/root.rt:11:5
 loop-again-2 : tie.Need-loop-again-2 Inv-loop μ-loop
 loop-again-2 c = search halving
 
--- src/root.rt:6:1
 returns : tie.Need-returns Inv-loop μ-loop
 returns c = search halving
 

@@ -21,75 +21,58 @@ Inv-loop lengths words blocks₀ entry₀ blocks entry = (length lengths ≡ len
 abbrev μ-loop : tie.MeasureT-loop
 μ-loop lengths words blocks₀ entry₀ blocks entry = length lengths - entry
 
--- src/book.rt:83:9
 returns : tie.Need-returns Inv-loop μ-loop
 returns c = not-coded _ _ (other-length _ _ (c .if1 .taken))
 
--- src/book.rt:85:9
 empty-requires : tie.Need-empty-requires Inv-loop μ-loop
 empty-requires c κs = search needs
 
--- src/book.rt:88:5
 loop-holds : tie.Need-loop-holds Inv-loop μ-loop
 loop-holds c = (c .before .before .if1 .left, assigning-start _ _ _ (c .before .empty .ensures .1))
 
--- src/book.rt:89:49
 shared-slice-read-entry-codeword : tie.Need-shared-slice-read-entry-codeword Inv-loop μ-loop
 shared-slice-read-entry-codeword c = search needs
 
--- src/book.rt:89:13
 entry-codeword-requires : tie.Need-entry-codeword-requires Inv-loop μ-loop
 entry-codeword-requires c κs = reached-length _ _ (c .before .before .before .loop .inv .1 .reached)
 
--- src/book.rt:90:26
 mul-wide : tie.Need-mul-wide Inv-loop μ-loop
 mul-wide c = search needs
 
--- src/book.rt:90:26
 shared-slice-read-wide : tie.Need-shared-slice-read-wide Inv-loop μ-loop
 shared-slice-read-wide c = search needs
 
--- src/book.rt:90:21
 wide-requires : tie.Need-wide-requires Inv-loop μ-loop
 wide-requires c κs = search needs
 
--- src/book.rt:91:13
 returns-2 : tie.Need-returns-2 Inv-loop μ-loop
 returns-2 c =
     not-coded _ _ (other-word _ _ _ _ _ (c .before .before .before .before .before .before .loop-test .taken) (c .before .before .before .before .before .before .before .loop .inv .1) (c .before .before .before .entry-codeword .ensures .0) (c .before .before .before .before .before .before .before .loop .inv .0) (c .before .wide .ensures) (c .if2 .taken))
 
--- src/book.rt:93:9
 add-entry : tie.Need-add-entry Inv-loop μ-loop
 add-entry c = search needs
 
--- src/book.rt:88:5
 loop-less : tie.Need-loop-less Inv-loop μ-loop
 loop-less c = search needs
 
--- src/book.rt:88:5
 loop-again : tie.Need-loop-again Inv-loop μ-loop
 loop-again c = (
   c .before .before .before .before .before .before .before .loop .inv .0,
   comparing-turn _ _ _ _ _ (c .before .before .before .before .before .before .loop-test .taken) (c .before .before .before .before .before .before .before .loop .inv .1) (c .before .before .before .entry-codeword .ensures .0) (c .before .before .before .before .before .before .before .loop .inv .0) (c .before .wide .ensures) (c .if2 .left) _ (c .before .before .before .entry-codeword .ensures .1),
 )
 
--- src/book.rt:95:8
 is-full-requires : tie.Need-is-full-requires Inv-loop μ-loop
 is-full-requires c κs = reached-length _ _ (c .before .before .loop .inv .1 .reached)
 
--- src/book.rt:96:9
 returns-3 : tie.Need-returns-3 Inv-loop μ-loop
 returns-3 c = is-coded _ _ (coded-full _ _ _ _ (c .before .before .before .loop-test .left) (c .before .before .before .before .loop .inv .1) (c .before .before .before .before .loop .inv .0) _ (c .before .is-full .ensures) (c .if3 .taken))
 
--- src/book.rt:98:8
 is-lone-requires : tie.Need-is-lone-requires Inv-loop μ-loop
 is-lone-requires c κs = search needs
 
--- src/book.rt:99:9
 returns-4 : tie.Need-returns-4 Inv-loop μ-loop
 returns-4 c = is-coded _ _ (coded-lone _ _ _ _ (c .before .before .before .before .before .loop-test .left) (c .before .before .before .before .before .before .loop .inv .1) (c .before .before .before .before .before .before .loop .inv .0) _ (c .before .is-lone .ensures) (c .if4 .taken))
 
--- src/book.rt:79:1
 returns-5 : tie.Need-returns-5 Inv-loop μ-loop
 returns-5 c =
     not-coded _ _ (coded-under _ _ _ _ (c .before .before .before .before .before .loop-test .left) (c .before .before .before .before .before .before .loop .inv .1) (c .before .before .before .before .before .before .loop .inv .0) _ _ (c .before .before .before .is-full .ensures) (c .before .before .if3 .left) (c .before .is-lone .ensures) (c .if4 .left))

@@ -7,47 +7,36 @@ use Rattle.mappings.proofs.counts.read_coupling_count.Lts as lts
 use Rattle.bits.proofs.Cursor.bit.Reads as bit-reads
 use Rattle.bits.proofs.Cursor.field.Reads as field-reads
 
--- src/counts.rt:30:11
 bit-requires : tie.Need-bit-requires
 bit-requires c κs = search needs
 
--- src/counts.rt:31:24
 enum-known-z : tie.Need-enum-known-z
 enum-known-z c = search needs
 
--- src/counts.rt:32:22
 enum-known-flag : tie.Need-enum-known-flag
 enum-known-flag c = search needs
 
--- src/counts.rt:34:17
 returns : tie.Need-returns
 returns c = search count-laws
 
--- src/counts.rt:36:19
 field-requires : tie.Need-field-requires
 field-requires c κs = search needs
 
--- src/counts.rt:37:32
 enum-known-z-2 : tie.Need-enum-known-z-2
 enum-known-z-2 c = search needs
 
--- src/counts.rt:38:30
 enum-known-number : tie.Need-enum-known-number
 enum-known-number c = search needs
 
--- src/counts.rt:38:60
 add-t14 : tie.Need-add-t14
 add-t14 c = search count-laws
 
--- src/counts.rt:27:1
 returns-2 : tie.Need-returns-2
 returns-2 c = search count-laws
 
--- src/counts.rt:27:1
 returns-3 : tie.Need-returns-3
 returns-3 c = search count-laws
 
--- src/counts.rt:27:1
 returns-4 : tie.Need-returns-4
 returns-4 c = search count-laws
 

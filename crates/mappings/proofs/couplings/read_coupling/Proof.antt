@@ -7,63 +7,48 @@ use Rattle.mappings.proofs.couplings.read_coupling.Lts as lts
 use Rattle.mappings.proofs.couplings.read_channel.Reads as read-channel-reads
 use Rattle.reading.proofs.buffers.write_u8.Reads as write-u8-reads
 
--- src/couplings.rt:41:11
 read-channel-requires : tie.Need-read-channel-requires
 read-channel-requires c κs = search needs
 
--- src/couplings.rt:42:24
 enum-known-z : tie.Need-enum-known-z
 enum-known-z c = search needs
 
--- src/couplings.rt:43:22
 enum-known-magnitude : tie.Need-enum-known-magnitude
 enum-known-magnitude c = search needs
 
--- src/couplings.rt:43:52
 read-channel-requires-2 : tie.Need-read-channel-requires-2
 read-channel-requires-2 c κs = search needs
 
--- src/couplings.rt:44:28
 enum-known-z-2 : tie.Need-enum-known-z-2
 enum-known-z-2 c = search needs
 
--- src/couplings.rt:45:26
 enum-known-angle : tie.Need-enum-known-angle
 enum-known-angle c = search needs
 
--- src/couplings.rt:47:21
 returns : tie.Need-returns
 returns c = search coupling-laws
 
--- src/couplings.rt:49:38
 cast-t19 : tie.Need-cast-t19
 cast-t19 c = search coupling-laws
 
--- src/couplings.rt:49:55
 cast-t20 : tie.Need-cast-t20
 cast-t20 c = search coupling-laws
 
--- src/couplings.rt:50:53
 slice-aggregate-write-u8 : tie.Need-slice-aggregate-write-u8
 slice-aggregate-write-u8 c = search needs
 
--- src/couplings.rt:50:17
 write-u8-requires : tie.Need-write-u8-requires
 write-u8-requires c κs = search needs
 
--- src/couplings.rt:34:1
 returns-2 : tie.Need-returns-2
 returns-2 c = search coupling-laws
 
--- src/couplings.rt:34:1
 returns-3 : tie.Need-returns-3
 returns-3 c = search coupling-laws
 
--- src/couplings.rt:34:1
 same-length : tie.Need-same-length
 same-length c = search needs
 
--- src/couplings.rt:34:1
 returns-4 : tie.Need-returns-4
 returns-4 c = search coupling-laws
 

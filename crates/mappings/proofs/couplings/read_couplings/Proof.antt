@@ -16,51 +16,39 @@ Inv-loop packet count channels row₀ k₀ i₀ at₀ row k i at = (1 ≤ channe
 abbrev μ-loop : tie.MeasureT-loop
 μ-loop packet count channels row₀ k₀ i₀ at₀ row k i at = count - i
 
--- src/couplings.rt:68:5
 loop-holds : tie.Need-loop-holds Inv-loop μ-loop
 loop-holds c = search filling
 
--- src/couplings.rt:69:15
 read-coupling-requires : tie.Need-read-coupling-requires Inv-loop μ-loop
 read-coupling-requires c κs = search needs
 
--- src/couplings.rt:70:27
 enum-known-z : tie.Need-enum-known-z Inv-loop μ-loop
 enum-known-z c = search needs
 
--- src/couplings.rt:71:17
 same-length : tie.Need-same-length Inv-loop μ-loop
 same-length c = search filling
 
--- src/couplings.rt:71:17
 returns : tie.Need-returns Inv-loop μ-loop
 returns c = fill-refused _ _ _ _ _ _ _ _ _ _ _ (c .before .before .before .before .before .before .before .before .loop .inv .4) (c .before .before .before .before .before .before .before .loop-test .taken) (c .before .before .before .before .before .read-coupling .ensures) (c .before .z .given .1) _
 
--- src/couplings.rt:73:24
 enum-known-next : tie.Need-enum-known-next Inv-loop μ-loop
 enum-known-next c = search needs
 
--- src/couplings.rt:77:14
 add-at : tie.Need-add-at Inv-loop μ-loop
 add-at c = search needs
 
--- src/couplings.rt:78:13
 add-i : tie.Need-add-i Inv-loop μ-loop
 add-i c = search needs
 
--- src/couplings.rt:68:5
 loop-less : tie.Need-loop-less Inv-loop μ-loop
 loop-less c = search needs
 
--- src/couplings.rt:68:5
 loop-again : tie.Need-loop-again Inv-loop μ-loop
 loop-again c = (search needs, search needs, search needs, search needs, fill-next _ _ _ _ _ _ _ _ _ _ _ (c .before .before .before .before .before .before .before .before .loop .inv .4) (c .before .before .before .before .before .before .before .loop-test .taken) (c .before .before .before .before .before .read-coupling .ensures) (c .before .next .given .1) (search needs))
 
--- src/couplings.rt:58:1
 same-length-2 : tie.Need-same-length-2 Inv-loop μ-loop
 same-length-2 c = search filling
 
--- src/couplings.rt:58:1
 returns-2 : tie.Need-returns-2 Inv-loop μ-loop
 returns-2 c = fill-done _ _ _ _ _ _ _ _ _ _ _ (c .before .loop .inv .4) (c .loop-test .left)
 

@@ -17,67 +17,51 @@ Inv-loop part count channels i₀ i = (count ≤ 256) × Finding (ValidCoupling 
 abbrev μ-loop : tie.MeasureT-loop
 μ-loop part count channels i₀ i = count - i
 
--- src/stand.rt:32:21
 mul-if1 : tie.Need-mul-if1 Inv-loop μ-loop
 mul-if1 c = search needs
 
--- src/stand.rt:33:9
 returns : tie.Need-returns Inv-loop μ-loop
 returns c = search coupling-stand-laws
 
--- src/stand.rt:36:5
 loop-holds : tie.Need-loop-holds Inv-loop μ-loop
 loop-holds c = search coupling-stand-laws
 
--- src/stand.rt:37:30
 mul-is-coupling : tie.Need-mul-is-coupling Inv-loop μ-loop
 mul-is-coupling c = search needs
 
--- src/stand.rt:37:25
 shared-slice-read-is-coupling : tie.Need-shared-slice-read-is-coupling Inv-loop μ-loop
 shared-slice-read-is-coupling c = search needs
 
--- src/stand.rt:37:43
 mul-is-coupling-2 : tie.Need-mul-is-coupling-2 Inv-loop μ-loop
 mul-is-coupling-2 c = search needs
 
--- src/stand.rt:37:43
 add-is-coupling : tie.Need-add-is-coupling Inv-loop μ-loop
 add-is-coupling c = search needs
 
--- src/stand.rt:37:38
 shared-slice-read-is-coupling-2 : tie.Need-shared-slice-read-is-coupling-2 Inv-loop μ-loop
 shared-slice-read-is-coupling-2 c = search needs
 
--- src/stand.rt:37:13
 is-coupling-requires : tie.Need-is-coupling-requires Inv-loop μ-loop
 is-coupling-requires c κs = search needs
 
--- src/stand.rt:38:13
 returns-2 : tie.Need-returns-2 Inv-loop μ-loop
 returns-2 c = search coupling-stand-laws
 
--- src/stand.rt:40:13
 add-i : tie.Need-add-i Inv-loop μ-loop
 add-i c = search needs
 
--- src/stand.rt:36:5
 loop-less : tie.Need-loop-less Inv-loop μ-loop
 loop-less c = search needs
 
--- src/stand.rt:36:5
 loop-again : tie.Need-loop-again Inv-loop μ-loop
 loop-again c = search coupling-stand-laws
 
--- src/stand.rt:42:36
 mul-zeros-u8 : tie.Need-mul-zeros-u8 Inv-loop μ-loop
 mul-zeros-u8 c = search needs
 
--- src/stand.rt:42:5
 zeros-u8-requires : tie.Need-zeros-u8-requires Inv-loop μ-loop
 zeros-u8-requires c κs = search needs
 
--- src/stand.rt:28:1
 returns-3 : tie.Need-returns-3 Inv-loop μ-loop
 returns-3 c = search coupling-stand-laws
 

@@ -14,71 +14,54 @@ Inv-loop mappings count known i₀ i = (count ≤ 64) × (known .channels ≤ 25
 abbrev μ-loop : tie.MeasureT-loop
 μ-loop mappings count known i₀ i = count - i
 
--- src/stand.rt:149:25
 mul-if1 : tie.Need-mul-if1 Inv-loop μ-loop
 mul-if1 c = search needs
 
--- src/stand.rt:150:9
 returns : tie.Need-returns Inv-loop μ-loop
 returns c = search stand-laws
 
--- src/stand.rt:153:5
 loop-holds : tie.Need-loop-holds Inv-loop μ-loop
 loop-holds c = search stand-laws
 
--- src/stand.rt:154:34
 mul-is-mapping : tie.Need-mul-is-mapping Inv-loop μ-loop
 mul-is-mapping c = search needs
 
--- src/stand.rt:154:43
 mul-is-mapping-2 : tie.Need-mul-is-mapping-2 Inv-loop μ-loop
 mul-is-mapping-2 c = search needs
 
--- src/stand.rt:154:43
 add-is-mapping : tie.Need-add-is-mapping Inv-loop μ-loop
 add-is-mapping c = search needs
 
--- src/stand.rt:154:24
 sub-is-mapping : tie.Need-sub-is-mapping Inv-loop μ-loop
 sub-is-mapping c = search needs
 
--- src/stand.rt:154:24
 part-is-mapping-start : tie.Need-part-is-mapping-start Inv-loop μ-loop
 part-is-mapping-start c = search needs
 
--- src/stand.rt:154:24
 part-is-mapping-end : tie.Need-part-is-mapping-end Inv-loop μ-loop
 part-is-mapping-end c = search needs
 
--- src/stand.rt:154:13
 is-mapping-requires : tie.Need-is-mapping-requires Inv-loop μ-loop
 is-mapping-requires c κs = search stand-laws
 
--- src/stand.rt:155:13
 returns-2 : tie.Need-returns-2 Inv-loop μ-loop
 returns-2 c = find-stop _ _ _ _ (c .before .before .before .before .loop .inv .2) (c .before .before .before .loop-test .taken) (c .before .is-mapping .ensures) (part-width (804 * c .before .before .before .before .loop .i) 804) (c .if2 .taken)
 
--- src/stand.rt:157:13
 add-i : tie.Need-add-i Inv-loop μ-loop
 add-i c = search needs
 
--- src/stand.rt:153:5
 loop-less : tie.Need-loop-less Inv-loop μ-loop
 loop-less c = search needs
 
--- src/stand.rt:153:5
 loop-again : tie.Need-loop-again Inv-loop μ-loop
 loop-again c = (search needs, search needs, find-next _ _ _ _ (c .before .before .before .before .loop .inv .2) (c .before .before .before .loop-test .taken) (c .before .is-mapping .ensures) (part-width (804 * c .before .before .before .before .loop .i) 804) (c .if2 .left))
 
--- src/stand.rt:159:40
 mul-zeros-u8 : tie.Need-mul-zeros-u8 Inv-loop μ-loop
 mul-zeros-u8 c = search needs
 
--- src/stand.rt:159:5
 zeros-u8-requires : tie.Need-zeros-u8-requires Inv-loop μ-loop
 zeros-u8-requires c κs = search needs
 
--- src/stand.rt:145:1
 returns-3 : tie.Need-returns-3 Inv-loop μ-loop
 returns-3 c = search stand-laws
 

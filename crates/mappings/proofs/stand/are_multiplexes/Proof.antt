@@ -14,43 +14,33 @@ Inv-loop part count submaps i₀ i = (count ≤ 256) × Numbers submaps count pa
 abbrev μ-loop : tie.MeasureT-loop
 μ-loop part count submaps i₀ i = count - i
 
--- src/stand.rt:60:9
 returns : tie.Need-returns Inv-loop μ-loop
 returns c = search multiplex-stand-laws
 
--- src/stand.rt:63:5
 loop-holds : tie.Need-loop-holds Inv-loop μ-loop
 loop-holds c = search multiplex-stand-laws
 
--- src/stand.rt:64:26
 shared-slice-read-is-multiplex : tie.Need-shared-slice-read-is-multiplex Inv-loop μ-loop
 shared-slice-read-is-multiplex c = search needs
 
--- src/stand.rt:64:13
 is-multiplex-requires : tie.Need-is-multiplex-requires Inv-loop μ-loop
 is-multiplex-requires c κs = search needs
 
--- src/stand.rt:65:13
 returns-2 : tie.Need-returns-2 Inv-loop μ-loop
 returns-2 c = search multiplex-stand-laws
 
--- src/stand.rt:67:13
 add-i : tie.Need-add-i Inv-loop μ-loop
 add-i c = search needs
 
--- src/stand.rt:63:5
 loop-less : tie.Need-loop-less Inv-loop μ-loop
 loop-less c = search needs
 
--- src/stand.rt:63:5
 loop-again : tie.Need-loop-again Inv-loop μ-loop
 loop-again c = search multiplex-stand-laws
 
--- src/stand.rt:69:5
 zeros-u8-requires : tie.Need-zeros-u8-requires Inv-loop μ-loop
 zeros-u8-requires c κs = search needs
 
--- src/stand.rt:55:1
 returns-3 : tie.Need-returns-3 Inv-loop μ-loop
 returns-3 c = search multiplex-stand-laws
 

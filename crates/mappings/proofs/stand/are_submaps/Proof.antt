@@ -17,67 +17,51 @@ Inv-loop part count known i₀ i = (count ≤ 16) × Finding (ValidSubmap known)
 abbrev μ-loop : tie.MeasureT-loop
 μ-loop part count known i₀ i = count - i
 
--- src/stand.rt:86:21
 mul-if1 : tie.Need-mul-if1 Inv-loop μ-loop
 mul-if1 c = search needs
 
--- src/stand.rt:87:9
 returns : tie.Need-returns Inv-loop μ-loop
 returns c = search submap-stand-laws
 
--- src/stand.rt:90:5
 loop-holds : tie.Need-loop-holds Inv-loop μ-loop
 loop-holds c = search submap-stand-laws
 
--- src/stand.rt:91:28
 mul-is-submap : tie.Need-mul-is-submap Inv-loop μ-loop
 mul-is-submap c = search needs
 
--- src/stand.rt:91:23
 shared-slice-read-is-submap : tie.Need-shared-slice-read-is-submap Inv-loop μ-loop
 shared-slice-read-is-submap c = search needs
 
--- src/stand.rt:91:41
 mul-is-submap-2 : tie.Need-mul-is-submap-2 Inv-loop μ-loop
 mul-is-submap-2 c = search needs
 
--- src/stand.rt:91:41
 add-is-submap : tie.Need-add-is-submap Inv-loop μ-loop
 add-is-submap c = search needs
 
--- src/stand.rt:91:36
 shared-slice-read-is-submap-2 : tie.Need-shared-slice-read-is-submap-2 Inv-loop μ-loop
 shared-slice-read-is-submap-2 c = search needs
 
--- src/stand.rt:91:13
 is-submap-requires : tie.Need-is-submap-requires Inv-loop μ-loop
 is-submap-requires c κs = search needs
 
--- src/stand.rt:92:13
 returns-2 : tie.Need-returns-2 Inv-loop μ-loop
 returns-2 c = search submap-stand-laws
 
--- src/stand.rt:94:13
 add-i : tie.Need-add-i Inv-loop μ-loop
 add-i c = search needs
 
--- src/stand.rt:90:5
 loop-less : tie.Need-loop-less Inv-loop μ-loop
 loop-less c = search needs
 
--- src/stand.rt:90:5
 loop-again : tie.Need-loop-again Inv-loop μ-loop
 loop-again c = search submap-stand-laws
 
--- src/stand.rt:96:36
 mul-zeros-u8 : tie.Need-mul-zeros-u8 Inv-loop μ-loop
 mul-zeros-u8 c = search needs
 
--- src/stand.rt:96:5
 zeros-u8-requires : tie.Need-zeros-u8-requires Inv-loop μ-loop
 zeros-u8-requires c κs = search needs
 
--- src/stand.rt:82:1
 returns-3 : tie.Need-returns-3 Inv-loop μ-loop
 returns-3 c = search submap-stand-laws
 

@@ -4,15 +4,12 @@ use Rattle.mappings.proofs.stand.is_coupling.Tie as tie
 use Rattle.mappings.proofs.stand.is_coupling.Reads as reads
 use Rattle.mappings.proofs.stand.is_coupling.Lts as lts
 
--- src/stand.rt:20:9
 returns : tie.Need-returns
 returns c = search number-laws
 
--- src/stand.rt:23:9
 returns-2 : tie.Need-returns-2
 returns-2 c = search number-laws
 
--- src/stand.rt:16:1
 returns-3 : tie.Need-returns-3
 returns-3 c = search number-laws
 

@@ -10,107 +10,81 @@ use Rattle.mappings.proofs.stand.are_submaps.Reads as are-submaps-reads
 use Rattle.mappings.proofs.stand.multiplex_count.Reads as multiplex-count-reads
 use Rattle.mappings.proofs.stand.two_places.Reads as two-places-reads
 
--- src/stand.rt:121:28
 shared-slice-read-two-places : tie.Need-shared-slice-read-two-places
 shared-slice-read-two-places c = search needs
 
--- src/stand.rt:121:36
 shared-slice-read-two-places-2 : tie.Need-shared-slice-read-two-places-2
 shared-slice-read-two-places-2 c = search needs
 
--- src/stand.rt:121:9
 two-places-requires : tie.Need-two-places-requires
 two-places-requires c κs = search needs
 
--- src/stand.rt:123:9
 returns : tie.Need-returns
 returns c = search row-laws
 
--- src/stand.rt:125:19
 shared-slice-read-submaps : tie.Need-shared-slice-read-submaps
 shared-slice-read-submaps c = search needs
 
--- src/stand.rt:127:9
 returns-2 : tie.Need-returns-2
 returns-2 c = submaps-none _ _ (c .before .before .before .before .before .before .before .pre .0) (c .before .before .before .before .before .before .before .pre .1) (c .before .before .before .two-places .ensures) (c .if2 .taken)
 
--- src/stand.rt:130:9
 returns-3 : tie.Need-returns-3
 returns-3 c = submaps-many _ _ (c .before .before .before .before .before .before .before .before .pre .0) (c .before .before .before .before .before .before .before .before .pre .1) (c .before .before .before .before .two-places .ensures) (c .if3 .taken)
 
--- src/stand.rt:132:8
 shared-slice-read-if4 : tie.Need-shared-slice-read-if4
 shared-slice-read-if4 c = search needs
 
--- src/stand.rt:133:9
 returns-4 : tie.Need-returns-4
 returns-4 c = place-used _ _ (c .before .before .before .before .before .before .before .before .before .before .pre .0) (c .before .before .before .before .before .before .before .before .before .before .pre .1) (c .before .before .before .before .before .before .two-places .ensures) (c .if4 .taken)
 
--- src/stand.rt:135:23
 sub-are-couplings : tie.Need-sub-are-couplings
 sub-are-couplings c = search needs
 
--- src/stand.rt:135:23
 part-are-couplings-start : tie.Need-part-are-couplings-start
 part-are-couplings-start c = search needs
 
--- src/stand.rt:135:23
 part-are-couplings-end : tie.Need-part-are-couplings-end
 part-are-couplings-end c = search needs
 
--- src/stand.rt:135:9
 are-couplings-requires : tie.Need-are-couplings-requires
 are-couplings-requires c κs = search needs
 
--- src/stand.rt:136:9
 returns-5 : tie.Need-returns-5
 returns-5 c = search row-laws
 
--- src/stand.rt:138:25
 sub-are-multiplexes : tie.Need-sub-are-multiplexes
 sub-are-multiplexes c = search needs
 
--- src/stand.rt:138:25
 part-are-multiplexes-start : tie.Need-part-are-multiplexes-start
 part-are-multiplexes-start c = search needs
 
--- src/stand.rt:138:25
 part-are-multiplexes-end : tie.Need-part-are-multiplexes-end
 part-are-multiplexes-end c = search needs
 
--- src/stand.rt:138:41
 multiplex-count-requires : tie.Need-multiplex-count-requires
 multiplex-count-requires c κs = search needs
 
--- src/stand.rt:138:9
 are-multiplexes-requires : tie.Need-are-multiplexes-requires
 are-multiplexes-requires c κs = search row-laws
 
--- src/stand.rt:139:9
 returns-6 : tie.Need-returns-6
 returns-6 c = search row-laws
 
--- src/stand.rt:141:17
 sub-are-submaps : tie.Need-sub-are-submaps
 sub-are-submaps c = search needs
 
--- src/stand.rt:141:17
 part-are-submaps-start : tie.Need-part-are-submaps-start
 part-are-submaps-start c = search needs
 
--- src/stand.rt:141:17
 part-are-submaps-end : tie.Need-part-are-submaps-end
 part-are-submaps-end c = search needs
 
--- src/stand.rt:141:33
 cast-are-submaps : tie.Need-cast-are-submaps
 cast-are-submaps c = search needs
 
--- src/stand.rt:141:5
 are-submaps-requires : tie.Need-are-submaps-requires
 are-submaps-requires c κs = search needs
 
--- src/stand.rt:117:1
 returns-7 : tie.Need-returns-7
 returns-7 c = search row-laws
 

@@ -4,11 +4,9 @@ use Rattle.mappings.proofs.stand.is_multiplex.Tie as tie
 use Rattle.mappings.proofs.stand.is_multiplex.Reads as reads
 use Rattle.mappings.proofs.stand.is_multiplex.Lts as lts
 
--- src/stand.rt:50:9
 returns : tie.Need-returns
 returns c = search number-laws
 
--- src/stand.rt:46:1
 returns-2 : tie.Need-returns-2
 returns-2 c = search number-laws
 

@@ -4,11 +4,9 @@ use Rattle.mappings.proofs.stand.is_submap.Tie as tie
 use Rattle.mappings.proofs.stand.is_submap.Reads as reads
 use Rattle.mappings.proofs.stand.is_submap.Lts as lts
 
--- src/stand.rt:77:9
 returns : tie.Need-returns
 returns c = search number-laws
 
--- src/stand.rt:73:1
 returns-2 : tie.Need-returns-2
 returns-2 c = search number-laws
 

@@ -4,11 +4,9 @@ use Rattle.mappings.proofs.stand.multiplex_count.Tie as tie
 use Rattle.mappings.proofs.stand.multiplex_count.Reads as reads
 use Rattle.mappings.proofs.stand.multiplex_count.Lts as lts
 
--- src/stand.rt:111:9
 returns : tie.Need-returns
 returns c = search count-known
 
--- src/stand.rt:107:1
 returns-2 : tie.Need-returns-2
 returns-2 c = search count-known
 

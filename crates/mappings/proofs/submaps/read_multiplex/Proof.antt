@@ -7,43 +7,33 @@ use Rattle.mappings.proofs.submaps.read_multiplex.Lts as lts
 use Rattle.bits.proofs.Cursor.field.Reads as field-reads
 use Rattle.reading.proofs.buffers.put_u8.Reads as put-u8-reads
 
--- src/submaps.rt:25:11
 field-requires : tie.Need-field-requires
 field-requires c κs = search needs
 
--- src/submaps.rt:26:24
 enum-known-z : tie.Need-enum-known-z
 enum-known-z c = search needs
 
--- src/submaps.rt:27:22
 enum-known-number : tie.Need-enum-known-number
 enum-known-number c = search needs
 
--- src/submaps.rt:29:17
 returns : tie.Need-returns
 returns c = search multiplex-laws
 
--- src/submaps.rt:31:48
 add-put-u8 : tie.Need-add-put-u8
 add-put-u8 c = search multiplex-laws
 
--- src/submaps.rt:31:47
 cast-put-u8 : tie.Need-cast-put-u8
 cast-put-u8 c = search multiplex-laws
 
--- src/submaps.rt:31:13
 put-u8-requires : tie.Need-put-u8-requires
 put-u8-requires c κs = search needs
 
--- src/submaps.rt:18:1
 returns-2 : tie.Need-returns-2
 returns-2 c = search multiplex-laws
 
--- src/submaps.rt:18:1
 same-length : tie.Need-same-length
 same-length c = search needs
 
--- src/submaps.rt:18:1
 returns-3 : tie.Need-returns-3
 returns-3 c = search multiplex-laws
 

@@ -7,83 +7,63 @@ use Rattle.mappings.proofs.submaps.read_submap.Lts as lts
 use Rattle.bits.proofs.Cursor.field.Reads as field-reads
 use Rattle.reading.proofs.buffers.write_u8.Reads as write-u8-reads
 
--- src/submaps.rt:85:11
 field-requires : tie.Need-field-requires
 field-requires c κs = search needs
 
--- src/submaps.rt:86:24
 enum-known-z : tie.Need-enum-known-z
 enum-known-z c = search needs
 
--- src/submaps.rt:87:25
 enum-known-at-floor : tie.Need-enum-known-at-floor
 enum-known-at-floor c = search needs
 
--- src/submaps.rt:87:44
 field-requires-2 : tie.Need-field-requires-2
 field-requires-2 c κs = search needs
 
--- src/submaps.rt:88:28
 enum-known-z-2 : tie.Need-enum-known-z-2
 enum-known-z-2 c = search needs
 
--- src/submaps.rt:89:26
 enum-known-floor : tie.Need-enum-known-floor
 enum-known-floor c = search needs
 
--- src/submaps.rt:91:21
 returns : tie.Need-returns
 returns c = search submap-laws
 
--- src/submaps.rt:93:23
 field-requires-3 : tie.Need-field-requires-3
 field-requires-3 c κs = search needs
 
--- src/submaps.rt:94:36
 enum-known-z-3 : tie.Need-enum-known-z-3
 enum-known-z-3 c = search needs
 
--- src/submaps.rt:95:34
 enum-known-residue : tie.Need-enum-known-residue
 enum-known-residue c = search needs
 
--- src/submaps.rt:97:29
 returns-2 : tie.Need-returns-2
 returns-2 c = search submap-laws
 
--- src/submaps.rt:99:46
 cast-t25 : tie.Need-cast-t25
 cast-t25 c = record { fits = byte-fits _ _ (c .before .before .before .before .before .before .before .before .before .before .before .field2 .ensures) (c .before .before .before .before .before .before .before .before .before .floor .given .1) }
 
--- src/submaps.rt:99:59
 cast-t26 : tie.Need-cast-t26
 cast-t26 c = record { fits = byte-fits _ _ (c .before .before .before .before .before .field3 .ensures) (c .before .before .before .residue .given .1) }
 
--- src/submaps.rt:100:61
 slice-aggregate-write-u8 : tie.Need-slice-aggregate-write-u8
 slice-aggregate-write-u8 c = search needs
 
--- src/submaps.rt:100:25
 write-u8-requires : tie.Need-write-u8-requires
 write-u8-requires c κs = search needs
 
--- src/submaps.rt:78:1
 returns-3 : tie.Need-returns-3
 returns-3 c = search submap-laws
 
--- src/submaps.rt:78:1
 returns-4 : tie.Need-returns-4
 returns-4 c = search submap-laws
 
--- src/submaps.rt:78:1
 returns-5 : tie.Need-returns-5
 returns-5 c = search submap-laws
 
--- src/submaps.rt:78:1
 same-length : tie.Need-same-length
 same-length c = search needs
 
--- src/submaps.rt:78:1
 returns-6 : tie.Need-returns-6
 returns-6 c = search submap-laws
 

@@ -16,51 +16,39 @@ Inv-loop packet count known row₀ k₀ i₀ at₀ row k i at = (count ≤ 16) �
 abbrev μ-loop : tie.MeasureT-loop
 μ-loop packet count known row₀ k₀ i₀ at₀ row k i at = count - i
 
--- src/submaps.rt:120:5
 loop-holds : tie.Need-loop-holds Inv-loop μ-loop
 loop-holds c = search filling
 
--- src/submaps.rt:121:15
 read-submap-requires : tie.Need-read-submap-requires Inv-loop μ-loop
 read-submap-requires c κs = search needs
 
--- src/submaps.rt:122:27
 enum-known-z : tie.Need-enum-known-z Inv-loop μ-loop
 enum-known-z c = search needs
 
--- src/submaps.rt:123:17
 same-length : tie.Need-same-length Inv-loop μ-loop
 same-length c = search filling
 
--- src/submaps.rt:123:17
 returns : tie.Need-returns Inv-loop μ-loop
 returns c = fill-refused _ _ _ _ _ _ _ _ _ _ _ (c .before .before .before .before .before .before .before .before .loop .inv .2) (c .before .before .before .before .before .before .before .loop-test .taken) (c .before .before .before .before .before .read-submap .ensures) (c .before .z .given .1) _
 
--- src/submaps.rt:125:24
 enum-known-next : tie.Need-enum-known-next Inv-loop μ-loop
 enum-known-next c = search needs
 
--- src/submaps.rt:129:14
 add-at : tie.Need-add-at Inv-loop μ-loop
 add-at c = search needs
 
--- src/submaps.rt:130:13
 add-i : tie.Need-add-i Inv-loop μ-loop
 add-i c = search needs
 
--- src/submaps.rt:120:5
 loop-less : tie.Need-loop-less Inv-loop μ-loop
 loop-less c = search needs
 
--- src/submaps.rt:120:5
 loop-again : tie.Need-loop-again Inv-loop μ-loop
 loop-again c = (search needs, search needs, fill-next _ _ _ _ _ _ _ _ _ _ _ (c .before .before .before .before .before .before .before .before .loop .inv .2) (c .before .before .before .before .before .before .before .loop-test .taken) (c .before .before .before .before .before .read-submap .ensures) (c .before .next .given .1) (search needs))
 
--- src/submaps.rt:110:1
 same-length-2 : tie.Need-same-length-2 Inv-loop μ-loop
 same-length-2 c = search filling
 
--- src/submaps.rt:110:1
 returns-2 : tie.Need-returns-2 Inv-loop μ-loop
 returns-2 c = fill-done _ _ _ _ _ _ _ _ _ _ _ (c .before .loop .inv .2) (c .loop-test .left)
 

@@ -16,67 +16,51 @@ Inv-loop modes count mappings i₀ i = (count ≤ 64) × Finding (ValidMode mapp
 abbrev μ-loop : tie.MeasureT-loop
 μ-loop modes count mappings i₀ i = count - i
 
--- src/stand.rt:26:22
 mul-if1 : tie.Need-mul-if1 Inv-loop μ-loop
 mul-if1 c = search needs
 
--- src/stand.rt:27:9
 returns : tie.Need-returns Inv-loop μ-loop
 returns c = search stand-laws
 
--- src/stand.rt:30:5
 loop-holds : tie.Need-loop-holds Inv-loop μ-loop
 loop-holds c = search stand-laws
 
--- src/stand.rt:31:27
 mul-is-mode : tie.Need-mul-is-mode Inv-loop μ-loop
 mul-is-mode c = search needs
 
--- src/stand.rt:31:21
 shared-slice-read-is-mode : tie.Need-shared-slice-read-is-mode Inv-loop μ-loop
 shared-slice-read-is-mode c = search needs
 
--- src/stand.rt:31:41
 mul-is-mode-2 : tie.Need-mul-is-mode-2 Inv-loop μ-loop
 mul-is-mode-2 c = search needs
 
--- src/stand.rt:31:41
 add-is-mode : tie.Need-add-is-mode Inv-loop μ-loop
 add-is-mode c = search needs
 
--- src/stand.rt:31:35
 shared-slice-read-is-mode-2 : tie.Need-shared-slice-read-is-mode-2 Inv-loop μ-loop
 shared-slice-read-is-mode-2 c = search needs
 
--- src/stand.rt:31:13
 is-mode-requires : tie.Need-is-mode-requires Inv-loop μ-loop
 is-mode-requires c κs = search needs
 
--- src/stand.rt:32:13
 returns-2 : tie.Need-returns-2 Inv-loop μ-loop
 returns-2 c = search stand-laws
 
--- src/stand.rt:34:13
 add-i : tie.Need-add-i Inv-loop μ-loop
 add-i c = search needs
 
--- src/stand.rt:30:5
 loop-less : tie.Need-loop-less Inv-loop μ-loop
 loop-less c = search needs
 
--- src/stand.rt:30:5
 loop-again : tie.Need-loop-again Inv-loop μ-loop
 loop-again c = search stand-laws
 
--- src/stand.rt:36:37
 mul-zeros-u8 : tie.Need-mul-zeros-u8 Inv-loop μ-loop
 mul-zeros-u8 c = search needs
 
--- src/stand.rt:36:5
 zeros-u8-requires : tie.Need-zeros-u8-requires Inv-loop μ-loop
 zeros-u8-requires c κs = search needs
 
--- src/stand.rt:22:1
 returns-3 : tie.Need-returns-3 Inv-loop μ-loop
 returns-3 c = search stand-laws
 

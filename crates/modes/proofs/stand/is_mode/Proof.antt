@@ -4,11 +4,9 @@ use Rattle.modes.proofs.stand.is_mode.Tie as tie
 use Rattle.modes.proofs.stand.is_mode.Reads as reads
 use Rattle.modes.proofs.stand.is_mode.Lts as lts
 
--- src/stand.rt:16:9
 returns : tie.Need-returns
 returns c = search number-laws
 
--- src/stand.rt:12:1
 returns-2 : tie.Need-returns-2
 returns-2 c = search number-laws
 

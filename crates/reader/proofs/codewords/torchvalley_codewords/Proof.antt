@@ -7,19 +7,15 @@ use Rattle.reader.proofs.codewords.torchvalley_codewords.Lts as lts
 use Rattle.codespace.proofs.book.assign_codewords.Reads as assign-codewords-reads
 use Rattle.reader.proofs.codewords.number_of.Reads as number-of-reads
 
--- src/codewords.rt:14:15
 assign-codewords-requires : tie.Need-assign-codewords-requires
 assign-codewords-requires c κs = search needs
 
--- src/codewords.rt:14:5
 number-of-requires : tie.Need-number-of-requires
 number-of-requires c κs = search needs
 
--- src/codewords.rt:9:1
 same-length : tie.Need-same-length
 same-length c = search needs
 
--- src/codewords.rt:9:1
 returns : tie.Need-returns
 returns c = codewords-answer _ _ _ _ _ (c .before .before .before .assign-codewords .ensures .0 .0) (c .before .before .before .assign-codewords .ensures .0 .1) (c .number-of .ensures)
 

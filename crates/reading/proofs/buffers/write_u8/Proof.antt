@@ -14,43 +14,33 @@ Inv-loop buffer₀ at values i₀ buffer i = (at < length buffer₀) × Writing 
 abbrev μ-loop : tie.MeasureT-loop
 μ-loop buffer₀ at values i₀ buffer i = length values - i
 
--- src/buffers.rt:119:9
 returns : tie.Need-returns Inv-loop μ-loop
 returns c = search writing
 
--- src/buffers.rt:122:5
 loop-holds : tie.Need-loop-holds Inv-loop μ-loop
 loop-holds c = search writing
 
--- src/buffers.rt:123:24
 add-put-u8 : tie.Need-add-put-u8 Inv-loop μ-loop
 add-put-u8 c = search needs
 
--- src/buffers.rt:123:32
 shared-slice-read-put-u8 : tie.Need-shared-slice-read-put-u8 Inv-loop μ-loop
 shared-slice-read-put-u8 c = search needs
 
--- src/buffers.rt:123:9
 put-u8-requires : tie.Need-put-u8-requires Inv-loop μ-loop
 put-u8-requires c κs = search needs
 
--- src/buffers.rt:124:9
 add-i : tie.Need-add-i Inv-loop μ-loop
 add-i c = search needs
 
--- src/buffers.rt:122:5
 loop-less : tie.Need-loop-less Inv-loop μ-loop
 loop-less c = search needs
 
--- src/buffers.rt:122:5
 loop-again : tie.Need-loop-again Inv-loop μ-loop
 loop-again c = search writing
 
--- src/buffers.rt:115:1
 same-length : tie.Need-same-length Inv-loop μ-loop
 same-length c = search writing
 
--- src/buffers.rt:115:1
 returns-2 : tie.Need-returns-2 Inv-loop μ-loop
 returns-2 c = search writing
 

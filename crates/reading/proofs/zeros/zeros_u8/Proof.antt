@@ -13,31 +13,24 @@ Inv-loop buffer from i₀ i = Zeroing buffer from i
 abbrev μ-loop : tie.MeasureT-loop
 μ-loop buffer from i₀ i = length buffer - i
 
--- src/zeros.rt:12:5
 loop-holds : tie.Need-loop-holds Inv-loop μ-loop
 loop-holds c = search zeroing
 
--- src/zeros.rt:13:12
 shared-slice-read-if1 : tie.Need-shared-slice-read-if1 Inv-loop μ-loop
 shared-slice-read-if1 c = search needs
 
--- src/zeros.rt:14:13
 returns : tie.Need-returns Inv-loop μ-loop
 returns c = search zeroing
 
--- src/zeros.rt:16:13
 add-i : tie.Need-add-i Inv-loop μ-loop
 add-i c = search needs
 
--- src/zeros.rt:12:5
 loop-less : tie.Need-loop-less Inv-loop μ-loop
 loop-less c = search needs
 
--- src/zeros.rt:12:5
 loop-again : tie.Need-loop-again Inv-loop μ-loop
 loop-again c = search zeroing
 
--- src/zeros.rt:8:1
 returns-2 : tie.Need-returns-2 Inv-loop μ-loop
 returns-2 c = search zeroing
 

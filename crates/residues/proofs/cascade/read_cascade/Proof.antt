@@ -7,67 +7,51 @@ use Rattle.residues.proofs.cascade.read_cascade.Lts as lts
 use Rattle.bits.proofs.Cursor.bit.Reads as bit-reads
 use Rattle.bits.proofs.Cursor.field.Reads as field-reads
 
--- src/cascade.rt:21:11
 field-requires : tie.Need-field-requires
 field-requires c κs = search needs
 
--- src/cascade.rt:22:24
 enum-known-z : tie.Need-enum-known-z
 enum-known-z c = search needs
 
--- src/cascade.rt:23:22
 enum-known-low : tie.Need-enum-known-low
 enum-known-low c = search needs
 
--- src/cascade.rt:23:45
 bit-requires : tie.Need-bit-requires
 bit-requires c κs = search needs
 
--- src/cascade.rt:24:28
 enum-known-z-2 : tie.Need-enum-known-z-2
 enum-known-z-2 c = search needs
 
--- src/cascade.rt:25:26
 enum-known-flag : tie.Need-enum-known-flag
 enum-known-flag c = search needs
 
--- src/cascade.rt:27:21
 returns : tie.Need-returns
 returns c = search cascade-laws
 
--- src/cascade.rt:29:23
 field-requires-2 : tie.Need-field-requires-2
 field-requires-2 c κs = search needs
 
--- src/cascade.rt:30:36
 enum-known-z-3 : tie.Need-enum-known-z-3
 enum-known-z-3 c = search needs
 
--- src/cascade.rt:31:34
 enum-known-high : tie.Need-enum-known-high
 enum-known-high c = search needs
 
--- src/cascade.rt:31:62
 mul-t19 : tie.Need-mul-t19
 mul-t19 c = search cascade-laws
 
--- src/cascade.rt:31:62
 add-t20 : tie.Need-add-t20
 add-t20 c = search cascade-laws
 
--- src/cascade.rt:18:1
 returns-2 : tie.Need-returns-2
 returns-2 c = search cascade-laws
 
--- src/cascade.rt:18:1
 returns-3 : tie.Need-returns-3
 returns-3 c = search cascade-laws
 
--- src/cascade.rt:18:1
 returns-4 : tie.Need-returns-4
 returns-4 c = search cascade-laws
 
--- src/cascade.rt:18:1
 returns-5 : tie.Need-returns-5
 returns-5 c = search cascade-laws
 

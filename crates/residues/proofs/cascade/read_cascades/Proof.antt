@@ -13,47 +13,36 @@ Inv-loop packet classes numbers₀ at₀ i₀ numbers at i = Cascading packet cl
 abbrev μ-loop : tie.MeasureT-loop
 μ-loop packet classes numbers₀ at₀ i₀ numbers at i = classes - i
 
--- src/cascade.rt:45:5
 loop-holds : tie.Need-loop-holds Inv-loop μ-loop
 loop-holds c = search cascades-laws
 
--- src/cascade.rt:46:15
 read-cascade-requires : tie.Need-read-cascade-requires Inv-loop μ-loop
 read-cascade-requires c κs = search needs
 
--- src/cascade.rt:47:28
 enum-known-z : tie.Need-enum-known-z Inv-loop μ-loop
 enum-known-z c = search needs
 
--- src/cascade.rt:48:17
 returns : tie.Need-returns Inv-loop μ-loop
 returns c = search cascades-laws
 
--- src/cascade.rt:50:26
 enum-known-v : tie.Need-enum-known-v Inv-loop μ-loop
 enum-known-v c = search needs
 
--- src/cascade.rt:51:17
 mul-numbers : tie.Need-mul-numbers Inv-loop μ-loop
 mul-numbers c = search needs
 
--- src/cascade.rt:51:17
 array-write-numbers : tie.Need-array-write-numbers Inv-loop μ-loop
 array-write-numbers c = search needs
 
--- src/cascade.rt:55:13
 add-i : tie.Need-add-i Inv-loop μ-loop
 add-i c = search needs
 
--- src/cascade.rt:45:5
 loop-less : tie.Need-loop-less Inv-loop μ-loop
 loop-less c = search needs
 
--- src/cascade.rt:45:5
 loop-again : tie.Need-loop-again Inv-loop μ-loop
 loop-again c = search cascades-laws
 
--- src/cascade.rt:38:1
 returns-2 : tie.Need-returns-2 Inv-loop μ-loop
 returns-2 c = search cascades-laws
 

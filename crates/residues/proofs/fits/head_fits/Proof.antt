@@ -8,23 +8,18 @@ use Rattle.book.proofs.dimensions.Reads as dimensions-reads
 use Rattle.book.proofs.entries.Reads as entries-reads
 use Rattle.power.proofs.power_within.Reads as power-within-reads
 
--- src/fits.rt:23:9
 returns : tie.Need-returns
 returns c = search head-fits-laws
 
--- src/fits.rt:25:9
 dimensions-requires : tie.Need-dimensions-requires
 dimensions-requires c κs = search needs
 
--- src/fits.rt:26:9
 entries-requires : tie.Need-entries-requires
 entries-requires c κs = search needs
 
--- src/fits.rt:27:5
 power-within-requires : tie.Need-power-within-requires
 power-within-requires c κs = search needs
 
--- src/fits.rt:19:1
 returns-2 : tie.Need-returns-2
 returns-2 c = search head-fits-laws
 

@@ -7,39 +7,30 @@ use Rattle.residues.proofs.fits.place_fits.Lts as lts
 use Rattle.book.proofs.dimensions.Reads as dimensions-reads
 use Rattle.book.proofs.lookup.Reads as lookup-reads
 
--- src/fits.rt:35:9
 returns : tie.Need-returns
 returns c = search place-fits-laws
 
--- src/fits.rt:37:38
 sub-lookup : tie.Need-sub-lookup
 sub-lookup c = search needs
 
--- src/fits.rt:37:9
 lookup-requires : tie.Need-lookup-requires
 lookup-requires c κs = search needs
 
--- src/fits.rt:39:9
 returns-2 : tie.Need-returns-2
 returns-2 c = search place-fits-laws
 
--- src/fits.rt:41:46
 sub-dimensions : tie.Need-sub-dimensions
 sub-dimensions c = search needs
 
--- src/fits.rt:41:9
 dimensions-requires : tie.Need-dimensions-requires
 dimensions-requires c κs = search needs
 
--- src/fits.rt:43:9
 returns-3 : tie.Need-returns-3
 returns-3 c = search place-fits-laws
 
--- src/fits.rt:45:5
 rem-result : tie.Need-rem-result
 rem-result c = search needs
 
--- src/fits.rt:31:1
 returns-4 : tie.Need-returns-4
 returns-4 c = search place-fits-laws
 

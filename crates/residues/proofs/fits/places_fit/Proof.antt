@@ -16,47 +16,36 @@ Inv-loop places from to size books i₀ i = Testing (placeFits (booksOf 0 books)
 abbrev μ-loop : tie.MeasureT-loop
 μ-loop places from to size books i₀ i = to - i
 
--- src/fits.rt:53:5
 loop-holds : tie.Need-loop-holds Inv-loop μ-loop
 loop-holds c = search testing-laws
 
--- src/fits.rt:55:13
 returns : tie.Need-returns Inv-loop μ-loop
 returns c = search testing-laws
 
--- src/fits.rt:57:26
 mul-wide : tie.Need-mul-wide Inv-loop μ-loop
 mul-wide c = search needs
 
--- src/fits.rt:57:26
 shared-slice-read-wide : tie.Need-shared-slice-read-wide Inv-loop μ-loop
 shared-slice-read-wide c = search needs
 
--- src/fits.rt:57:13
 wide-requires : tie.Need-wide-requires Inv-loop μ-loop
 wide-requires c κs = search needs
 
--- src/fits.rt:58:13
 place-fits-requires : tie.Need-place-fits-requires Inv-loop μ-loop
 place-fits-requires c κs = search needs
 
--- src/fits.rt:59:13
 returns-2 : tie.Need-returns-2 Inv-loop μ-loop
 returns-2 c = search testing-laws
 
--- src/fits.rt:61:13
 add-i : tie.Need-add-i Inv-loop μ-loop
 add-i c = search needs
 
--- src/fits.rt:53:5
 loop-less : tie.Need-loop-less Inv-loop μ-loop
 loop-less c = search needs
 
--- src/fits.rt:53:5
 loop-again : tie.Need-loop-again Inv-loop μ-loop
 loop-again c = search testing-laws
 
--- src/fits.rt:49:1
 returns-3 : tie.Need-returns-3 Inv-loop μ-loop
 returns-3 c = search testing-laws
 

@@ -15,43 +15,33 @@ Inv-loop classes size books plan i₀ i = TestingRows (placeFits (booksOf 0 book
 abbrev μ-loop : tie.MeasureT-loop
 μ-loop classes size books plan i₀ i = classes - i
 
--- src/fits.rt:73:5
 loop-holds : tie.Need-loop-holds Inv-loop μ-loop
 loop-holds c = search rows-laws
 
--- src/fits.rt:74:19
 mul-row : tie.Need-mul-row Inv-loop μ-loop
 mul-row c = search needs
 
--- src/fits.rt:74:19
 array-copy-out-row : tie.Need-array-copy-out-row Inv-loop μ-loop
 array-copy-out-row c = search needs
 
--- src/fits.rt:75:24
 slice-aggregate-places-fit : tie.Need-slice-aggregate-places-fit Inv-loop μ-loop
 slice-aggregate-places-fit c = search rows-laws
 
--- src/fits.rt:75:13
 places-fit-requires : tie.Need-places-fit-requires Inv-loop μ-loop
 places-fit-requires c κs = search needs
 
--- src/fits.rt:76:13
 returns : tie.Need-returns Inv-loop μ-loop
 returns c = search rows-laws
 
--- src/fits.rt:78:13
 add-i : tie.Need-add-i Inv-loop μ-loop
 add-i c = search needs
 
--- src/fits.rt:73:5
 loop-less : tie.Need-loop-less Inv-loop μ-loop
 loop-less c = search needs
 
--- src/fits.rt:73:5
 loop-again : tie.Need-loop-again Inv-loop μ-loop
 loop-again c = search rows-laws
 
--- src/fits.rt:68:1
 returns-2 : tie.Need-returns-2 Inv-loop μ-loop
 returns-2 c = search rows-laws
 

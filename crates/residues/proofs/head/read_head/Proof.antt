@@ -7,63 +7,48 @@ use Rattle.residues.proofs.head.read_head.Lts as lts
 use Rattle.bits.proofs.Cursor.field.Reads as field-reads
 use Rattle.residues.proofs.head.read_head_from.Reads as read-head-from-reads
 
--- src/head.rt:28:11
 field-requires : tie.Need-field-requires
 field-requires c κs = search needs
 
--- src/head.rt:29:24
 enum-known-z : tie.Need-enum-known-z
 enum-known-z c = search needs
 
--- src/head.rt:30:22
 enum-known-kind : tie.Need-enum-known-kind
 enum-known-kind c = search needs
 
--- src/head.rt:32:17
 returns : tie.Need-returns
 returns c = search head-laws
 
--- src/head.rt:34:19
 field-requires-2 : tie.Need-field-requires-2
 field-requires-2 c κs = search needs
 
--- src/head.rt:35:32
 enum-known-z-2 : tie.Need-enum-known-z-2
 enum-known-z-2 c = search needs
 
--- src/head.rt:36:30
 enum-known-begin : tie.Need-enum-known-begin
 enum-known-begin c = search needs
 
--- src/head.rt:36:54
 field-requires-3 : tie.Need-field-requires-3
 field-requires-3 c κs = search needs
 
--- src/head.rt:37:36
 enum-known-z-3 : tie.Need-enum-known-z-3
 enum-known-z-3 c = search needs
 
--- src/head.rt:38:34
 enum-known-end : tie.Need-enum-known-end
 enum-known-end c = search needs
 
--- src/head.rt:38:51
 read-head-from-requires : tie.Need-read-head-from-requires
 read-head-from-requires c κs = search needs
 
--- src/head.rt:25:1
 returns-2 : tie.Need-returns-2
 returns-2 c = search head-laws
 
--- src/head.rt:25:1
 returns-3 : tie.Need-returns-3
 returns-3 c = search head-laws
 
--- src/head.rt:25:1
 returns-4 : tie.Need-returns-4
 returns-4 c = search head-laws
 
--- src/head.rt:25:1
 returns-5 : tie.Need-returns-5
 returns-5 c = search head-laws
 

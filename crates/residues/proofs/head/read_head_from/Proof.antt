@@ -6,67 +6,51 @@ use Rattle.residues.proofs.head.read_head_from.Reads as reads
 use Rattle.residues.proofs.head.read_head_from.Lts as lts
 use Rattle.bits.proofs.Cursor.field.Reads as field-reads
 
--- src/head.rt:49:11
 field-requires : tie.Need-field-requires
 field-requires c κs = search needs
 
--- src/head.rt:50:24
 enum-known-z : tie.Need-enum-known-z
 enum-known-z c = search needs
 
--- src/head.rt:51:22
 enum-known-size : tie.Need-enum-known-size
 enum-known-size c = search needs
 
--- src/head.rt:51:49
 field-requires-2 : tie.Need-field-requires-2
 field-requires-2 c κs = search needs
 
--- src/head.rt:52:28
 enum-known-z-2 : tie.Need-enum-known-z-2
 enum-known-z-2 c = search needs
 
--- src/head.rt:53:26
 enum-known-classes : tie.Need-enum-known-classes
 enum-known-classes c = search needs
 
--- src/head.rt:53:53
 field-requires-3 : tie.Need-field-requires-3
 field-requires-3 c κs = search needs
 
--- src/head.rt:54:32
 enum-known-z-3 : tie.Need-enum-known-z-3
 enum-known-z-3 c = search needs
 
--- src/head.rt:55:30
 enum-known-classbook : tie.Need-enum-known-classbook
 enum-known-classbook c = search needs
 
--- src/head.rt:57:25
 returns : tie.Need-returns
 returns c = search head-laws
 
--- src/head.rt:59:68
 add-t24 : tie.Need-add-t24
 add-t24 c = search head-laws
 
--- src/head.rt:59:95
 add-t25 : tie.Need-add-t25
 add-t25 c = search head-laws
 
--- src/head.rt:46:1
 returns-2 : tie.Need-returns-2
 returns-2 c = search head-laws
 
--- src/head.rt:46:1
 returns-3 : tie.Need-returns-3
 returns-3 c = search head-laws
 
--- src/head.rt:46:1
 returns-4 : tie.Need-returns-4
 returns-4 c = search head-laws
 
--- src/head.rt:46:1
 returns-5 : tie.Need-returns-5
 returns-5 c = search head-laws
 

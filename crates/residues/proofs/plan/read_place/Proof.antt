@@ -6,35 +6,27 @@ use Rattle.residues.proofs.plan.read_place.Reads as reads
 use Rattle.residues.proofs.plan.read_place.Lts as lts
 use Rattle.bits.proofs.Cursor.field.Reads as field-reads
 
--- src/plan.rt:33:9
 returns : tie.Need-returns
 returns c = search place-laws
 
--- src/plan.rt:35:11
 field-requires : tie.Need-field-requires
 field-requires c κs = search needs
 
--- src/plan.rt:36:24
 enum-known-z : tie.Need-enum-known-z
 enum-known-z c = search needs
 
--- src/plan.rt:37:22
 enum-known-book : tie.Need-enum-known-book
 enum-known-book c = search needs
 
--- src/plan.rt:39:17
 returns-2 : tie.Need-returns-2
 returns-2 c = search place-laws
 
--- src/plan.rt:41:26
 add-t13 : tie.Need-add-t13
 add-t13 c = search place-laws
 
--- src/plan.rt:29:1
 returns-3 : tie.Need-returns-3
 returns-3 c = search place-laws
 
--- src/plan.rt:29:1
 returns-4 : tie.Need-returns-4
 returns-4 c = search place-laws
 

@@ -13,59 +13,45 @@ Inv-loop packet count cascade books₀ at₀ j₀ books at j = RowFilling packet
 abbrev μ-loop : tie.MeasureT-loop
 μ-loop packet count cascade books₀ at₀ j₀ books at j = 8 - j
 
--- src/plan.rt:52:5
 loop-holds : tie.Need-loop-holds Inv-loop μ-loop
 loop-holds c = search row-laws
 
--- src/plan.rt:53:57
 cast-read-place : tie.Need-cast-read-place Inv-loop μ-loop
 cast-read-place c = search needs
 
--- src/plan.rt:53:46
 shr-read-place : tie.Need-shr-read-place Inv-loop μ-loop
 shr-read-place c = search needs
 
--- src/plan.rt:53:15
 read-place-requires : tie.Need-read-place-requires Inv-loop μ-loop
 read-place-requires c κs = search needs
 
--- src/plan.rt:54:28
 enum-known-z : tie.Need-enum-known-z Inv-loop μ-loop
 enum-known-z c = search needs
 
--- src/plan.rt:55:17
 returns : tie.Need-returns Inv-loop μ-loop
 returns c = search row-laws
 
--- src/plan.rt:57:26
 enum-known-v : tie.Need-enum-known-v Inv-loop μ-loop
 enum-known-v c = search needs
 
--- src/plan.rt:58:28
 cast-books : tie.Need-cast-books Inv-loop μ-loop
 cast-books c = search row-laws
 
--- src/plan.rt:58:17
 mul-books : tie.Need-mul-books Inv-loop μ-loop
 mul-books c = search needs
 
--- src/plan.rt:58:17
 array-write-books : tie.Need-array-write-books Inv-loop μ-loop
 array-write-books c = search needs
 
--- src/plan.rt:62:13
 add-j : tie.Need-add-j Inv-loop μ-loop
 add-j c = search needs
 
--- src/plan.rt:52:5
 loop-less : tie.Need-loop-less Inv-loop μ-loop
 loop-less c = search needs
 
--- src/plan.rt:52:5
 loop-again : tie.Need-loop-again Inv-loop μ-loop
 loop-again c = search row-laws
 
--- src/plan.rt:46:1
 returns-2 : tie.Need-returns-2 Inv-loop μ-loop
 returns-2 c = search row-laws
 

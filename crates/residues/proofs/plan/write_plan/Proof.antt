@@ -13,51 +13,39 @@ Inv-loop plans₀ at plan i₀ plans i = WritingRows plans₀ at plan plans i
 abbrev μ-loop : tie.MeasureT-loop
 μ-loop plans₀ at plan i₀ plans i = 64 - i
 
--- src/plan.rt:65:5
 loop-holds : tie.Need-loop-holds Inv-loop μ-loop
 loop-holds c = search writing-laws
 
--- src/plan.rt:66:19
 mul-row : tie.Need-mul-row Inv-loop μ-loop
 mul-row c = search needs
 
--- src/plan.rt:66:19
 array-copy-out-row : tie.Need-array-copy-out-row Inv-loop μ-loop
 array-copy-out-row c = search needs
 
--- src/plan.rt:67:49
 mul-write-u16 : tie.Need-mul-write-u16 Inv-loop μ-loop
 mul-write-u16 c = search needs
 
--- src/plan.rt:67:44
 add-write-u16 : tie.Need-add-write-u16 Inv-loop μ-loop
 add-write-u16 c = search needs
 
--- src/plan.rt:67:56
 slice-aggregate-write-u16 : tie.Need-slice-aggregate-write-u16 Inv-loop μ-loop
 slice-aggregate-write-u16 c = search writing-laws
 
--- src/plan.rt:67:9
 write-u16-requires : tie.Need-write-u16-requires Inv-loop μ-loop
 write-u16-requires c κs = search needs
 
--- src/plan.rt:68:13
 add-i : tie.Need-add-i Inv-loop μ-loop
 add-i c = search needs
 
--- src/plan.rt:65:5
 loop-less : tie.Need-loop-less Inv-loop μ-loop
 loop-less c = search needs
 
--- src/plan.rt:65:5
 loop-again : tie.Need-loop-again Inv-loop μ-loop
 loop-again c = search writing-laws
 
--- src/plan.rt:60:1
 same-length : tie.Need-same-length Inv-loop μ-loop
 same-length c = search needs
 
--- src/plan.rt:60:1
 returns : tie.Need-returns Inv-loop μ-loop
 returns c = search writing-laws
 

@@ -24,99 +24,75 @@ abbrev μ-loop : tie.MeasureT-loop
 μ-loop packet count head place books residues plans index cascades classes plan₀ at₀ i₀ plan at i =
     classes - i
 
--- src/read.rt:37:9
 wide-requires : tie.Need-wide-requires Inv-loop μ-loop
 wide-requires c κs = search needs
 
--- src/read.rt:42:5
 loop-holds : tie.Need-loop-holds Inv-loop μ-loop
 loop-holds c = planning-start _ _ _ _ _
 
--- src/read.rt:43:60
 mul-read-row : tie.Need-mul-read-row Inv-loop μ-loop
 mul-read-row c = search needs
 
--- src/read.rt:43:60
 array-read-read-row : tie.Need-array-read-read-row Inv-loop μ-loop
 array-read-read-row c = search needs
 
--- src/read.rt:43:13
 read-row-requires : tie.Need-read-row-requires Inv-loop μ-loop
 read-row-requires c κs = search needs
 
--- src/read.rt:46:27
 enum-known-step : tie.Need-enum-known-step Inv-loop μ-loop
 enum-known-step c = search needs
 
--- src/read.rt:47:17
 returns : tie.Need-returns Inv-loop μ-loop
 returns c = planning-refused _ _ _ _ _ (c .before .before .before .before .before .before .before .before .before .before .before .pre .2) (c .before .before .before .before .before .before .before .before .before .before .before .pre .1) (c .before .before .before .before .before .loop .inv) (omega (arith, c .before .before .before .before .before .before .wide .ensures)) (c .before .before .before .read-row .ensures) (c .before .before .before .before .before .before .before .before .before .before .before .args .books .now) (position (c .before .before .before .before .before .before .before .before .before .before .before .args .place)) (headOf (c .before .before .before .before .before .before .before .before .before .before .before .args .head)) (tablesAt (c .before .before .before .before .before .before .before .before .before .before .before .args .residues .now) (c .before .before .before .before .before .before .before .before .before .before .before .args .plans .now) (c .before .before .before .before .before .before .before .before .before .before .before .args .index)) (search needs) _
 
--- src/read.rt:49:24
 enum-known-step-2 : tie.Need-enum-known-step-2 Inv-loop μ-loop
 enum-known-step-2 c = search needs
 
--- src/read.rt:51:17
 mul-plan : tie.Need-mul-plan Inv-loop μ-loop
 mul-plan c = search needs
 
--- src/read.rt:51:17
 array-set-from-plan : tie.Need-array-set-from-plan Inv-loop μ-loop
 array-set-from-plan c = search needs
 
--- src/read.rt:55:13
 add-i : tie.Need-add-i Inv-loop μ-loop
 add-i c = search needs
 
--- src/read.rt:42:5
 loop-less : tie.Need-loop-less Inv-loop μ-loop
 loop-less c = search needs
 
--- src/read.rt:42:5
 loop-again : tie.Need-loop-again Inv-loop μ-loop
 loop-again c = planning-next _ _ _ _ _ (c .before .before .before .before .before .before .before .before .before .before .before .before .pre .2) (c .before .before .before .before .before .before .before .before .before .before .before .before .pre .1) (c .before .before .before .before .before .before .loop .inv) (omega (arith, c .before .before .before .before .before .before .before .wide .ensures)) (c .before .before .before .before .read-row .ensures) (search needs)
 
--- src/read.rt:57:9
 head-fits-requires : tie.Need-head-fits-requires Inv-loop μ-loop
 head-fits-requires c κs = search needs
 
--- src/read.rt:58:9
 returns-2 : tie.Need-returns-2 Inv-loop μ-loop
 returns-2 c = head-unfit _ _ _ _ _ (c .before .before .before .before .before .before .before .before .before .pre .2) (c .before .before .before .before .before .before .before .before .before .pre .1) (c .before .before .before .loop .inv) (omega (arith, c .before .before .before .before .wide .ensures)) (c .before .before .before .before .before .before .before .before .before .args .books .now) (c .before .before .before .before .before .before .before .before .before .args .place) (headOf (c .before .before .before .before .before .before .before .before .before .args .head)) (c .before .head-fits .ensures) (c .if1 .taken) (tablesAt (c .before .before .before .before .before .before .before .before .before .args .residues .now) (c .before .before .before .before .before .before .before .before .before .args .plans .now) (c .before .before .before .before .before .before .before .before .before .args .index)) _
 
--- src/read.rt:60:9
 plan-fits-requires : tie.Need-plan-fits-requires Inv-loop μ-loop
 plan-fits-requires c κs = search needs
 
--- src/read.rt:61:9
 returns-3 : tie.Need-returns-3 Inv-loop μ-loop
 returns-3 c = plan-unfit _ _ _ _ _ (c .before .before .before .before .before .before .before .before .before .before .before .pre .2) (c .before .before .before .before .before .before .before .before .before .before .before .pre .1) (c .before .before .before .before .before .loop .inv) (omega (arith, c .before .before .before .before .before .before .wide .ensures)) (c .before .before .before .before .before .before .before .before .before .before .before .args .books .now) (c .before .before .before .before .before .before .before .before .before .before .before .args .place) (headOf (c .before .before .before .before .before .before .before .before .before .before .before .args .head)) (c .before .before .before .head-fits .ensures) (c .before .before .if1 .left) (c .before .before .before .before .before .before .wide .ensures) (c .before .plan-fits .ensures) (c .if2 .taken) (tablesAt (c .before .before .before .before .before .before .before .before .before .before .before .args .residues .now) (c .before .before .before .before .before .before .before .before .before .before .before .args .plans .now) (c .before .before .before .before .before .before .before .before .before .before .before .args .index)) _
 
--- src/read.rt:63:26
 mul-write-head : tie.Need-mul-write-head Inv-loop μ-loop
 mul-write-head c = search needs
 
--- src/read.rt:63:5
 write-head-requires : tie.Need-write-head-requires Inv-loop μ-loop
 write-head-requires c κs = search needs
 
--- src/read.rt:64:36
 mul-write-plan : tie.Need-mul-write-plan Inv-loop μ-loop
 mul-write-plan c = search needs
 
--- src/read.rt:64:5
 write-plan-requires : tie.Need-write-plan-requires Inv-loop μ-loop
 write-plan-requires c κs = search needs
 
--- src/read.rt:33:1
 same-length : tie.Need-same-length Inv-loop μ-loop
 same-length c = search needs
 
--- src/read.rt:33:1
 same-length-2 : tie.Need-same-length-2 Inv-loop μ-loop
 same-length-2 c = search needs
 
--- src/read.rt:33:1
 returns-4 : tie.Need-returns-4 Inv-loop μ-loop
 returns-4 c = residue-written _ _ _ _ _ (c .before .before .before .before .before .before .before .before .before .before .before .before .before .before .before .before .before .before .before .pre .2) (c .before .before .before .before .before .before .before .before .before .before .before .before .before .before .before .before .before .before .before .pre .1) (c .before .before .before .before .before .before .before .before .before .before .before .before .before .loop .inv) (omega (arith, c .before .before .before .before .before .before .before .before .before .before .before .before .before .before .wide .ensures)) (c .before .before .before .before .before .before .before .before .before .before .before .before .before .before .before .before .before .before .before .args .books .now) (c .before .before .before .before .before .before .before .before .before .before .before .before .before .before .before .before .before .before .before .args .place) (headOf (c .before .before .before .before .before .before .before .before .before .before .before .before .before .before .before .before .before .before .before .args .head)) (c .before .before .before .before .before .before .before .before .before .before .before .head-fits .ensures) (c .before .before .before .before .before .before .before .before .before .before .if1 .left) (c .before .before .before .before .before .before .before .before .before .before .before .before .before .before .wide .ensures) (c .before .before .before .before .before .before .before .before .before .plan-fits .ensures) (c .before .before .before .before .before .before .before .before .if2 .left) (c .before .before .before .before .before .before .before .before .before .before .before .before .before .before .before .before .before .before .before .args .residues .now) (c .before .before .before .before .before .before .before .before .before .before .before .before .before .before .before .before .before .before .before .args .plans .now) (c .before .before .before .before .before .before .before .before .before .before .before .before .before .before .before .before .before .before .before .args .index) (c .before .before .before .before .before .before .write-head .ensures) (c .before .before .write-plan .ensures)
 

@@ -9,55 +9,42 @@ use Rattle.residues.proofs.head.read_head.Reads as read-head-reads
 use Rattle.residues.proofs.read.read_plan.Reads as read-plan-reads
 use Rattle.residues.proofs.read.wide.Reads as wide-reads
 
--- src/read.rt:73:11
 read-head-requires : tie.Need-read-head-requires
 read-head-requires c κs = search needs
 
--- src/read.rt:74:27
 enum-known-z : tie.Need-enum-known-z
 enum-known-z c = search needs
 
--- src/read.rt:75:25
 enum-known-head : tie.Need-enum-known-head
 enum-known-head c = search needs
 
--- src/read.rt:76:79
 wide-requires : tie.Need-wide-requires
 wide-requires c κs = search needs
 
--- src/read.rt:76:17
 read-cascades-requires : tie.Need-read-cascades-requires
 read-cascades-requires c κs = search residue-laws
 
--- src/read.rt:80:31
 enum-known-step : tie.Need-enum-known-step
 enum-known-step c = search needs
 
--- src/read.rt:81:28
 enum-known-step-2 : tie.Need-enum-known-step-2
 enum-known-step-2 c = search needs
 
--- src/read.rt:81:40
 read-plan-requires : tie.Need-read-plan-requires
 read-plan-requires c κs = search residue-laws
 
--- src/read.rt:69:1
 returns : tie.Need-returns
 returns c = search residue-laws
 
--- src/read.rt:69:1
 returns-2 : tie.Need-returns-2
 returns-2 c = search residue-laws
 
--- src/read.rt:69:1
 same-length : tie.Need-same-length
 same-length c = search needs
 
--- src/read.rt:69:1
 same-length-2 : tie.Need-same-length-2
 same-length-2 c = search needs
 
--- src/read.rt:69:1
 returns-3 : tie.Need-returns-3
 returns-3 c = search residue-laws
 

@@ -15,55 +15,42 @@ Inv-loop packet count books residues₀ plans₀ n at₀ i₀ residues plans at 
 abbrev μ-loop : tie.MeasureT-loop
 μ-loop packet count books residues₀ plans₀ n at₀ i₀ residues plans at i = n - i
 
--- src/read.rt:94:5
 loop-holds : tie.Need-loop-holds Inv-loop μ-loop
 loop-holds c = search residues-laws
 
--- src/read.rt:95:15
 read-residue-requires : tie.Need-read-residue-requires Inv-loop μ-loop
 read-residue-requires c κs = search needs
 
--- src/read.rt:96:27
 enum-known-z : tie.Need-enum-known-z Inv-loop μ-loop
 enum-known-z c = search needs
 
--- src/read.rt:97:17
 same-length : tie.Need-same-length Inv-loop μ-loop
 same-length c = search needs
 
--- src/read.rt:97:17
 same-length-2 : tie.Need-same-length-2 Inv-loop μ-loop
 same-length-2 c = search needs
 
--- src/read.rt:97:17
 returns : tie.Need-returns Inv-loop μ-loop
 returns c = (search residues-laws, accepted-valid _ _ _ _)
 
--- src/read.rt:99:24
 enum-known-next : tie.Need-enum-known-next Inv-loop μ-loop
 enum-known-next c = search needs
 
--- src/read.rt:103:13
 add-i : tie.Need-add-i Inv-loop μ-loop
 add-i c = search needs
 
--- src/read.rt:94:5
 loop-less : tie.Need-loop-less Inv-loop μ-loop
 loop-less c = search needs
 
--- src/read.rt:94:5
 loop-again : tie.Need-loop-again Inv-loop μ-loop
 loop-again c = search residues-laws
 
--- src/read.rt:88:1
 same-length-3 : tie.Need-same-length-3 Inv-loop μ-loop
 same-length-3 c = search needs
 
--- src/read.rt:88:1
 same-length-4 : tie.Need-same-length-4 Inv-loop μ-loop
 same-length-4 c = search needs
 
--- src/read.rt:88:1
 returns-2 : tie.Need-returns-2 Inv-loop μ-loop
 returns-2 c = (search residues-laws, accepted-valid _ _ _ _)
 

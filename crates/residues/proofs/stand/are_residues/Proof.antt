@@ -18,67 +18,51 @@ Inv-loop residues plans n count books i₀ i = Standing (booksOf count books) n 
 abbrev μ-loop : tie.MeasureT-loop
 μ-loop residues plans n count books i₀ i = n - i
 
--- src/stand.rt:135:9
 returns : tie.Need-returns Inv-loop μ-loop
 returns c = (short (booksOf (c .before .before .before .before .args .count) (c .before .before .before .before .args .books .now)) (c .before .before .before .before .args .n) (c .before .before .before .before .args .residues .now) (c .before .before .before .before .args .plans .now) (search needs), one-content (booksOf (c .before .before .before .before .args .count) (c .before .before .before .before .args .books .now)) (c .before .before .before .before .args .n) (c .before .before .before .before .args .residues .now) (c .before .before .before .before .args .plans .now) (c .before .before .before .before .pre))
 
--- src/stand.rt:138:9
 returns-2 : tie.Need-returns-2 Inv-loop μ-loop
 returns-2 c = (short-plans (booksOf (c .before .before .before .before .before .args .count) (c .before .before .before .before .before .args .books .now)) (c .before .before .before .before .before .args .n) (c .before .before .before .before .before .args .residues .now) (c .before .before .before .before .before .args .plans .now) (search needs), one-content (booksOf (c .before .before .before .before .before .args .count) (c .before .before .before .before .before .args .books .now)) (c .before .before .before .before .before .args .n) (c .before .before .before .before .before .args .residues .now) (c .before .before .before .before .before .args .plans .now) (c .before .before .before .before .before .pre))
 
--- src/stand.rt:141:5
 loop-holds : tie.Need-loop-holds Inv-loop μ-loop
 loop-holds c = standing-start _ _ _ _
 
--- src/stand.rt:142:13
 stands-requires : tie.Need-stands-requires Inv-loop μ-loop
 stands-requires c κs = search needs
 
--- src/stand.rt:143:13
 returns-3 : tie.Need-returns-3 Inv-loop μ-loop
 returns-3 c = (stand-iff (booksOf (c .before .before .before .before .before .before .before .before .before .args .count) (c .before .before .before .before .before .before .before .before .before .args .books .now)) (c .before .before .before .before .before .before .before .before .before .args .n) (c .before .before .before .before .before .before .before .before .before .args .residues .now) (c .before .before .before .before .before .before .before .before .before .args .plans .now) (c .before .before .before .before .before .before .before .before .before .pre) (search needs) (search needs) (standing-failed _ _ _ _ (c .before .before .before .loop .inv) (search needs) (c .before .stands .ensures) (c .if3 .taken)), one-content (booksOf (c .before .before .before .before .before .before .before .before .before .args .count) (c .before .before .before .before .before .before .before .before .before .args .books .now)) (c .before .before .before .before .before .before .before .before .before .args .n) (c .before .before .before .before .before .before .before .before .before .args .residues .now) (c .before .before .before .before .before .before .before .before .before .args .plans .now) (c .before .before .before .before .before .before .before .before .before .pre))
 
--- src/stand.rt:145:13
 add-i : tie.Need-add-i Inv-loop μ-loop
 add-i c = search needs
 
--- src/stand.rt:141:5
 loop-less : tie.Need-loop-less Inv-loop μ-loop
 loop-less c = search needs
 
--- src/stand.rt:141:5
 loop-again : tie.Need-loop-again Inv-loop μ-loop
 loop-again c = standing-next _ _ _ _ (c .before .before .before .loop .inv) (search needs) (c .before .stands .ensures) (c .if3 .left)
 
--- src/stand.rt:147:34
 wide-requires : tie.Need-wide-requires Inv-loop μ-loop
 wide-requires c κs = search needs
 
--- src/stand.rt:147:30
 mul-zeros-wide : tie.Need-mul-zeros-wide Inv-loop μ-loop
 mul-zeros-wide c = search needs
 
--- src/stand.rt:147:9
 zeros-wide-requires : tie.Need-zeros-wide-requires Inv-loop μ-loop
 zeros-wide-requires c κs = search needs
 
--- src/stand.rt:148:9
 returns-4 : tie.Need-returns-4 Inv-loop μ-loop
 returns-4 c = (stand-iff (booksOf (c .before .before .before .before .before .before .before .before .before .before .args .count) (c .before .before .before .before .before .before .before .before .before .before .args .books .now)) (c .before .before .before .before .before .before .before .before .before .before .args .n) (c .before .before .before .before .before .before .before .before .before .before .args .residues .now) (c .before .before .before .before .before .before .before .before .before .before .args .plans .now) (c .before .before .before .before .before .before .before .before .before .before .pre) (search needs) (search needs) (tail-failed _ _ _ _ (c .before .before .before .before .loop .inv) (search needs) (c .before .before .wide .ensures) (c .before .zeros-wide .ensures) (c .if4 .taken)), one-content (booksOf (c .before .before .before .before .before .before .before .before .before .before .args .count) (c .before .before .before .before .before .before .before .before .before .before .args .books .now)) (c .before .before .before .before .before .before .before .before .before .before .args .n) (c .before .before .before .before .before .before .before .before .before .before .args .residues .now) (c .before .before .before .before .before .before .before .before .before .before .args .plans .now) (c .before .before .before .before .before .before .before .before .before .before .pre))
 
--- src/stand.rt:150:24
 wide-requires-2 : tie.Need-wide-requires-2 Inv-loop μ-loop
 wide-requires-2 c κs = search needs
 
--- src/stand.rt:150:18
 mul-zeros : tie.Need-mul-zeros Inv-loop μ-loop
 mul-zeros c = search needs
 
--- src/stand.rt:150:5
 zeros-requires : tie.Need-zeros-requires Inv-loop μ-loop
 zeros-requires c κs = search needs
 
--- src/stand.rt:130:1
 returns-5 : tie.Need-returns-5 Inv-loop μ-loop
 returns-5 c = (stand-iff (booksOf (c .before .before .before .before .before .before .before .before .before .before .before .before .args .count) (c .before .before .before .before .before .before .before .before .before .before .before .before .args .books .now)) (c .before .before .before .before .before .before .before .before .before .before .before .before .args .n) (c .before .before .before .before .before .before .before .before .before .before .before .before .args .residues .now) (c .before .before .before .before .before .before .before .before .before .before .before .before .args .plans .now) (c .before .before .before .before .before .before .before .before .before .before .before .before .pre) (search needs) (search needs) (tail-judged _ _ _ _ (c .before .before .before .before .before .before .loop .inv) (search needs) (c .before .before .before .before .wide .ensures) (c .before .before .before .zeros-wide .ensures) (c .before .before .if4 .left) (c .before .wide2 .ensures) (c .zeros .ensures)), one-content (booksOf (c .before .before .before .before .before .before .before .before .before .before .before .before .args .count) (c .before .before .before .before .before .before .before .before .before .before .before .before .args .books .now)) (c .before .before .before .before .before .before .before .before .before .before .before .before .args .n) (c .before .before .before .before .before .before .before .before .before .before .before .before .args .residues .now) (c .before .before .before .before .before .before .before .before .before .before .before .before .args .plans .now) (c .before .before .before .before .before .before .before .before .before .before .before .before .pre))
 

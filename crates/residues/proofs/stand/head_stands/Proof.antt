@@ -6,43 +6,33 @@ use Rattle.residues.proofs.stand.head_stands.Reads as reads
 use Rattle.residues.proofs.stand.head_stands.Lts as lts
 use Rattle.residues.proofs.fits.head_fits.Reads as head-fits-reads
 
--- src/stand.rt:87:9
 returns : tie.Need-returns
 returns c = search head-test-laws
 
--- src/stand.rt:90:9
 returns-2 : tie.Need-returns-2
 returns-2 c = search head-test-laws
 
--- src/stand.rt:93:9
 returns-3 : tie.Need-returns-3
 returns-3 c = search head-test-laws
 
--- src/stand.rt:96:9
 returns-4 : tie.Need-returns-4
 returns-4 c = search head-test-laws
 
--- src/stand.rt:99:9
 returns-5 : tie.Need-returns-5
 returns-5 c = search head-test-laws
 
--- src/stand.rt:102:9
 returns-6 : tie.Need-returns-6
 returns-6 c = search head-test-laws
 
--- src/stand.rt:105:9
 returns-7 : tie.Need-returns-7
 returns-7 c = search head-test-laws
 
--- src/stand.rt:108:9
 returns-8 : tie.Need-returns-8
 returns-8 c = search head-test-laws
 
--- src/stand.rt:110:5
 head-fits-requires : tie.Need-head-fits-requires
 head-fits-requires c κs = search needs
 
--- src/stand.rt:83:1
 returns-9 : tie.Need-returns-9
 returns-9 c = search head-test-laws
 

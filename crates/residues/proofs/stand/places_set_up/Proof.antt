@@ -14,43 +14,33 @@ Inv-loop places from to count i₀ i = Testing (λ b. leb b count) places i₀ t
 abbrev μ-loop : tie.MeasureT-loop
 μ-loop places from to count i₀ i = to - i
 
--- src/stand.rt:68:5
 loop-holds : tie.Need-loop-holds Inv-loop μ-loop
 loop-holds c = search testing-laws
 
--- src/stand.rt:70:13
 returns : tie.Need-returns Inv-loop μ-loop
 returns c = search testing-laws
 
--- src/stand.rt:72:27
 mul-wider : tie.Need-mul-wider Inv-loop μ-loop
 mul-wider c = search needs
 
--- src/stand.rt:72:27
 shared-slice-read-wider : tie.Need-shared-slice-read-wider Inv-loop μ-loop
 shared-slice-read-wider c = search needs
 
--- src/stand.rt:72:13
 wider-requires : tie.Need-wider-requires Inv-loop μ-loop
 wider-requires c κs = search needs
 
--- src/stand.rt:75:13
 returns-2 : tie.Need-returns-2 Inv-loop μ-loop
 returns-2 c = search testing-laws
 
--- src/stand.rt:77:13
 add-i : tie.Need-add-i Inv-loop μ-loop
 add-i c = search needs
 
--- src/stand.rt:68:5
 loop-less : tie.Need-loop-less Inv-loop μ-loop
 loop-less c = search needs
 
--- src/stand.rt:68:5
 loop-again : tie.Need-loop-again Inv-loop μ-loop
 loop-again c = search testing-laws
 
--- src/stand.rt:64:1
 returns-3 : tie.Need-returns-3 Inv-loop μ-loop
 returns-3 c = search testing-laws
 

@@ -12,63 +12,48 @@ use Rattle.residues.proofs.stand.wide.Reads as wide-reads
 use Rattle.residues.proofs.stand.zeros.Reads as zeros-reads
 use Rattle.residues.proofs.table.head.Reads as head-reads
 
--- src/stand.rt:114:9
 head-requires : tie.Need-head-requires
 head-requires c κs = search needs
 
--- src/stand.rt:115:9
 head-stands-requires : tie.Need-head-stands-requires
 head-stands-requires c κs = search needs
 
--- src/stand.rt:116:9
 returns : tie.Need-returns
 returns c = head-fails (c .before .before .before .before .before .before .args .count) (c .before .before .before .before .before .before .args .books .now) (c .before .before .before .before .before .before .args .residues .now) (c .before .before .before .before .before .before .args .plans .now) (c .before .before .before .before .before .before .args .index) (c .before .before .head .result) (c .before .before .head .ensures) refl refl (c .before .head-stands .ensures) (c .if1 .taken)
 
--- src/stand.rt:118:23
 wide-requires : tie.Need-wide-requires
 wide-requires c κs = search needs
 
--- src/stand.rt:118:17
 mul-first : tie.Need-mul-first
 mul-first c = search needs
 
--- src/stand.rt:119:28
 wide-requires-2 : tie.Need-wide-requires-2
 wide-requires-2 c κs = search needs
 
--- src/stand.rt:119:24
 mul-last : tie.Need-mul-last
 mul-last c = search needs
 
--- src/stand.rt:119:16
 add-last : tie.Need-add-last
 add-last c = search needs
 
--- src/stand.rt:120:9
 places-set-up-requires : tie.Need-places-set-up-requires
 places-set-up-requires c κs = search needs
 
--- src/stand.rt:121:9
 returns-2 : tie.Need-returns-2
 returns-2 c = set-up-fails (c .before .before .before .before .before .before .before .before .before .before .args .count) (c .before .before .before .before .before .before .before .before .before .before .args .books .now) (c .before .before .before .before .before .before .before .before .before .before .args .residues .now) (c .before .before .before .before .before .before .before .before .before .before .args .plans .now) (c .before .before .before .before .before .before .before .before .before .before .args .index) (c .before .before .before .before .before .before .head .result) (c .before .before .before .before .before .before .head .ensures) (c .before .before .before .wide .ensures) (c .before .before .wide2 .ensures) (c .before .before .before .before .before .head-stands .ensures) (c .before .before .before .before .if1 .left) (c .before .places-set-up .ensures) (c .if2 .taken)
 
--- src/stand.rt:123:9
 places-fit-requires : tie.Need-places-fit-requires
 places-fit-requires c κs = search needs
 
--- src/stand.rt:124:9
 returns-3 : tie.Need-returns-3
 returns-3 c = fits-fails (c .before .before .before .before .before .before .before .before .before .before .before .before .args .count) (c .before .before .before .before .before .before .before .before .before .before .before .before .args .books .now) (c .before .before .before .before .before .before .before .before .before .before .before .before .args .residues .now) (c .before .before .before .before .before .before .before .before .before .before .before .before .args .plans .now) (c .before .before .before .before .before .before .before .before .before .before .before .before .args .index) (c .before .before .before .before .before .before .before .before .head .result) (c .before .before .before .before .before .before .before .before .head .ensures) (c .before .before .before .before .before .wide .ensures) (c .before .before .before .before .wide2 .ensures) (c .before .before .before .before .before .before .before .head-stands .ensures) (c .before .before .before .before .before .before .if1 .left) (c .before .before .before .places-set-up .ensures) (c .before .before .if2 .left) (c .before .places-fit .ensures) (c .if3 .taken)
 
--- src/stand.rt:126:24
 add-zeros : tie.Need-add-zeros
 add-zeros c = search needs
 
--- src/stand.rt:126:5
 zeros-requires : tie.Need-zeros-requires
 zeros-requires c κs = search needs
 
--- src/stand.rt:110:1
 returns-4 : tie.Need-returns-4
 returns-4 c = stands-whole (c .before .before .before .before .before .before .before .before .before .before .before .before .before .args .count) (c .before .before .before .before .before .before .before .before .before .before .before .before .before .args .books .now) (c .before .before .before .before .before .before .before .before .before .before .before .before .before .args .residues .now) (c .before .before .before .before .before .before .before .before .before .before .before .before .before .args .plans .now) (c .before .before .before .before .before .before .before .before .before .before .before .before .before .args .index) (c .before .before .before .before .before .before .before .before .before .head .result) (c .before .before .before .before .before .before .before .before .before .head .ensures) (c .before .before .before .before .before .before .wide .ensures) (c .before .before .before .before .before .wide2 .ensures) (c .before .before .before .before .before .before .before .before .head-stands .ensures) (c .before .before .before .before .before .before .before .if1 .left) (c .before .before .before .before .places-set-up .ensures) (c .before .before .before .if2 .left) (c .before .before .places-fit .ensures) (c .before .if3 .left) _ (c .zeros .ensures)
 

@@ -13,39 +13,30 @@ Inv-loop numbers from to i₀ i = Testing (λ b. eqb b 0) numbers i₀ to i
 abbrev μ-loop : tie.MeasureT-loop
 μ-loop numbers from to i₀ i = to - i
 
--- src/stand.rt:47:5
 loop-holds : tie.Need-loop-holds Inv-loop μ-loop
 loop-holds c = search zero-laws
 
--- src/stand.rt:49:13
 returns : tie.Need-returns Inv-loop μ-loop
 returns c = search zero-laws
 
--- src/stand.rt:51:12
 mul-if2 : tie.Need-mul-if2 Inv-loop μ-loop
 mul-if2 c = search needs
 
--- src/stand.rt:51:12
 shared-slice-read-if2 : tie.Need-shared-slice-read-if2 Inv-loop μ-loop
 shared-slice-read-if2 c = search needs
 
--- src/stand.rt:52:13
 returns-2 : tie.Need-returns-2 Inv-loop μ-loop
 returns-2 c = search zero-laws
 
--- src/stand.rt:54:13
 add-i : tie.Need-add-i Inv-loop μ-loop
 add-i c = search needs
 
--- src/stand.rt:47:5
 loop-less : tie.Need-loop-less Inv-loop μ-loop
 loop-less c = search needs
 
--- src/stand.rt:47:5
 loop-again : tie.Need-loop-again Inv-loop μ-loop
 loop-again c = search zero-laws
 
--- src/stand.rt:43:1
 returns-3 : tie.Need-returns-3 Inv-loop μ-loop
 returns-3 c = search zero-laws
 

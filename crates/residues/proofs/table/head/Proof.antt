@@ -11,31 +11,24 @@ use Rattle.residues.proofs.table.end.Reads as end-reads
 use Rattle.residues.proofs.table.kind.Reads as kind-reads
 use Rattle.residues.proofs.table.size.Reads as size-reads
 
--- src/table.rt:64:9
 kind-requires : tie.Need-kind-requires
 kind-requires c κs = search needs
 
--- src/table.rt:65:9
 begin-requires : tie.Need-begin-requires
 begin-requires c κs = search needs
 
--- src/table.rt:66:9
 end-requires : tie.Need-end-requires
 end-requires c κs = search needs
 
--- src/table.rt:67:9
 size-requires : tie.Need-size-requires
 size-requires c κs = search needs
 
--- src/table.rt:68:9
 classifications-requires : tie.Need-classifications-requires
 classifications-requires c κs = search needs
 
--- src/table.rt:69:9
 classbook-requires : tie.Need-classbook-requires
 classbook-requires c κs = search needs
 
--- src/table.rt:61:1
 returns : tie.Need-returns
 returns c = search table-laws
 

@@ -6,23 +6,18 @@ use Rattle.residues.proofs.table.number.Lts as lts
 use Rattle.reading.proofs.buffers.get_u32.Reads as get-u32-reads
 use Rattle.residues.proofs.table.wide.Reads as wide-reads
 
--- src/table.rt:20:21
 wide-requires : tie.Need-wide-requires
 wide-requires c κs = search needs
 
--- src/table.rt:20:17
 mul-place : tie.Need-mul-place
 mul-place c = search needs
 
--- src/table.rt:20:17
 add-place : tie.Need-add-place
 add-place c = search needs
 
--- src/table.rt:21:5
 get-u32-requires : tie.Need-get-u32-requires
 get-u32-requires c κs = search needs
 
--- src/table.rt:16:1
 returns : tie.Need-returns
 returns c = rw (← c .before .wide .ensures) (c .get-u32 .ensures)
 

@@ -7,39 +7,30 @@ use Rattle.residues.proofs.table.plan_place.Lts as lts
 use Rattle.reading.proofs.buffers.get_u16.Reads as get-u16-reads
 use Rattle.residues.proofs.table.wide.Reads as wide-reads
 
--- src/table.rt:77:21
 wide-requires : tie.Need-wide-requires
 wide-requires c κs = search needs
 
--- src/table.rt:77:15
 mul-row : tie.Need-mul-row
 mul-row c = search needs
 
--- src/table.rt:78:21
 wide-requires-2 : tie.Need-wide-requires-2
 wide-requires-2 c κs = search needs
 
--- src/table.rt:78:17
 mul-place : tie.Need-mul-place
 mul-place c = search needs
 
--- src/table.rt:78:35
 wide-requires-3 : tie.Need-wide-requires-3
 wide-requires-3 c κs = search needs
 
--- src/table.rt:78:17
 add-place : tie.Need-add-place
 add-place c = search needs
 
--- src/table.rt:79:38
 add-get-u16 : tie.Need-add-get-u16
 add-get-u16 c = search needs
 
--- src/table.rt:79:5
 get-u16-requires : tie.Need-get-u16-requires
 get-u16-requires c κs = search needs
 
--- src/table.rt:74:1
 returns : tie.Need-returns
 returns c = search table-laws
 
