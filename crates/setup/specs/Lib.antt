@@ -1,2 +1,4 @@
 pub mod Content
 pub mod Reading
+pub mod Layout
+pub mod Sound
