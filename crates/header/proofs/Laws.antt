@@ -10,13 +10,13 @@ use lib.Seq.{drop-cons}
 use borrow.Author.Tests.{eq-eqb, ne-eqb}
 use Rattle.reading.specs.Outcome.{refusal, Outcome, ok, bad}
 use Rattle.bits.specs.Field.{field}
-use Rattle.bits.specs.Cursors.{position, refusalOf}
+use Rattle.bits.specs.Cursors.{position, refusalOf, stepped}
 use Rattle.bits.specs.declared.Cursor.{Cursor}
 use Rattle.bits.specs.declared.Refusal.{Refusal}
 use Rattle.bits.proofs.Fields.{field-whole, field-cut}
 use Rattle.bits.proofs.Bytes.{byte-value}
-use Rattle.header.specs.Header.{exactly, opened}
-use Rattle.header.specs.declared.Opening.the-variants.{Good, Refused}
+use Rattle.header.specs.Header.{exactly}
+use Rattle.bits.specs.declared.Step.the-variants.{Next, Refused}
 
 -- es are the bytes that are expected, i of which were found
 module _ (es s : List ℕ) (i : ℕ) where
@@ -45,18 +45,18 @@ module _ (es s : List ℕ) (i : ℕ) where
 
 -- the same as the code asks it: what is left of the bytes, from here, comes to the whole, W
 module _ (es s : List ℕ) (i : ℕ) (W : Outcome ℕ) (rest : exactly (drop i es) s (8 * i) ≡ W) where
-  pub missing : i < length es → length s ≤ i → opened (Refused (record { number = 1; place = record { byte = i; bit = 0 } })) ≡ W
-  unfolding opened
+  pub missing : i < length es → length s ≤ i → stepped (Refused (record { number = 1; place = record { byte = i; bit = 0 } })) ≡ W
+  unfolding stepped
   missing h l = rw (add-zero, ← byte-missing es s i h l) rest
 
   pub wrong : i < length es → i < length s → getD s i 0 < 256 → (getD s i 0 ≡ getD es i 0 → ⊥)
-      → opened (Refused (record { number = 2; place = record { byte = i; bit = 0 } })) ≡ W
-  unfolding opened
+      → stepped (Refused (record { number = 2; place = record { byte = i; bit = 0 } })) ≡ W
+  unfolding stepped
   wrong h l b n = rw (add-zero, ← byte-wrong es s i h l b n) rest
 
   pub found : i < length es → i < length s → getD s i 0 < 256 → getD s i 0 ≡ getD es i 0 → exactly (drop (i + 1) es) s (8 * (i + 1)) ≡ W
   found h l b e = byte-found es s i h l b e ∙ rest
 
-  pub complete : length es ≤ i → opened (Good (record { byte = i; bit = 0 })) ≡ W
-  unfolding opened
+  pub complete : length es ≤ i → stepped (Next (record { byte = i; bit = 0 })) ≡ W
+  unfolding stepped
   complete h = rw (add-zero, ← all-found es s i h) rest

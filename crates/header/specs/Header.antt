@@ -3,12 +3,9 @@ use Prim.Native.Nat.{ℕ}
 use mathlib.Core.Bool.{not}
 use mathlib.Core.List.{List, [], _∷_}
 use lib.Dec.{eqb}
-use Rattle.reading.specs.Outcome.{refusal, Outcome, ok, bad, then, need}
+use Rattle.reading.specs.Outcome.{Outcome, ok, then}
 use Rattle.reading.specs.Reader.{Reader, judged}
 use Rattle.bits.specs.Field.{field}
-use Rattle.bits.specs.Cursors.{position, refusalOf}
-use Rattle.header.specs.declared.Opening.{Opening}
-use Rattle.header.specs.declared.Opening.the-variants.{Good, Refused}
 
 -- these bytes, each judged as soon as it is read: refusal 2 at the first that differs (01: "the name byte by byte"). Gives the position after them
 unfoldable pub exactly : List ℕ → List ℕ → ℕ → Outcome ℕ
@@ -25,8 +22,3 @@ commonHeader kind s = exactly (opening kind) s 0
 -- the framing bit must not be 0 (003, 4.2.2 and 4.2.4)
 unfoldable pub framing : Reader ℕ
 framing = judged (λ v. not (eqb v 0)) 5 (field 1)
-
--- what the program's answer stands for
-unfoldable pub opened : Opening → Outcome ℕ
-opened (Good c) = ok (position c)
-opened (Refused z) = bad (refusalOf z)

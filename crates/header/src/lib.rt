@@ -2,39 +2,33 @@
 use bits::Cursor;
 use bits::Field;
 use bits::Refusal;
+use bits::Step;
 ghost use mathlib.Core.Path.{_≡_};
-ghost use Rattle.bits.specs.Cursors.{position, outcome};
-ghost use Rattle.header.specs.Header.{commonHeader, framing, opened};
-
-// What the first bytes come to.
-pub enum Opening {
-    // The position after them.
-    Good(Cursor),
-    Refused(Refusal),
-}
+ghost use Rattle.bits.specs.Cursors.{position, outcome, stepped};
+ghost use Rattle.header.specs.Header.{commonHeader, framing};
 
 // The type byte and the six bytes "vorbis", each judged as soon as it is read.
-pub fn common_header(packet: &[u8], kind: u8) -> Opening
-    ensures { λ r. ⌜ opened r ≡ commonHeader kind (now (packet .entry)) ⌝ }
+pub fn common_header(packet: &[u8], kind: u8) -> Step
+    ensures { λ r. ⌜ stepped r ≡ commonHeader kind (now (packet .entry)) ⌝ }
 {
     let expected = [kind, 0x76, 0x6F, 0x72, 0x62, 0x69, 0x73];
     let mut i: usize = 0;
     while i < 7 {
         if packet.len() <= i {
-            return Opening::Refused(Refusal {
+            return Step::Refused(Refusal {
                 number: 1,
                 place: Cursor { byte: i, bit: 0 },
             });
         }
         if packet[i] != expected[i] {
-            return Opening::Refused(Refusal {
+            return Step::Refused(Refusal {
                 number: 2,
                 place: Cursor { byte: i, bit: 0 },
             });
         }
         i = i + 1;
     }
-    Opening::Good(Cursor { byte: i, bit: 0 })
+    Step::Next(Cursor { byte: i, bit: 0 })
 }
 
 // The framing bit, which must be set.

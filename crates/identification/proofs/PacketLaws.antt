@@ -14,11 +14,12 @@ use Rattle.bits.specs.declared.Cursor.{Cursor}
 use Rattle.bits.specs.declared.Refusal.{Refusal}
 use Rattle.bits.specs.declared.Field.{Field}
 use Rattle.bits.specs.declared.Field.the-variants as F
-use Rattle.bits.specs.Cursors.{position, refusalOf, outcome}
+use Rattle.bits.specs.Cursors.{position, refusalOf, outcome, stepped}
 use Rattle.bits.proofs.Answers.{value-is, refused-is}
-use Rattle.header.specs.Header.{commonHeader, framing, opened}
-use Rattle.header.specs.declared.Opening.{Opening}
-use Rattle.header.specs.declared.Opening.the-variants as O
+use Rattle.header.specs.Header.{commonHeader, framing}
+use Rattle.bits.specs.declared.Step.{Step}
+use Rattle.bits.specs.declared.Step.the-variants as O
+use Rattle.bits.proofs.Steps.{next-is, stop-is}
 use Rattle.identification.specs.Identification.{stream, bitrates, blockSizes, identification}
 use Rattle.identification.specs.Answers.{streamRead, bitratesRead, blockSizesRead, identified}
 use Rattle.identification.specs.Sound.{Sound, AcceptedSound}
@@ -36,14 +37,6 @@ use Rattle.identification.specs.declared.fields.BitratesRead.the-variant
 use Rattle.identification.specs.declared.fields.BlockSizesRead.the-variants as Z
 
 -- what each part's answer says of its definition
-opened-ok : {r : Opening} {o : Outcome ℕ} {c : Cursor} → opened r ≡ o → r ≡ O.Good c → o ≡ ok (position c)
-unfolding opened
-opened-ok p q = sym p ∙ ap opened q
-
-opened-bad : {r : Opening} {o : Outcome ℕ} {z : Refusal} → opened r ≡ o → r ≡ O.Refused z → o ≡ bad (refusalOf z)
-unfolding opened
-opened-bad p q = sym p ∙ ap opened q
-
 stream-ok : {r : StreamRead} {o : Outcome (Stream × ℕ)} {a : Stream} {c : Cursor} → streamRead r ≡ o → r ≡ S.Value a c → o ≡ ok (a, position c)
 unfolding streamRead
 stream-ok p q = sym p ∙ ap streamRead q
@@ -69,30 +62,30 @@ unfolding blockSizesRead
 sizes-bad p q = sym p ∙ ap blockSizesRead q
 
 -- the packet, one law for each way out
-module _ (most : ℕ) (s : List ℕ) {r : Opening} (p : opened r ≡ commonHeader 1 s) where
+module _ (most : ℕ) (s : List ℕ) {r : Step} (p : stepped r ≡ commonHeader 1 s) where
   pub header-refused : {z : Refusal} → r ≡ O.Refused z → identified (Refused z) ≡ identification most s
   unfolding identification identified
-  header-refused q = rw (opened-bad p q)
+  header-refused q = rw (stop-is p q)
 
-  module _ {k : Cursor} (q : r ≡ O.Good k) {r₁ : StreamRead} (p₁ : streamRead r₁ ≡ stream most s (position k)) where
+  module _ {k : Cursor} (q : r ≡ O.Next k) {r₁ : StreamRead} (p₁ : streamRead r₁ ≡ stream most s (position k)) where
     pub stream-refused : {z : Refusal} → r₁ ≡ S.Refused z → identified (Refused z) ≡ identification most s
     unfolding identification identified
-    stream-refused q₁ = rw (opened-ok p q, stream-bad p₁ q₁)
+    stream-refused q₁ = rw (next-is p q, stream-bad p₁ q₁)
 
     module _ {a : Stream} {k₁ : Cursor} (q₁ : r₁ ≡ S.Value a k₁) {r₂ : BitratesRead} (p₂ : bitratesRead r₂ ≡ bitrates s (position k₁)) where
       pub bitrates-refused : {z : Refusal} → r₂ ≡ B.Refused z → identified (Refused z) ≡ identification most s
       unfolding identification identified
-      bitrates-refused q₂ = rw (opened-ok p q, stream-ok p₁ q₁, bitrates-bad p₂ q₂)
+      bitrates-refused q₂ = rw (next-is p q, stream-ok p₁ q₁, bitrates-bad p₂ q₂)
 
       module _ {b : Bitrates} {k₂ : Cursor} (q₂ : r₂ ≡ B.Value b k₂) {r₃ : BlockSizesRead} (p₃ : blockSizesRead r₃ ≡ blockSizes s (position k₂)) where
         pub sizes-refused : {z : Refusal} → r₃ ≡ Z.Refused z → identified (Refused z) ≡ identification most s
         unfolding identification identified
-        sizes-refused q₃ = rw (opened-ok p q, stream-ok p₁ q₁, bitrates-ok p₂ q₂, sizes-bad p₃ q₃)
+        sizes-refused q₃ = rw (next-is p q, stream-ok p₁ q₁, bitrates-ok p₂ q₂, sizes-bad p₃ q₃)
 
         module _ {c : BlockSizes} {k₃ : Cursor} (q₃ : r₃ ≡ Z.Value c k₃) {r₄ : Field} (p₄ : outcome r₄ ≡ framing s (position k₃)) where
           pub framing-refused : {z : Refusal} → r₄ ≡ F.Refused z → identified (Refused z) ≡ identification most s
           unfolding identification identified
-          framing-refused q₄ = rw (opened-ok p q, stream-ok p₁ q₁, bitrates-ok p₂ q₂, sizes-ok p₃ q₃, refused-is p₄ q₄)
+          framing-refused q₄ = rw (next-is p q, stream-ok p₁ q₁, bitrates-ok p₂ q₂, sizes-ok p₃ q₃, refused-is p₄ q₄)
 
           pub accepted : {v : ℕ} {k₄ : Cursor} → r₄ ≡ F.Value v k₄ → SFits w32 (b .maximum) → SFits w32 (b .nominal) → SFits w32 (b .minimum)
               → identified (Accepted (record {
@@ -105,6 +98,6 @@ module _ (most : ℕ) (s : List ℕ) {r : Opening} (p : opened r ≡ commonHeade
                 blocksize1 = c .second;
               })) ≡ identification most s
           unfolding identification identified
-          accepted q₄ f g h = rw (opened-ok p q, stream-ok p₁ q₁, bitrates-ok p₂ q₂, sizes-ok p₃ q₃, value-is p₄ q₄, toZ-ofZ f, toZ-ofZ g, toZ-ofZ h)
+          accepted q₄ f g h = rw (next-is p q, stream-ok p₁ q₁, bitrates-ok p₂ q₂, sizes-ok p₃ q₃, value-is p₄ q₄, toZ-ofZ f, toZ-ofZ g, toZ-ofZ h)
 
 pub ruleset packet-laws = (needs, header-refused, stream-refused, bitrates-refused, sizes-refused, framing-refused, accepted)

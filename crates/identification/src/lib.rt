@@ -4,11 +4,11 @@ pub mod sound;
 
 use bits::Field;
 use bits::Refusal;
+use bits::Step;
 use bits::kind::PacketKind;
 use fields::BitratesRead;
 use fields::BlockSizesRead;
 use fields::StreamRead;
-use header::Opening;
 use limits::Limits;
 ghost use mathlib.Core.Path.{_≡_};
 ghost use Rattle.identification.specs.Identification.{identification};
@@ -38,8 +38,8 @@ pub fn read(packet: &[u8], limits: Limits) -> Identified
     ensures { λ r. ⌜ AcceptedSound (limits .channels) r ⌝ }
 {
     match header::common_header(packet, PacketKind::IDENTIFICATION) {
-        Opening::Refused(z) => Identified::Refused(z),
-        Opening::Good(at_stream) => match fields::read_stream(packet, at_stream, limits.channels) {
+        Step::Refused(z) => Identified::Refused(z),
+        Step::Next(at_stream) => match fields::read_stream(packet, at_stream, limits.channels) {
             StreamRead::Refused(z) => Identified::Refused(z),
             StreamRead::Value(stream, at_bitrates) => match fields::read_bitrates(
                 packet,
