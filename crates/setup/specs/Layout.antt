@@ -1,8 +1,9 @@
--- The tables of a setup: each buffer's list, and when buffers hold it (docs/TABLES.md; 01, "What the reader takes and gives").
-use Prim.Native.Nat.{ℕ, _≤_}
+-- The tables of a setup: each buffer's list, its fixed need, and the buffers with a content written out (docs/TABLES.md; 01, "What the reader takes and gives").
+use Prim.Native.Nat.{ℕ}
+use mathlib.Core.Bool.{Bool, _&&_}
 use mathlib.Core.List.{List, [], _∷_}
-use mathlib.Core.Path.{_≡_}
-use lib.ListN.{length}
+use lib.Dec.{leb}
+use lib.ListN.{length, replicate}
 use Rattle.reading.specs.Lists.{rows}
 use Rattle.reading.specs.Pad.{pad}
 use Rattle.limits.specs.declared.Limits.{Limits}
@@ -43,27 +44,63 @@ layout c =
     }
 
 -- the fixed need of each buffer (01, refusal 17)
-pub record Room (limits : Limits) (t : Tables) : Type 0 where
-  pub counts : 5 ≤ length (t .counts)
-  pub books : 2560 ≤ length (t .books)
-  pub lengths : limits .entries ≤ length (t .lengths)
-  pub codewords : limits .entries ≤ length (t .codewords)
-  pub multiplicands : limits .multiplicands ≤ length (t .multiplicands)
-  pub floors : 17728 ≤ length (t .floors)
-  pub residues : 384 ≤ length (t .residues)
-  pub plans : 32768 ≤ length (t .plans)
-  pub mappings : 51456 ≤ length (t .mappings)
-  pub modes : 128 ≤ length (t .modes)
+unfoldable pub hasRoom : Limits → Tables → Bool
+hasRoom limits t =
+    leb 5 (length (t .counts))
+    && (leb 2560 (length (t .books))
+    && (leb (limits .entries) (length (t .lengths))
+    && (leb (limits .entries) (length (t .codewords))
+    && (leb (limits .multiplicands) (length (t .multiplicands))
+    && (leb 17728 (length (t .floors))
+    && (leb 384 (length (t .residues))
+    && (leb 32768 (length (t .plans))
+    && (leb 51456 (length (t .mappings))
+    && leb 128 (length (t .modes))))))))))
 
--- the buffers hold a content's lists, zeros behind them, whatever their lengths
-pub record Holds (c : Setup) (t : Tables) : Type 0 where
-  pub counts : t .counts ≡ pad (length (t .counts)) (layout c .counts)
-  pub books : t .books ≡ pad (length (t .books)) (layout c .books)
-  pub lengths : t .lengths ≡ pad (length (t .lengths)) (layout c .lengths)
-  pub codewords : t .codewords ≡ pad (length (t .codewords)) (layout c .codewords)
-  pub multiplicands : t .multiplicands ≡ pad (length (t .multiplicands)) (layout c .multiplicands)
-  pub floors : t .floors ≡ pad (length (t .floors)) (layout c .floors)
-  pub residues : t .residues ≡ pad (length (t .residues)) (layout c .residues)
-  pub plans : t .plans ≡ pad (length (t .plans)) (layout c .plans)
-  pub mappings : t .mappings ≡ pad (length (t .mappings)) (layout c .mappings)
-  pub modes : t .modes ≡ pad (length (t .modes)) (layout c .modes)
+-- the lent buffers with a content written out: its lists, and zeros behind them, whatever was lent
+unfoldable pub writtenOut : Setup → Tables → Tables
+writtenOut c t =
+    record {
+      counts = pad (length (t .counts)) (layout c .counts);
+      books = pad (length (t .books)) (layout c .books);
+      lengths = pad (length (t .lengths)) (layout c .lengths);
+      codewords = pad (length (t .codewords)) (layout c .codewords);
+      multiplicands = pad (length (t .multiplicands)) (layout c .multiplicands);
+      floors = pad (length (t .floors)) (layout c .floors);
+      residues = pad (length (t .residues)) (layout c .residues);
+      plans = pad (length (t .plans)) (layout c .plans);
+      mappings = pad (length (t .mappings)) (layout c .mappings);
+      modes = pad (length (t .modes)) (layout c .modes);
+    }
+
+-- the lent buffers with nothing in them
+unfoldable pub cleared : Tables → Tables
+cleared t =
+    record {
+      counts = replicate (length (t .counts)) 0;
+      books = replicate (length (t .books)) 0;
+      lengths = replicate (length (t .lengths)) 0;
+      codewords = replicate (length (t .codewords)) 0;
+      multiplicands = replicate (length (t .multiplicands)) 0;
+      floors = replicate (length (t .floors)) 0;
+      residues = replicate (length (t .residues)) 0;
+      plans = replicate (length (t .plans)) 0;
+      mappings = replicate (length (t .mappings)) 0;
+      modes = replicate (length (t .modes)) 0;
+    }
+
+-- the ten buffers as the program has them
+abbrev pub tables : List ℕ → List ℕ → List ℕ → List ℕ → List ℕ → List ℕ → List ℕ → List ℕ → List ℕ → List ℕ → Tables
+tables counts books lengths words multiplicands floors residues plans mappings modes =
+    record {
+      counts = counts;
+      books = books;
+      lengths = lengths;
+      codewords = words;
+      multiplicands = multiplicands;
+      floors = floors;
+      residues = residues;
+      plans = plans;
+      mappings = mappings;
+      modes = modes;
+    }

@@ -2,3 +2,5 @@ pub mod Content
 pub mod Reading
 pub mod Layout
 pub mod Sound
+pub mod Call
+pub mod Parts

@@ -1,6 +1,8 @@
 -- Which contents meet every rule, and which tables a later call accepts (01, "What the reader takes and gives").
 use Prim.Native.Nat.{ℕ, _≤_}
+use mathlib.Core.Bool.{true}
 use mathlib.Core.List.{List}
+use mathlib.Core.Path.{_≡_}
 use lib.ListN.{length}
 use Rattle.reading.specs.Stand.{Each}
 use Rattle.limits.specs.declared.Limits.{Limits}
@@ -10,7 +12,7 @@ use Rattle.residues.specs.Valid.{ValidResidue}
 use Rattle.mappings.specs.Valid.{ValidMapping}
 use Rattle.modes.specs.Valid.{ValidMode}
 use Rattle.setup.specs.Content.{Setup, booksKnown, known}
-use Rattle.setup.specs.Layout.{Tables, Room, Holds}
+use Rattle.setup.specs.Layout.{Tables, hasRoom, writtenOut}
 
 -- a count that a field less one carries, up to so many
 pub record Counted (most n : ℕ) : Type 0 where
@@ -34,5 +36,5 @@ pub record ValidSetup (limits : Limits) (channels : ℕ) (c : Setup) : Type 0 wh
 pub record Sound (limits : Limits) (channels : ℕ) (t : Tables) : Type 0 where
   pub content : Setup
   pub valid : ValidSetup limits channels content
-  pub room : Room limits t
-  pub holds : Holds content t
+  pub room : hasRoom limits t ≡ true
+  pub written : t ≡ writtenOut content t

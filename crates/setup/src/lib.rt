@@ -1,1 +1,4 @@
-// The setup packet: from any bytes to the tables of a setup, or one refusal (003, section 4.2.4; 01).
+// The setup packet: its content, its tables, reading it (003, section 4.2.4).
+pub mod parts; // sections put together
+pub mod sections; // a count, and so many books, time values, floors ..
+pub mod tables; // all ten tables: room, clearing
