@@ -1,13 +1,12 @@
 -- ALL BOOKS: tables that hold one book more are that book, written, and tables that hold the others; so the test of what is left decides the whole.
 -- And the tables decide the books. Assumes nothing.
-use Prim.Native.Nat.{ℕ, zero, suc, _+_, _-_, _*_, _≤_, _<_}
-use native.Mathlib.Nat.{add-zero}
+use Prim.Native.Nat.{ℕ, suc, _+_, _-_, _*_, _≤_}
 use native.Mathlib.Omega.{arith}
 use mathlib.Core.List.{List, [], _∷_, _++_}
 use mathlib.Core.Logic.{_↔_}
 use mathlib.Core.Path.{_≡_, refl, sym, ap, subst, _∙_}
 use lib.ListN.{length, getD, take, drop, length-drop, length-append, take-append-drop}
-use lib.Seq.{take-at, drop-at}
+use lib.Seq.{drop-at}
 use Rattle.reading.specs.Pad.{pad}
 use Rattle.reading.specs.Lists.{rows}
 use Rattle.reading.proofs.Pads.{pad-nil}
@@ -19,11 +18,11 @@ use Rattle.book.specs.Layout.{bookRow}
 use Rattle.books.specs.Reading.{Before, andThis}
 use Rattle.books.specs.Answers.{totals}
 use Rattle.books.specs.Rows.{bookRows, allLengths, allCodewords, allMultiplicands, decodeBooks}
-use Rattle.books.specs.Valid.{ValidBook, ValidBooks}
+use Rattle.books.specs.Valid.{ValidBooks}
 use Rattle.books.proofs.Laid.{codewords-length, row-length, decode-books}
 use Rattle.book_tables.specs.declared.row.Row.{Row}
 use Rattle.book_tables.specs.Rules.{rowOf, BookRules}
-use Rattle.book_tables.specs.Stand.{Asked, Held, Clear, BooksStand, OneContent}
+use Rattle.book_tables.specs.Stand.{Asked, Held, Clear, OneContent}
 use Rattle.book_tables.proofs.Written.{bookOf, rowFor, lengths-long, values-long, rules-valid, rules-at, row-written, written-row}
 
 -- a buffer that is filled from the front: its first part, and what is left

@@ -1,19 +1,17 @@
 -- Lengths that are accepted are 0 to 32: the ledger refuses every other one. Assumes nothing.
-use Prim.Native.Nat.{ℕ, zero, suc, _≤_, _<_}
+use Prim.Native.Nat.{ℕ, suc, _≤_, _<_}
 use native.Mathlib.Omega.{arith}
 use borrow.Author.Tests.{le-leb}
-use mathlib.Core.Bool.{Bool, true, cond, _||_}
+use mathlib.Core.Bool.{true, cond, _||_}
 use mathlib.Core.List.{List, [], _∷_}
 use mathlib.Core.Logic.{⊎-elim}
 use mathlib.Core.Option.{Option, none, some}
 use mathlib.Core.Path.{_≡_, refl}
 use lib.Dec.{eqb, leb}
-use lib.ListN.{length, getD}
+use lib.ListN.{getD}
 use Rattle.reading.specs.Lists.{all}
 use Rattle.reading.proofs.Least.{lt-or-le}
-use Rattle.codespace.specs.Ledger.{answer}
 use Rattle.codespace.specs.Book.{used, isLone, verdict, refusedOr, firstRefused, freeAfter, codewords, entryAnswer, handedOutBefore}
-use Rattle.codespace.specs.declared.book.Assigned.{Assigned}
 use Rattle.codespace.specs.declared.book.Assigned.the-variants.{Accepted, Underspecified}
 use Rattle.codespace.proofs.Laws.{entry-answer}
 use Rattle.codespace.proofs.Whole.{some-says}

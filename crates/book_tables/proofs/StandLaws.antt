@@ -1,20 +1,20 @@
 -- The loop over the books and the whole test, as the code asks them. Assumes nothing.
-use Prim.Native.Nat.{ℕ, zero, suc, _+_, _-_, _*_, _≤_, _<_}
+use Prim.Native.Nat.{ℕ, suc, _+_, _-_, _*_, _≤_, _<_}
 use native.Mathlib.Nat.{sub-zero}
 use native.Mathlib.Omega.{arith}
 use borrow.Author.Needs.{needs}
 use mathlib.Core.Bool.{Bool, true, false, not}
 use mathlib.Core.List.{List}
 use mathlib.Core.Logic.{_↔_}
-use mathlib.Core.Path.{_≡_, refl, sym, ap, subst, _∙_}
-use lib.ListN.{length, getD, drop, length-drop}
+use mathlib.Core.Path.{_≡_, sym, subst}
+use lib.ListN.{length, drop, length-drop}
 use lib.Seq.{drop-drop}
 use Rattle.reading.proofs.Stands.{iff-false}
 use Rattle.limits.specs.declared.Limits.{Limits}
 use Rattle.books.specs.Lent.{Lent}
 use Rattle.book_tables.specs.declared.row.Row.{Row}
 use Rattle.book_tables.specs.Rules.{rowOf, BookRules, Begun}
-use Rattle.book_tables.specs.Stand.{Asked, Held, Clear, BooksStand, OneContent}
+use Rattle.book_tables.specs.Stand.{Asked, Held, Clear, BooksStand}
 use Rattle.book_tables.proofs.TestLaws.{refuted, shown}
 use Rattle.book_tables.proofs.HeldLaws.{Room, held-none, held-first, held-cons, one-content}
 

@@ -1,5 +1,6 @@
 -- The rules of a codebook as they are tested along the tables: what holds of a row and of the lengths, codewords and multiplicands from its own on
--- where a book that meets every rule is written there. proofs/Written shows that these are the same (`books`, Valid and Rows).
+-- where a book that meets every rule is written there (01, refusals 6, 7, 8 and 14; the width of each field). proofs/Written shows that these are
+-- the same as the book's own rules and rows (`books`, Valid and Rows).
 use Prim.Native.Nat.{ℕ, _+_, _^_, _≤_, _<_}
 use mathlib.Core.Bool.{true}
 use mathlib.Core.List.{List}
@@ -28,7 +29,7 @@ rowOf t =
       «first_value» = getD t 9 0;
     }
 
--- entries is how many the books before have
+-- the fields before the lengths (002; 01, refusals 6 and 14); entries is how many the books before have
 pub record HeadRules (limits : Limits) (entries : ℕ) (row : Row) : Type 0 where
   pub dimensions-low : 1 ≤ row .dimensions
   pub dimensions-high : row .dimensions < 65536
@@ -37,13 +38,13 @@ pub record HeadRules (limits : Limits) (entries : ℕ) (row : Row) : Type 0 wher
   pub entries-book : row .entries ≤ limits .«book_entries»
   pub entries-all : entries + row .entries ≤ limits .entries
 
--- entries and values are how many the books before have
+-- its own entries and multiplicands begin where those of the books before end, and all multiplicands are within the limit (01, refusal 14)
 pub record PlaceRules (limits : Limits) (entries values : ℕ) (row : Row) : Type 0 where
   pub entries-first : row .«first_entry» ≡ entries
   pub values-first : row .«first_value» ≡ values
   pub values-all : values + row .count ≤ limits .multiplicands
 
--- what stands where there is no lookup
+-- what stands where there is no lookup: zeros, and no multiplicands
 pub record NoneRules (row : Row) : Type 0 where
   pub minimum : row .minimum ≡ 0
   pub delta : row .delta ≡ 0
@@ -51,6 +52,7 @@ pub record NoneRules (row : Row) : Type 0 where
   pub sequence : row .sequence ≡ 0
   pub count : row .count ≡ 0
 
+-- a lookup of type 1 or 2 (002): a multiplicand has 1 to 16 bits, and their number is what type, entries and dimensions say
 pub record SomeRules (row : Row) : Type 0 where
   pub minimum : row .minimum < 4294967296
   pub delta : row .delta < 4294967296
@@ -59,6 +61,7 @@ pub record SomeRules (row : Row) : Type 0 where
   pub sequence : row .sequence ≤ 1
   pub count : row .count ≡ valueCount (row .lookup) (row .entries) (row .dimensions)
 
+-- the lookup by its type (01, refusal 6)
 pub record LookupRules (row : Row) : Type 0 where
   pub most : row .lookup ≤ 2
   pub none : row .lookup ≡ 0 → NoneRules row

@@ -1,5 +1,6 @@
 // One codebook in the tables against every rule: the fields before the lengths, the places, the lookup, the lengths with their codewords, the multiplicands.
 use crate::row::Row;
+use crate::row::wide;
 use limits::Limits;
 ghost use mathlib.Core.Path.{_≡_};
 ghost use mathlib.Core.Bool.{true};
@@ -10,12 +11,6 @@ ghost use lib.ListN.{length, take, drop};
 ghost use Rattle.reading.specs.Lists.{all};
 ghost use Rattle.codespace.specs.Book.{Coded};
 ghost use Rattle.book_tables.specs.Rules.{HeadRules, PlaceRules, NoneRules, SomeRules, LookupRules, BookRules, Begun};
-
-fn wide(x: u32) -> usize
-    ensures { λ r. ⌜ r ≡ x ⌝ }
-{
-    x as usize
-}
 
 fn long(x: u32) -> u64
     ensures { λ r. ⌜ r ≡ x ⌝ }

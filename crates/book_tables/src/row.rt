@@ -19,7 +19,7 @@ pub struct Row {
     pub first_value: u32,
 }
 
-fn wide(x: u32) -> usize
+pub fn wide(x: u32) -> usize
     ensures { λ r. ⌜ r ≡ x ⌝ }
 {
     x as usize

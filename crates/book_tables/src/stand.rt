@@ -2,18 +2,13 @@
 use crate::clear::are_clear;
 use crate::judge::is_book;
 use crate::row::row_at;
+use crate::row::wide;
 use limits::Limits;
 ghost use mathlib.Core.Path.{_≡_};
 ghost use mathlib.Core.Bool.{true};
 ghost use mathlib.Core.Logic.{_↔_};
 ghost use Rattle.books.specs.Lent.{Lent};
 ghost use Rattle.book_tables.specs.Stand.{Asked, Held, BooksStand, OneContent};
-
-fn wide(x: u32) -> usize
-    ensures { λ r. ⌜ r ≡ x ⌝ }
-{
-    x as usize
-}
 
 // The books one after the other, with how many entries and multiplicands those before have; then zeros.
 fn are_rows(

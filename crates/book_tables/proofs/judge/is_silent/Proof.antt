@@ -1,6 +1,5 @@
 -- `book_tables::judge::is_silent` meets its contract. Assumes nothing.
 use Rattle.book_tables.proofs.TestLaws.{silent-laws}
-use borrow.Author.Needs.{needs}
 use Rattle.book_tables.proofs.judge.is_silent.Statement.{statement}
 use Rattle.book_tables.proofs.judge.is_silent.Tie as tie
 
