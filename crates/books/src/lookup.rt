@@ -67,7 +67,7 @@ fn read_parameters(packet: &[u8], from: Cursor) -> ParametersRead
 }
 
 // How many multiplicands a lookup of type 1 or 2 has.
-fn value_count(lookup: u32, entries: u32, dimensions: u32) -> u64
+pub fn value_count(lookup: u32, entries: u32, dimensions: u32) -> u64
     ensures { λ r. ⌜ r ≡ valueCount lookup entries dimensions ⌝ }
 {
     if lookup == 1 {

@@ -1,0 +1,5 @@
+pub mod Small
+pub mod Written
+pub mod HeldLaws
+pub mod TestLaws
+pub mod StandLaws

@@ -1,0 +1,202 @@
+-- ONE BOOK: the rules along the tables hold exactly where a book that meets every rule is written there. Assumes nothing.
+use Prim.Native.Nat.{ℕ, _+_, _^_, _≤_, _<_}
+use native.Mathlib.Omega.{arith}
+use mathlib.Core.Bool.{true}
+use mathlib.Core.List.{List, [], _∷_, _++_}
+use mathlib.Core.Logic.{⊎-elim}
+use mathlib.Core.Path.{_≡_, refl, sym, ap, _∙_}
+use lib.Dec.{ltb}
+use lib.ListN.{length, getD, take}
+use lib.Seq.{take-at, length-take-le}
+use Rattle.reading.specs.Lists.{all}
+use Rattle.reading.proofs.Least.{lt-or-le}
+use Rattle.limits.specs.declared.Limits.{Limits}
+use Rattle.codespace.specs.Book.{codewords}
+use Rattle.book.specs.Content.{Book}
+use Rattle.book.specs.Layout.{bookRow}
+use Rattle.books.specs.Answers.{totals}
+use Rattle.books.specs.Valid.{NoLookup, SomeLookup, ValidBook}
+use Rattle.books.proofs.Laid.{codewords-length}
+use Rattle.book_tables.specs.declared.row.Row.{Row}
+use Rattle.book_tables.specs.Rules.{rowOf, NoneRules, SomeRules, BookRules}
+use Rattle.book_tables.proofs.Small.{accepted-small}
+
+-- the book of a row, with its lengths and multiplicands at the front of what is left of theirs
+abbrev pub bookOf : Row → List ℕ → List ℕ → Book
+bookOf row lengths multiplicands =
+    record {
+      dimensions = row .dimensions;
+      lengths = take (row .entries) lengths;
+      lookup = row .lookup;
+      minimum = row .minimum;
+      delta = row .delta;
+      width = row .width;
+      sequence = row .sequence;
+      multiplicands = take (row .count) multiplicands;
+    }
+
+-- the row of a book
+abbrev pub rowFor : ℕ → ℕ → Book → Row
+rowFor entries values b =
+    record {
+      dimensions = b .dimensions;
+      entries = length (b .lengths);
+      «first_entry» = entries;
+      lookup = b .lookup;
+      minimum = b .minimum;
+      delta = b .delta;
+      width = b .width;
+      sequence = b .sequence;
+      count = length (b .multiplicands);
+      «first_value» = values;
+    }
+
+empty : (l : List ℕ) → length l ≡ 0 → l ≡ []
+empty [] e = refl
+empty (x ∷ l) e = absurd (omega arith)
+
+module _ (limits : Limits) (entries values : ℕ) where
+  -- what is left of the tables has room for what the limits allow
+  module _ (row : Row) (ls ws ms : List ℕ) (room : limits .entries ≤ entries + length ls) (room-values : limits .multiplicands ≤ values + length ms)
+      (r : BookRules limits entries values row ls ws ms) where
+    pub lengths-long : length (take (row .entries) ls) ≡ row .entries
+    lengths-long = let h = r .head .entries-all in length-take-le (row .entries) ls (omega arith)
+
+    pub values-long : length (take (row .count) ms) ≡ row .count
+    values-long = let h = r .place .values-all in length-take-le (row .count) ms (omega arith)
+
+    no-values : NoneRules row → NoLookup (bookOf row ls ms)
+    no-values n =
+        record {
+          minimum = n .minimum;
+          delta = n .delta;
+          width = n .width;
+          sequence = n .sequence;
+          multiplicands = empty (take (row .count) ms) (values-long ∙ n .count);
+        }
+
+    some-values : SomeRules row → SomeLookup (bookOf row ls ms)
+    some-values s =
+        record {
+          minimum = s .minimum;
+          delta = s .delta;
+          width-low = s .width-low;
+          width-high = s .width-high;
+          sequence = s .sequence;
+          count = rw lengths-long (values-long ∙ s .count);
+          fit = r .fit;
+        }
+
+    pub rules-valid : ValidBook limits (totals entries values) (bookOf row ls ms)
+    rules-valid =
+        let h = r .head in
+        let n = lengths-long in
+        let m = values-long in
+        record {
+          dimensions-low = h .dimensions-low;
+          dimensions-high = h .dimensions-high;
+          entries-low = rw n (h .entries-low);
+          entries-high = rw n (h .entries-high);
+          entries-book = rw n (h .entries-book);
+          entries-all = rw n (h .entries-all);
+          lengths = accepted-small (take (row .entries) ls) (r .coded .accepted);
+          accepted = r .coded .accepted;
+          lookup = r .lookup .most;
+          no-lookup = λ e. no-values (r .lookup .none e);
+          some-lookup = λ e. some-values (r .lookup .some e);
+          values-all = rw m (r .place .values-all);
+        }
+
+  -- a book that meets every rule, written in front of anything
+  module _ (b : Book) (v : ValidBook limits (totals entries values) b) where
+    none-rules : NoLookup b → NoneRules (rowFor entries values b)
+    none-rules n =
+        record {
+          minimum = n .minimum;
+          delta = n .delta;
+          width = n .width;
+          sequence = n .sequence;
+          count = ap length (n .multiplicands);
+        }
+
+    some-rules : SomeLookup b → SomeRules (rowFor entries values b)
+    some-rules s =
+        record {
+          minimum = s .minimum;
+          delta = s .delta;
+          width-low = s .width-low;
+          width-high = s .width-high;
+          sequence = s .sequence;
+          count = s .count;
+        }
+
+    some-fit : SomeLookup b → all (λ x. ltb x (2 ^ b .width)) (b .multiplicands) ≡ true
+    some-fit s = s .fit
+
+    none-fit : NoLookup b → all (λ x. ltb x (2 ^ b .width)) (b .multiplicands) ≡ true
+    unfolding all
+    none-fit n = rw (n .multiplicands)
+
+    pub valid-rules : (ls ws ms : List ℕ) → BookRules limits entries values (rowFor entries values b) (b .lengths ++ ls) (codewords (b .lengths) ++ ws) (b .multiplicands ++ ms)
+    valid-rules ls ws ms =
+        let l = take-at (b .lengths) ls (length (b .lengths)) refl in
+        let w = take-at (codewords (b .lengths)) ws (length (b .lengths)) (codewords-length (b .lengths)) in
+        let m = take-at (b .multiplicands) ms (length (b .multiplicands)) refl in
+        record {
+          head = record {
+            dimensions-low = v .dimensions-low;
+            dimensions-high = v .dimensions-high;
+            entries-low = v .entries-low;
+            entries-high = v .entries-high;
+            entries-book = v .entries-book;
+            entries-all = v .entries-all;
+          };
+          place = record { entries-first = refl; values-first = refl; values-all = v .values-all };
+          lookup = record { most = v .lookup; none = λ e. none-rules (v .no-lookup e); some = λ e. some-rules (v .some-lookup e) };
+          coded = rw (l, w) (record { accepted = v .accepted; assigned = refl });
+          fit = rw m fits;
+        }
+      where
+        fits : all (λ x. ltb x (2 ^ b .width)) (b .multiplicands) ≡ true
+        fits = ⊎-elim (λ (h : 0 < b .lookup). some-fit (v .some-lookup (λ e. omega arith))) (λ (h : b .lookup ≤ 0). none-fit (v .no-lookup (omega arith))) (lt-or-le 0 (b .lookup))
+
+    pub rules-at : (ls ws ms l w m : List ℕ) → ls ≡ b .lengths ++ l → ws ≡ codewords (b .lengths) ++ w → ms ≡ b .multiplicands ++ m
+        → BookRules limits entries values (rowFor entries values b) ls ws ms
+    rules-at ls ws ms l w m e f g = rw (e, f, g) (valid-rules l w m)
+
+-- the row of a written book, and the book of a row
+pub row-written : (entries values : ℕ) (b : Book) (t : List ℕ) → rowOf (bookRow entries values b ++ t) ≡ rowFor entries values b
+unfolding bookRow
+row-written entries values b t = refl
+
+ten : (t : List ℕ) → 10 ≤ length t
+    → take 10 t ≡ getD t 0 0 ∷ getD t 1 0 ∷ getD t 2 0 ∷ getD t 3 0 ∷ getD t 4 0 ∷ getD t 5 0 ∷ getD t 6 0 ∷ getD t 7 0 ∷ getD t 8 0 ∷ getD t 9 0 ∷ []
+ten [] long = absurd (omega arith)
+ten (a ∷ []) long = absurd (omega arith)
+ten (a ∷ b ∷ []) long = absurd (omega arith)
+ten (a ∷ b ∷ c ∷ []) long = absurd (omega arith)
+ten (a ∷ b ∷ c ∷ d ∷ []) long = absurd (omega arith)
+ten (a ∷ b ∷ c ∷ d ∷ e ∷ []) long = absurd (omega arith)
+ten (a ∷ b ∷ c ∷ d ∷ e ∷ f ∷ []) long = absurd (omega arith)
+ten (a ∷ b ∷ c ∷ d ∷ e ∷ f ∷ g ∷ []) long = absurd (omega arith)
+ten (a ∷ b ∷ c ∷ d ∷ e ∷ f ∷ g ∷ h ∷ []) long = absurd (omega arith)
+ten (a ∷ b ∷ c ∷ d ∷ e ∷ f ∷ g ∷ h ∷ i ∷ []) long = absurd (omega arith)
+ten (a ∷ b ∷ c ∷ d ∷ e ∷ f ∷ g ∷ h ∷ i ∷ j ∷ t) long = refl
+
+pub written-row : (limits : Limits) (entries values : ℕ) (t ls ws ms : List ℕ) → 10 ≤ length t → limits .entries ≤ entries + length ls → limits .multiplicands ≤ values + length ms
+    → BookRules limits entries values (rowOf t) ls ws ms → take 10 t ≡ bookRow entries values (bookOf (rowOf t) ls ms)
+unfolding bookRow
+written-row limits entries values t ls ws ms h room room-values r =
+    ten t h
+    ∙ (λ j.
+    getD t 0 0
+    ∷ sym (lengths-long limits entries values (rowOf t) ls ws ms room room-values r) j
+    ∷ r .place .entries-first j
+    ∷ getD t 3 0
+    ∷ getD t 4 0
+    ∷ getD t 5 0
+    ∷ getD t 6 0
+    ∷ getD t 7 0
+    ∷ sym (values-long limits entries values (rowOf t) ls ws ms room room-values r) j
+    ∷ r .place .values-first j
+    ∷ [])

@@ -1,0 +1,31 @@
+-- `book_tables::judge::is_valued` meets its contract. Assumes nothing.
+use Rattle.book_tables.proofs.TestLaws.{valued-laws}
+use borrow.Author.Needs.{needs}
+use Rattle.book_tables.proofs.judge.is_valued.Statement.{statement}
+use Rattle.book_tables.proofs.judge.is_valued.Tie as tie
+
+returns : tie.Need-returns
+returns c = search valued-laws
+
+returns-2 : tie.Need-returns-2
+returns-2 c = search valued-laws
+
+returns-3 : tie.Need-returns-3
+returns-3 c = search valued-laws
+
+value-count-requires : tie.Need-value-count-requires
+value-count-requires c κs = search needs
+
+long-requires : tie.Need-long-requires
+long-requires c κs = search needs
+
+returns-4 : tie.Need-returns-4
+returns-4 c = search valued-laws
+
+returns-5 : tie.Need-returns-5
+returns-5 c = search valued-laws
+
+pub is-valued-spec : {M : Type 1} → statement M
+is-valued-spec =
+    tie.close
+    (tie.spec returns returns-2 returns-3 value-count-requires long-requires returns-4 returns-5)

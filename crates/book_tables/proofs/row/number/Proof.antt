@@ -1,0 +1,23 @@
+-- `book_tables::row::number` meets its contract. Assumes nothing.
+use Rattle.book_tables.proofs.TestLaws.{number-at}
+use borrow.Author.Needs.{needs}
+use Rattle.book_tables.proofs.row.number.Statement.{statement}
+use Rattle.book_tables.proofs.row.number.Tie as tie
+
+wide-requires : tie.Need-wide-requires
+wide-requires c κs = search needs
+
+mul-place : tie.Need-mul-place
+mul-place c = search needs
+
+add-place : tie.Need-add-place
+add-place c = search needs
+
+get-u32-requires : tie.Need-get-u32-requires
+get-u32-requires c κs = search needs
+
+returns : tie.Need-returns
+returns c = search (needs, number-at)
+
+pub number-spec : {M : Type 1} → statement M
+number-spec = tie.close (tie.spec wide-requires mul-place add-place get-u32-requires returns)

@@ -1,0 +1,57 @@
+// Nothing but zeros behind what is written in the four tables.
+ghost use mathlib.Core.Bool.{true};
+ghost use mathlib.Core.Logic.{_↔_};
+ghost use mathlib.Core.Path.{_≡_};
+ghost use lib.ListN.{drop};
+ghost use Rattle.reading.specs.Stand.{Zeros};
+ghost use Rattle.book_tables.specs.Stand.{Clear};
+
+fn zeros_u16(buffer: &[u16], from: usize) -> bool
+    ensures { λ r. ⌜ (r ≡ true) ↔ Zeros (drop from (now (buffer .entry))) ⌝ }
+{
+    let mut i = from;
+    while i < buffer.len() {
+        if buffer[i] != 0 {
+            return false;
+        }
+        i = i + 1;
+    }
+    true
+}
+
+fn zeros_u32(buffer: &[u32], from: usize) -> bool
+    ensures { λ r. ⌜ (r ≡ true) ↔ Zeros (drop from (now (buffer .entry))) ⌝ }
+{
+    let mut i = from;
+    while i < buffer.len() {
+        if buffer[i] != 0 {
+            return false;
+        }
+        i = i + 1;
+    }
+    true
+}
+
+// `rows` numbers of rows, and so many entries and multiplicands, are written.
+pub fn are_clear(
+    rows: usize,
+    entries: usize,
+    values: usize,
+    books: &[u32],
+    lengths: &[u8],
+    words: &[u32],
+    multiplicands: &[u16],
+) -> bool
+    ensures { λ r. ⌜ (r ≡ true) ↔ Clear (drop rows (now (books .entry))) (drop entries (now (lengths .entry))) (drop entries (now (words .entry))) (drop values (now (multiplicands .entry))) ⌝ }
+{
+    if !zeros_u32(books, rows) {
+        return false;
+    }
+    if !reading::zeros::zeros_u8(lengths, entries) {
+        return false;
+    }
+    if !zeros_u32(words, entries) {
+        return false;
+    }
+    zeros_u16(multiplicands, values)
+}
