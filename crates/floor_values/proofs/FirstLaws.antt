@@ -19,7 +19,7 @@ use Rattle.floor_values.specs.Lying.{floorIn, FloorLies}
 
 -- the four multipliers: 8, 7, 7 and 6 bits
 pub record Bits (m : ℕ) : Type 0 where
-  pub some : 1 ≤ rangeOf m
+  pub some : 64 ≤ rangeOf m
   pub few : firstBits m ≤ 8
 
 pub bits-known : (m : ℕ) → 1 ≤ m → m ≤ 4 → Bits m
@@ -46,7 +46,7 @@ module _ {floors books lengths words : List ℕ} {n : ℕ} (l : FloorLies floors
     range-is : range ≡ rangeOf (floorIn floors n .multiplier)
     range-is = e₃ ∙ ap rangeOf (e₂ ∙ multiplier-is)
 
-    pub range-some : 1 ≤ range
+    pub range-some : 64 ≤ range
     range-some = rw range-is (known .some)
 
     module _ {width : ℕ} (e₄ : width ≡ ilog (range - 1)) where

@@ -29,6 +29,7 @@ use Rattle.floor_values.specs.Claims.{FloorValues}
 use Rattle.floor_values.proofs.ClassLaws.{entry-small}
 use Rattle.floor_values.proofs.FirstLaws.{bits-known}
 use Rattle.floor_values.proofs.Cuts.{floor-cuts}
+use Rattle.floor_values.proofs.Refused.{floor-refused}
 
 ok-is : {A : Type 0} {a b : A} → ok a ≡ ok b → a ≡ b
 ok-is e = cc
@@ -212,5 +213,6 @@ values-known {floors} {books} {lengths} {words} {n} l =
       counted = λ s k ys m e. floor-known (lengthsIn books lengths) (l .count) entries s (floorIn floors n) (l .valid) k ys m e .counted;
       first = λ s k ys m e. floor-known (lengthsIn books lengths) (l .count) entries s (floorIn floors n) (l .valid) k ys m e .first;
       small = λ s k ys m e. small-get ys (floor-known (lengthsIn books lengths) (l .count) entries s (floorIn floors n) (l .valid) k ys m e .small);
+      refused = λ s k z e. floor-refused (lengthsIn books lengths) s (floorIn floors n) k z e;
       cut = λ s b k. floor-cuts s b (lengthsIn books lengths) (floorIn floors n) k;
     }

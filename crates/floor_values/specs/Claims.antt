@@ -19,5 +19,7 @@ pub record FloorValues (lengthsOf : ℕ → List ℕ) (f : Floor) : Type 0 where
   -- the first two have 8 bits, every other 16
   pub first : (s : List ℕ) (k : ℕ) (ys : List ℕ) (n : ℕ) → floorValues lengthsOf f s k ≡ ok (some ys, n) → (getD ys 0 0 < 256) × (getD ys 1 0 < 256)
   pub small : (s : List ℕ) (k : ℕ) (ys : List ℕ) (n : ℕ) → floorValues lengthsOf f s k ≡ ok (some ys, n) → (i : ℕ) → getD ys i 0 < 65536
+  -- nothing but a missing bit is refused
+  pub refused : (s : List ℕ) (k : ℕ) (z : Refusal) → floorValues lengthsOf f s k ≡ bad z → z .number ≡ 1
   -- a packet cut after any byte gives the same, or the cut (01: "floors read before the cut are the same")
   pub cut : (s : List ℕ) (b k : ℕ) → SameOrCut (floorValues lengthsOf f (take b s) k) (floorValues lengthsOf f s k)

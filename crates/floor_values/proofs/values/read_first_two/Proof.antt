@@ -22,7 +22,7 @@ range-of-requires : tie.Need-range-of-requires
 range-of-requires c κs = search needs
 
 sub-ilog : tie.Need-sub-ilog
-sub-ilog c = range-some (c .before .before .before .before .before .before .before .before .before .pre) (c .before .before .multiplier .ensures) (c .before .byte .ensures) (c .range-of .ensures .0)
+sub-ilog c = omega (arith, range-some (c .before .before .before .before .before .before .before .before .before .pre) (c .before .before .multiplier .ensures) (c .before .byte .ensures) (c .range-of .ensures .0))
 
 ilog-requires : tie.Need-ilog-requires
 ilog-requires c κs = search needs
