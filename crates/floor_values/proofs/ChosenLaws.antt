@@ -3,19 +3,18 @@
 use Prim.Native.Nat.{ℕ, zero, suc, _+_, _-_, _*_, _/_, _%_, _^_, _≤_, _<_}
 use native.Mathlib.Nat.{add-zero, sub-zero, mod-lt}
 use native.Mathlib.Omega.{arith}
-use borrow.Author.Needs.{needs}
 use borrow.Author.Tests.{leb-true}
-use mathlib.Core.Bool.{Bool, true, false, _&&_}
+use mathlib.Core.Bool.{Bool, true}
 use mathlib.Core.List.{List, [], _∷_}
 use mathlib.Core.Path.{_≡_, refl, sym, ap, _∙_}
 use lib.Dec.{leb}
-use lib.ListN.{length, getD, take, drop}
+use lib.ListN.{length, getD, take}
 use lib.Pow.{pow-mono, pow-pos}
-use lib.Seq.{slice, getD-take, getD-drop}
+use lib.Seq.{getD-take, getD-drop}
 use Rattle.reading.specs.Lists.{all}
-use Rattle.reading.specs.Outcome.{Outcome, ok, bad}
+use Rattle.reading.specs.Outcome.{ok, bad}
 use Rattle.reading.specs.Outcome as O
-use Rattle.reading.specs.Reader.{each, mapped, into, into1}
+use Rattle.reading.specs.Reader.{each, into, into1}
 use Rattle.reading.specs.Table.{Table, table, putRow}
 use Rattle.reading.proofs.Least.{and-split}
 use Rattle.reading.proofs.Readers.{each-done, each-bad, each-next, mapped-ok, mapped-bad}
@@ -38,21 +37,21 @@ all-get f (x ∷ l) zero a h = and-split (f x) (all f l) a .0
 all-get f (x ∷ l) (suc i) a h = all-get f l i (and-split (f x) (all f l) a .1) (omega arith)
 
 -- one turn, m more of them to come
-module _ (B : ℕ → List ℕ) (c : Class) (s : List ℕ) (left m k : ℕ) (t : Table) where
-  turn-bad : (z : O.Refusal) → value B (getD (c .books) (left % 2 ^ c .subclasses) 0) s k ≡ bad z → into (putRow cell) (each (value B) (chosen c left (suc m)) s k) t ≡ bad z
+module _ (lengthsOf : ℕ → List ℕ) (c : Class) (s : List ℕ) (left m k : ℕ) (t : Table) where
+  turn-bad : (z : O.Refusal) → value lengthsOf (getD (c .books) (left % 2 ^ c .subclasses) 0) s k ≡ bad z → into (putRow cell) (each (value lengthsOf) (chosen c left (suc m)) s k) t ≡ bad z
   unfolding chosen
   turn-bad z e =
-      each-bad 0 (putRow cell) (value B) (getD (c .books) (left % 2 ^ c .subclasses) 0 ∷ chosen c (left / 2 ^ c .subclasses) m) 0 s k t (omega arith) z e
+      each-bad 0 (putRow cell) (value lengthsOf) (getD (c .books) (left % 2 ^ c .subclasses) 0 ∷ chosen c (left / 2 ^ c .subclasses) m) 0 s k t (omega arith) z e
 
-  turn-next : (x : ℕ × ℕ) → value B (getD (c .books) (left % 2 ^ c .subclasses) 0) s k ≡ ok x
-      → into (putRow cell) (each (value B) (chosen c left (suc m)) s k) t ≡ into (putRow cell) (each (value B) (chosen c (left / 2 ^ c .subclasses) m) s (x .1)) (putRow cell (x .0) t)
+  turn-next : (x : ℕ × ℕ) → value lengthsOf (getD (c .books) (left % 2 ^ c .subclasses) 0) s k ≡ ok x
+      → into (putRow cell) (each (value lengthsOf) (chosen c left (suc m)) s k) t ≡ into (putRow cell) (each (value lengthsOf) (chosen c (left / 2 ^ c .subclasses) m) s (x .1)) (putRow cell (x .0) t)
   unfolding chosen
   turn-next x e =
-      each-next 0 (putRow cell) (value B) (getD (c .books) (left % 2 ^ c .subclasses) 0 ∷ chosen c (left / 2 ^ c .subclasses) m) 0 s k t (omega arith) x e
+      each-next 0 (putRow cell) (value lengthsOf) (getD (c .books) (left % 2 ^ c .subclasses) 0 ∷ chosen c (left / 2 ^ c .subclasses) m) 0 s k t (omega arith) x e
 
-no-turn : (B : ℕ → List ℕ) (c : Class) (s : List ℕ) (left k : ℕ) (t : Table) → into (putRow cell) (each (value B) (chosen c left 0) s k) t ≡ ok (t, k)
+no-turn : (lengthsOf : ℕ → List ℕ) (c : Class) (s : List ℕ) (left k : ℕ) (t : Table) → into (putRow cell) (each (value lengthsOf) (chosen c left 0) s k) t ≡ ok (t, k)
 unfolding chosen
-no-turn B c s left k t = each-done 0 (putRow cell) (value B) [] 0 s k t (omega arith)
+no-turn lengthsOf c s left k t = each-done 0 (putRow cell) (value lengthsOf) [] 0 s k t (omega arith)
 
 -- the books of a class, as they lie in the table
 module _ {floors books lengths words : List ℕ} {n c : ℕ} (l : ClassLies floors books lengths words n c) where
@@ -96,9 +95,6 @@ module _ {s floors books lengths words : List ℕ} {n c v : ℕ} {entry : List �
   module _ {now : List ℕ} {next : Cursor} {left i : ℕ} (w : Choosing s floors books lengths words n c v entry at from count base now next left i) where
     pub base-low : 0 < base
     base-low = rw (w .based) (pow-pos (classIn floors n c .subclasses))
-
-    pub count-few : count ≤ 8
-    count-few = rw (w .counted) (w .lies .valid .dimensions-high)
 
     digit-low : left % base < base
     digit-low = mod-lt left base-low

@@ -1,15 +1,13 @@
 -- Laws of reading one value and a class value, as the code asks them. Assumes nothing.
-use Prim.Native.Nat.{ℕ, zero, suc, _+_, _-_, _*_, _/_, _%_, _^_, _≤_, _<_}
+use Prim.Native.Nat.{ℕ, zero, suc, _+_, _-_, _*_, _%_, _^_, _≤_, _<_}
 use native.Mathlib.Nat.{one-mul}
 use native.Mathlib.Omega.{arith}
-use borrow.Author.Needs.{needs}
 use borrow.Author.Tests.{eq-eqb, ne-eqb}
-use mathlib.Core.List.{List, [], _∷_}
-use mathlib.Core.Path.{_≡_, refl, sym, ap, _∙_}
-use lib.Dec.{eqb}
-use lib.ListN.{length, getD, set, take, drop, length-take}
+use mathlib.Core.List.{List}
+use mathlib.Core.Path.{_≡_, refl, sym, _∙_}
+use lib.ListN.{getD, set, drop, length-take}
 use lib.Pow.{shl-exact}
-use Rattle.reading.specs.Outcome.{Outcome, ok, bad}
+use Rattle.reading.specs.Outcome.{ok}
 use Rattle.reading.specs.Reader.{mapped, into1}
 use Rattle.reading.specs.Table.{Table, table, putRow}
 use Rattle.bits.specs.declared.Cursor.{Cursor}
@@ -25,7 +23,6 @@ use Rattle.codebook.proofs.Laws.{read-used}
 use Rattle.book.specs.Layout.{entriesAt, firstEntryAt}
 use Rattle.book_codeword.specs.Lying.{entriesOf, BookLies}
 use Rattle.floors.specs.Cell.{cell}
-use Rattle.floors.specs.Content.{Class}
 use Rattle.floors.specs.Decode.{classAt}
 use Rattle.floor_values.specs.Values.{classValue, value}
 use Rattle.floor_values.specs.Lying.{lengthsIn, classIn, Readable, PlaceLies, ClassLies}
@@ -76,8 +73,6 @@ module _ {books lengths words : List ℕ} {place : ℕ} (l : PlaceLies books len
         unfolding into1 mapped putRow cell value lengthsIn
         value-read f list at list′ g = let e = value-is p q in wrote-next (rw (ne-eqb _ _ some, ← long, e, g, f))
 
-pub ruleset value-laws = (needs, value-none, value-low, value-lies, value-cut, value-fits, value-read)
-
 -- the class value
 module _ {floors books lengths words : List ℕ} {n c : ℕ} (l : ClassLies floors books lengths words n c) {sub : ℕ} (e : sub ≡ getD floors (277 * n + 36 + 11 * c + 1) 0) where
   pub class-none : (s : List ℕ) (k : Cursor) → sub ≡ 0 → outcome (Value 0 k) ≡ classValue (lengthsIn books lengths) (classIn floors n c) s (position k)
@@ -100,5 +95,3 @@ module _ {floors books lengths words : List ℕ} {n c : ℕ} (l : ClassLies floo
         → outcome r ≡ classValue (lengthsIn books lengths) (classIn floors n c) s (position k)
     unfolding classValue classIn classAt lengthsIn
     class-read s k r p = rw (ne-eqb _ _ (λ z. some (e ∙ z)), ← e₂, ← e₃) p
-
-pub ruleset class-laws = (needs, class-none, master-low, master-lies, class-read)

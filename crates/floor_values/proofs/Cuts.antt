@@ -67,44 +67,44 @@ module _ (s : List ℕ) (b : ℕ) where
       then-cut (r p (take b s) k) (r p s k) (λ x. then (each r l (take b s) (x .1)) (λ y. ok (x .0 ∷ y .0, y .1))) (λ x. then (each r l s (x .1)) (λ y. ok (x .0 ∷ y .0, y .1))) (h p k)
       (λ x. then-cut (each r l (take b s) (x .1)) (each r l s (x .1)) (λ y. ok (x .0 ∷ y .0, y .1)) (λ y. ok (x .0 ∷ y .0, y .1)) (each-cut r h l (x .1)) (λ y. same (ok (x .0 ∷ y .0, y .1))))
 
-  module _ (B : ℕ → List ℕ) where
-    value-cuts : (p k : ℕ) → SameOrCut (value B p (take b s) k) (value B p s k)
+  module _ (lengthsOf : ℕ → List ℕ) where
+    value-cuts : (p k : ℕ) → SameOrCut (value lengthsOf p (take b s) k) (value lengthsOf p s k)
     unfolding value
-    value-cuts p k = cond-cut (eqb p 0) (ok (0, k)) (ok (0, k)) (codeword (B (p - 1)) (take b s) k) (codeword (B (p - 1)) s k) (same (ok (0, k))) (codeword-cuts (B (p - 1)) k)
+    value-cuts p k = cond-cut (eqb p 0) (ok (0, k)) (ok (0, k)) (codeword (lengthsOf (p - 1)) (take b s) k) (codeword (lengthsOf (p - 1)) s k) (same (ok (0, k))) (codeword-cuts (lengthsOf (p - 1)) k)
 
-    class-cuts : (c : Class) (k : ℕ) → SameOrCut (classValue B c (take b s) k) (classValue B c s k)
+    class-cuts : (c : Class) (k : ℕ) → SameOrCut (classValue lengthsOf c (take b s) k) (classValue lengthsOf c s k)
     unfolding classValue
     class-cuts c k =
-        cond-cut (eqb (c .subclasses) 0) (ok (0, k)) (ok (0, k)) (codeword (B (c .master - 1)) (take b s) k) (codeword (B (c .master - 1)) s k) (same (ok (0, k))) (codeword-cuts (B (c .master - 1)) k)
+        cond-cut (eqb (c .subclasses) 0) (ok (0, k)) (ok (0, k)) (codeword (lengthsOf (c .master - 1)) (take b s) k) (codeword (lengthsOf (c .master - 1)) s k) (same (ok (0, k))) (codeword-cuts (lengthsOf (c .master - 1)) k)
 
-    partition-cuts : (c : Class) (k : ℕ) → SameOrCut (partition B c (take b s) k) (partition B c s k)
+    partition-cuts : (c : Class) (k : ℕ) → SameOrCut (partition lengthsOf c (take b s) k) (partition lengthsOf c s k)
     unfolding partition
     partition-cuts c k =
-        then-cut (classValue B c (take b s) k) (classValue B c s k) (λ v. each (value B) (chosen c (v .0) (c .dimensions)) (take b s) (v .1)) (λ v. each (value B) (chosen c (v .0) (c .dimensions)) s (v .1))
-        (class-cuts c k) (λ v. each-cut (value B) value-cuts (chosen c (v .0) (c .dimensions)) (v .1))
+        then-cut (classValue lengthsOf c (take b s) k) (classValue lengthsOf c s k) (λ v. each (value lengthsOf) (chosen c (v .0) (c .dimensions)) (take b s) (v .1)) (λ v. each (value lengthsOf) (chosen c (v .0) (c .dimensions)) s (v .1))
+        (class-cuts c k) (λ v. each-cut (value lengthsOf) value-cuts (chosen c (v .0) (c .dimensions)) (v .1))
 
     module _ (f : Floor) where
-      part-cuts : (p k : ℕ) → SameOrCut (partitionOf B f p (take b s) k) (partitionOf B f p s k)
+      part-cuts : (p k : ℕ) → SameOrCut (partitionOf lengthsOf f p (take b s) k) (partitionOf lengthsOf f p s k)
       unfolding partitionOf
       part-cuts p k = partition-cuts (getD (f .classes) p noClass) k
 
-      used-cuts : (k : ℕ) → SameOrCut (usedValues B f (take b s) k) (usedValues B f s k)
+      used-cuts : (k : ℕ) → SameOrCut (usedValues lengthsOf f (take b s) k) (usedValues lengthsOf f s k)
       unfolding usedValues
       used-cuts k =
           then-cut (many (field (firstBits (f .multiplier))) 2 (take b s) k) (many (field (firstBits (f .multiplier))) 2 s k)
-          (λ first. then (each (partitionOf B f) (f .partitions) (take b s) (first .1)) (λ later. ok (first .0 ++ rows whole (later .0), later .1)))
-          (λ first. then (each (partitionOf B f) (f .partitions) s (first .1)) (λ later. ok (first .0 ++ rows whole (later .0), later .1)))
+          (λ first. then (each (partitionOf lengthsOf f) (f .partitions) (take b s) (first .1)) (λ later. ok (first .0 ++ rows whole (later .0), later .1)))
+          (λ first. then (each (partitionOf lengthsOf f) (f .partitions) s (first .1)) (λ later. ok (first .0 ++ rows whole (later .0), later .1)))
           (many-cut (field (firstBits (f .multiplier))) (field-cuts (firstBits (f .multiplier))) 2 k)
-          (λ first. then-cut (each (partitionOf B f) (f .partitions) (take b s) (first .1)) (each (partitionOf B f) (f .partitions) s (first .1))
+          (λ first. then-cut (each (partitionOf lengthsOf f) (f .partitions) (take b s) (first .1)) (each (partitionOf lengthsOf f) (f .partitions) s (first .1))
           (λ later. ok (first .0 ++ rows whole (later .0), later .1)) (λ later. ok (first .0 ++ rows whole (later .0), later .1))
-          (each-cut (partitionOf B f) part-cuts (f .partitions) (first .1)) (λ later. same (ok (first .0 ++ rows whole (later .0), later .1))))
+          (each-cut (partitionOf lengthsOf f) part-cuts (f .partitions) (first .1)) (λ later. same (ok (first .0 ++ rows whole (later .0), later .1))))
 
-      pub floor-cuts : (k : ℕ) → SameOrCut (floorValues B f (take b s) k) (floorValues B f s k)
+      pub floor-cuts : (k : ℕ) → SameOrCut (floorValues lengthsOf f (take b s) k) (floorValues lengthsOf f s k)
       unfolding floorValues
       floor-cuts k =
           then-cut (field 1 (take b s) k) (field 1 s k)
-          (λ nonzero. cond (eqb (nonzero .0) 0) (ok (none, nonzero .1)) (mapped some (usedValues B f (take b s) (nonzero .1))))
-          (λ nonzero. cond (eqb (nonzero .0) 0) (ok (none, nonzero .1)) (mapped some (usedValues B f s (nonzero .1))))
+          (λ nonzero. cond (eqb (nonzero .0) 0) (ok (none, nonzero .1)) (mapped some (usedValues lengthsOf f (take b s) (nonzero .1))))
+          (λ nonzero. cond (eqb (nonzero .0) 0) (ok (none, nonzero .1)) (mapped some (usedValues lengthsOf f s (nonzero .1))))
           (field-cuts 1 k)
-          (λ nonzero. cond-cut (eqb (nonzero .0) 0) (ok (none, nonzero .1)) (ok (none, nonzero .1)) (mapped some (usedValues B f (take b s) (nonzero .1))) (mapped some (usedValues B f s (nonzero .1)))
-          (same (ok (none, nonzero .1))) (mapped-cut some (usedValues B f (take b s) (nonzero .1)) (usedValues B f s (nonzero .1)) (used-cuts (nonzero .1))))
+          (λ nonzero. cond-cut (eqb (nonzero .0) 0) (ok (none, nonzero .1)) (ok (none, nonzero .1)) (mapped some (usedValues lengthsOf f (take b s) (nonzero .1))) (mapped some (usedValues lengthsOf f s (nonzero .1)))
+          (same (ok (none, nonzero .1))) (mapped-cut some (usedValues lengthsOf f (take b s) (nonzero .1)) (usedValues lengthsOf f s (nonzero .1)) (used-cuts (nonzero .1))))

@@ -2,16 +2,16 @@
 use Prim.Native.Nat.{ℕ, zero, suc, _+_, _-_, _/_, _%_, _^_, _≤_, _<_}
 use native.Mathlib.Omega.{arith}
 use borrow.Author.Tests.{leb-true, eqb-false}
-use mathlib.Core.Bool.{Bool, true, false, cond, _&&_}
+use mathlib.Core.Bool.{Bool, true, false, cond}
 use mathlib.Core.List.{List, [], _∷_, _++_, map}
 use mathlib.Core.Option.{Option, none, some}
-use mathlib.Core.Path.{_≡_, refl, sym, ap, subst, _∙_}
+use mathlib.Core.Path.{_≡_, refl, ap, subst, _∙_}
 use lib.Dec.{eqb, leb}
 use lib.ListN.{length, getD, length-append, List·getD-append}
 use lib.Pow.{pow-mono}
 use Rattle.reading.specs.Lists.{rows, all}
 use Rattle.reading.specs.Stand.{Each}
-use Rattle.reading.specs.Outcome.{Outcome, ok, bad, then}
+use Rattle.reading.specs.Outcome.{ok, then}
 use Rattle.reading.specs.Reader.{many, each, mapped}
 use Rattle.reading.proofs.Least.{and-split}
 use Rattle.reading.proofs.Outcomes.{then-ok}
@@ -22,7 +22,7 @@ use Rattle.bits.proofs.Fields.{field-ok}
 use Rattle.codebook.specs.Codeword.{codeword}
 use Rattle.floors.specs.Content.{Class, Floor, xList, valueCount}
 use Rattle.floors.specs.Decode.{noClass}
-use Rattle.floors.specs.Valid.{ValidClass, ValidClasses, ValidFloor}
+use Rattle.floors.specs.Valid.{ValidClasses, ValidFloor}
 use Rattle.floor_values.specs.Values.{firstBits, classValue, chosen, value, partition, partitionOf, whole, usedValues, floorValues}
 use Rattle.floor_values.specs.Lying.{lengthsIn, floorIn, FloorLies}
 use Rattle.floor_values.specs.Claims.{FloorValues}
@@ -45,20 +45,20 @@ dimensions-get [] p = refl
 dimensions-get (c ∷ cs) zero = refl
 dimensions-get (c ∷ cs) (suc p) = dimensions-get cs p
 
-module _ (B : ℕ → List ℕ) (s : List ℕ) where
-  partition-long : (c : Class) (k : ℕ) {x : List ℕ × ℕ} → partition B c s k ≡ ok x → length (x .0) ≡ c .dimensions
+module _ (lengthsOf : ℕ → List ℕ) (s : List ℕ) where
+  partition-long : (c : Class) (k : ℕ) {x : List ℕ × ℕ} → partition lengthsOf c s k ≡ ok x → length (x .0) ≡ c .dimensions
   unfolding partition
   partition-long c k {x} e =
-      let v = then-ok (classValue B c s k) (λ v. each (value B) (chosen c (v .0) (c .dimensions)) s (v .1)) e in
-      subst (Long (length (chosen c (v .0 .0) (c .dimensions)))) (v .2) (each-long (value B) (chosen c (v .0 .0) (c .dimensions)) s (v .0 .1)) ∙ chosen-long c (v .0 .0) (c .dimensions)
+      let v = then-ok (classValue lengthsOf c s k) (λ v. each (value lengthsOf) (chosen c (v .0) (c .dimensions)) s (v .1)) e in
+      subst (Long (length (chosen c (v .0 .0) (c .dimensions)))) (v .2) (each-long (value lengthsOf) (chosen c (v .0 .0) (c .dimensions)) s (v .0 .1)) ∙ chosen-long c (v .0 .0) (c .dimensions)
 
-  total-long : (f : Floor) (ps : List ℕ) (k : ℕ) {x : List (List ℕ) × ℕ} → each (partitionOf B f) ps s k ≡ ok x
+  total-long : (f : Floor) (ps : List ℕ) (k : ℕ) {x : List (List ℕ) × ℕ} → each (partitionOf lengthsOf f) ps s k ≡ ok x
       → length (rows whole (x .0)) ≡ valueCount (map (λ (c : Class). c .dimensions) (f .classes)) ps
   unfolding each rows whole valueCount partitionOf
   total-long f [] k {x} e = let g : ([], k) ≡ x = ok-is e in subst (λ (y : List (List ℕ) × ℕ). length (rows whole (y .0)) ≡ 0) g refl
   total-long f (p ∷ ps) k {x} e =
-      let a = then-ok (partition B (getD (f .classes) p noClass) s k) (λ x. then (each (partitionOf B f) ps s (x .1)) (λ y. ok (x .0 ∷ y .0, y .1))) e in
-      let b = then-ok (each (partitionOf B f) ps s (a .0 .1)) (λ y. ok (a .0 .0 ∷ y .0, y .1)) (a .2) in
+      let a = then-ok (partition lengthsOf (getD (f .classes) p noClass) s k) (λ x. then (each (partitionOf lengthsOf f) ps s (x .1)) (λ y. ok (x .0 ∷ y .0, y .1))) e in
+      let b = then-ok (each (partitionOf lengthsOf f) ps s (a .0 .1)) (λ y. ok (a .0 .0 ∷ y .0, y .1)) (a .2) in
       let g : (a .0 .0 ∷ b .0 .0, b .0 .1) ≡ x = ok-is (b .2) in
       let h = total-long f ps (a .0 .1) (b .1) in
       let i = partition-long (getD (f .classes) p noClass) k (a .1) in
@@ -105,40 +105,40 @@ positive : (x : ℕ) → (x ≡ 0 → ⊥) → 1 ≤ x
 positive zero n = absurd (n refl)
 positive (suc x) n = omega arith
 
-module _ (B : ℕ → List ℕ) (count : ℕ) (entries : (b : ℕ) → b < count → (s : List ℕ) (k v n : ℕ) → codeword (B b) s k ≡ ok (v, n) → v < 65536) (s : List ℕ) where
-  value-small : (p k : ℕ) → p ≤ count → {x : ℕ × ℕ} → value B p s k ≡ ok x → x .0 < 65536
+module _ (lengthsOf : ℕ → List ℕ) (count : ℕ) (entries : (b : ℕ) → b < count → (s : List ℕ) (k v n : ℕ) → codeword (lengthsOf b) s k ≡ ok (v, n) → v < 65536) (s : List ℕ) where
+  value-small : (p k : ℕ) → p ≤ count → {x : ℕ × ℕ} → value lengthsOf p s k ≡ ok x → x .0 < 65536
   unfolding value
   value-small p k h {x} e = go (eqb p 0) refl e
     where
-      go : (t : Bool) → eqb p 0 ≡ t → cond t (ok (0, k)) (codeword (B (p - 1)) s k) ≡ ok x → x .0 < 65536
+      go : (t : Bool) → eqb p 0 ≡ t → cond t (ok (0, k)) (codeword (lengthsOf (p - 1)) s k) ≡ ok x → x .0 < 65536
       go true q e = let g : (0, k) ≡ x = ok-is e in subst (λ (y : ℕ × ℕ). y .0 < 65536) g (omega arith)
       go false q e = let low = positive p (eqb-false p 0 q) in entries (p - 1) (omega arith) s k (x .0) (x .1) e
 
   module _ (c : Class) (low : (j : ℕ) → getD (c .books) j 0 ≤ count) where
-    chosen-small : (v n k : ℕ) {x : List ℕ × ℕ} → each (value B) (chosen c v n) s k ≡ ok x → Small (x .0)
+    chosen-small : (v n k : ℕ) {x : List ℕ × ℕ} → each (value lengthsOf) (chosen c v n) s k ≡ ok x → Small (x .0)
     unfolding each chosen
     chosen-small v zero k {x} e = let g : ([], k) ≡ x = ok-is e in subst (λ (y : List ℕ × ℕ). Small (y .0)) g small-none
     chosen-small v (suc n) k {x} e =
         let p = getD (c .books) (v % 2 ^ c .subclasses) 0 in
         let l = chosen c (v / 2 ^ c .subclasses) n in
-        let a = then-ok (value B p s k) (λ x. then (each (value B) l s (x .1)) (λ y. ok (x .0 ∷ y .0, y .1))) e in
-        let b = then-ok (each (value B) l s (a .0 .1)) (λ y. ok (a .0 .0 ∷ y .0, y .1)) (a .2) in
+        let a = then-ok (value lengthsOf p s k) (λ x. then (each (value lengthsOf) l s (x .1)) (λ y. ok (x .0 ∷ y .0, y .1))) e in
+        let b = then-ok (each (value lengthsOf) l s (a .0 .1)) (λ y. ok (a .0 .0 ∷ y .0, y .1)) (a .2) in
         let g : (a .0 .0 ∷ b .0 .0, b .0 .1) ≡ x = ok-is (b .2) in
         subst (λ (y : List ℕ × ℕ). Small (y .0)) g (small-cons (a .0 .0) (b .0 .0) (value-small p k (low (v % 2 ^ c .subclasses)) (a .1)) (chosen-small (v / 2 ^ c .subclasses) n (a .0 .1) (b .1)))
 
-    partition-small : (k : ℕ) {x : List ℕ × ℕ} → partition B c s k ≡ ok x → Small (x .0)
+    partition-small : (k : ℕ) {x : List ℕ × ℕ} → partition lengthsOf c s k ≡ ok x → Small (x .0)
     unfolding partition
     partition-small k e =
-        let v = then-ok (classValue B c s k) (λ v. each (value B) (chosen c (v .0) (c .dimensions)) s (v .1)) e in
+        let v = then-ok (classValue lengthsOf c s k) (λ v. each (value lengthsOf) (chosen c (v .0) (c .dimensions)) s (v .1)) e in
         chosen-small (v .0 .0) (c .dimensions) (v .0 .1) (v .2)
 
   module _ (f : Floor) (valid : ValidFloor count f) where
-    partitions-small : (ps : List ℕ) (k : ℕ) {x : List (List ℕ) × ℕ} → each (partitionOf B f) ps s k ≡ ok x → Small (rows whole (x .0))
+    partitions-small : (ps : List ℕ) (k : ℕ) {x : List (List ℕ) × ℕ} → each (partitionOf lengthsOf f) ps s k ≡ ok x → Small (rows whole (x .0))
     unfolding each rows whole partitionOf
     partitions-small [] k {x} e = let g : ([], k) ≡ x = ok-is e in subst (λ (y : List (List ℕ) × ℕ). Small (rows whole (y .0))) g small-none
     partitions-small (p ∷ ps) k {x} e =
-        let a = then-ok (partition B (getD (f .classes) p noClass) s k) (λ x. then (each (partitionOf B f) ps s (x .1)) (λ y. ok (x .0 ∷ y .0, y .1))) e in
-        let b = then-ok (each (partitionOf B f) ps s (a .0 .1)) (λ y. ok (a .0 .0 ∷ y .0, y .1)) (a .2) in
+        let a = then-ok (partition lengthsOf (getD (f .classes) p noClass) s k) (λ x. then (each (partitionOf lengthsOf f) ps s (x .1)) (λ y. ok (x .0 ∷ y .0, y .1))) e in
+        let b = then-ok (each (partitionOf lengthsOf f) ps s (a .0 .1)) (λ y. ok (a .0 .0 ∷ y .0, y .1)) (a .2) in
         let g : (a .0 .0 ∷ b .0 .0, b .0 .1) ≡ x = ok-is (b .2) in
         let i = partition-small (getD (f .classes) p noClass) (λ j. places-low count (f .classes) (valid .classes) p j) k (a .1) in
         subst (λ (y : List (List ℕ) × ℕ). Small (rows whole (y .0))) g (small-append (a .0 .0) (rows whole (b .0 .0)) i (partitions-small ps (a .0 .1) (b .1)))
@@ -167,17 +167,17 @@ module _ (B : ℕ → List ℕ) (count : ℕ) (entries : (b : ℕ) → b < count
     unfolding Small
     byte-small l h i = let g = h i in omega arith
 
-    used-known : (k : ℕ) (ys : List ℕ) (n : ℕ) → usedValues B f s k ≡ ok (ys, n) → Known ys
+    used-known : (k : ℕ) (ys : List ℕ) (n : ℕ) → usedValues lengthsOf f s k ≡ ok (ys, n) → Known ys
     unfolding usedValues
     used-known k ys n e =
         let w = firstBits (f .multiplier) in
-        let a = then-ok (many (field w) 2 s k) (λ first. then (each (partitionOf B f) (f .partitions) s (first .1)) (λ later. ok (first .0 ++ rows whole (later .0), later .1))) e in
-        let b = then-ok (each (partitionOf B f) (f .partitions) s (a .0 .1)) (λ later. ok (a .0 .0 ++ rows whole (later .0), later .1)) (a .2) in
+        let a = then-ok (many (field w) 2 s k) (λ first. then (each (partitionOf lengthsOf f) (f .partitions) s (first .1)) (λ later. ok (first .0 ++ rows whole (later .0), later .1))) e in
+        let b = then-ok (each (partitionOf lengthsOf f) (f .partitions) s (a .0 .1)) (λ later. ok (a .0 .0 ++ rows whole (later .0), later .1)) (a .2) in
         let g : _≡_ {A = List ℕ × ℕ} (a .0 .0 ++ rows whole (b .0 .0), b .0 .1) (ys, n) = ok-is (b .2) in
         let same : a .0 .0 ++ rows whole (b .0 .0) ≡ ys = ap (λ (y : List ℕ × ℕ). y .0) g in
         let two = many-number (field w) s 2 k (a .1) in
         let low = each-get (a .0 .0) (many-each (field w) s (λ v. v < 256) first-below 2 k (a .1)) in
-        let later = total-long B s f (f .partitions) (a .0 .1) (b .1) in
+        let later = total-long lengthsOf s f (f .partitions) (a .0 .1) (b .1) in
         let long = length-append (a .0 .0) (rows whole (b .0 .0)) in
         let xs = valid .value-count in
         subst Known same
@@ -187,20 +187,20 @@ module _ (B : ℕ → List ℕ) (count : ℕ) (entries : (b : ℕ) → b < count
           small = small-append (a .0 .0) (rows whole (b .0 .0)) (byte-small (a .0 .0) low) (partitions-small (f .partitions) (a .0 .1) (b .1));
         })
 
-    floor-known : (k : ℕ) (ys : List ℕ) (n : ℕ) → floorValues B f s k ≡ ok (some ys, n) → Known ys
+    floor-known : (k : ℕ) (ys : List ℕ) (n : ℕ) → floorValues lengthsOf f s k ≡ ok (some ys, n) → Known ys
     unfolding floorValues
     floor-known k ys n e =
-        let a = then-ok (field 1 s k) (λ nonzero. cond (eqb (nonzero .0) 0) (ok (none, nonzero .1)) (mapped some (usedValues B f s (nonzero .1)))) e in
+        let a = then-ok (field 1 s k) (λ nonzero. cond (eqb (nonzero .0) 0) (ok (none, nonzero .1)) (mapped some (usedValues lengthsOf f s (nonzero .1)))) e in
         go (a .0) (eqb (a .0 .0) 0) (a .2)
       where
-        go : (x : ℕ × ℕ) (t : Bool) → cond t (ok (none, x .1)) (mapped some (usedValues B f s (x .1))) ≡ ok (some ys, n) → Known ys
+        go : (x : ℕ × ℕ) (t : Bool) → cond t (ok (none, x .1)) (mapped some (usedValues lengthsOf f s (x .1))) ≡ ok (some ys, n) → Known ys
         go x true q =
             let p : _≡_ {A = Option (List ℕ) × ℕ} (none, x .1) (some ys, n) = ok-is q in
             let o : _≡_ {A = Option (List ℕ)} none (some ys) = ap (λ (y : Option (List ℕ) × ℕ). y .0) p in
             let z : _≡_ {A = ℕ} 0 1 = cc in
             absurd (omega arith)
         go x false q =
-            let m = mapped-ok some (usedValues B f s (x .1)) q in
+            let m = mapped-ok some (usedValues lengthsOf f s (x .1)) q in
             let i : m .0 ≡ ys = cc in
             subst Known i (used-known (x .1) (m .0) n (m .1))
 

@@ -7,3 +7,4 @@ pub mod Cuts
 pub mod Refused
 pub mod Known
 pub mod Stands
+pub mod Front

@@ -1,11 +1,10 @@
 -- Laws of reading one partition, and of the loop over the partitions of a floor, as the code asks them. Assumes nothing.
-use Prim.Native.Nat.{ℕ, zero, suc, _+_, _-_, _*_, _≤_, _<_, max, min}
-use native.Mathlib.Nat.{add-zero, mul-zero}
+use Prim.Native.Nat.{ℕ, zero, suc, _+_, _*_, _≤_, _<_}
 use native.Mathlib.Omega.{arith}
 use mathlib.Core.List.{List, [], _∷_}
 use mathlib.Core.Path.{_≡_, refl, sym, ap, _∙_}
 use lib.ListN.{length, getD, take, drop, length-take, length-drop}
-use lib.Seq.{sets, slice, getD-take, getD-drop}
+use lib.Seq.{sets, getD-take, getD-drop}
 use Rattle.reading.specs.Lists.{rows}
 use Rattle.reading.specs.Outcome.{Outcome, ok, bad}
 use Rattle.reading.specs.Reader.{each, mapped, puts, into, into1}
@@ -22,9 +21,9 @@ use Rattle.bits.proofs.Answers.{value-is, refused-is}
 use Rattle.bits.proofs.Steps.{wrote-refused, EachRest, each-loop-start, each-loop-next, each-loop-refused, each-loop-done}
 use Rattle.bits.proofs.Written.{wrote-through}
 use Rattle.floors.specs.Cell.{cell}
-use Rattle.floors.specs.Content.{Class, Floor, classCount}
+use Rattle.floors.specs.Content.{Class, classCount}
 use Rattle.floors.specs.Decode.{noClass, classAt, classesAt, floorAt}
-use Rattle.floors.specs.Valid.{ValidClass, ValidClasses, ValidFloor}
+use Rattle.floors.specs.Valid.{ValidClass, ValidClasses}
 use Rattle.floors.proofs.Collected.{rows-cell, wrote-as}
 use Rattle.floors.proofs.RowLaws.{class-count-most}
 use Rattle.floor_values.specs.Values.{classValue, chosen, value, partition, partitionOf, whole}
@@ -37,16 +36,16 @@ as-run (ok x) l i = ap (λ (t : Table). ok (t, x .1)) (puts-rows cell (x .0) l i
 as-run (bad z) l i = refl
 
 -- one partition
-module _ (B : ℕ → List ℕ) (c : Class) (s : List ℕ) (k : Cursor) (list : List ℕ) (at : ℕ) (r : Field) (p : outcome r ≡ classValue B c s (position k)) where
-  pub partition-cut : {z : Refusal} → r ≡ Refused z → (u : Table) → Wrote (into1 (putRow whole) (partition B c s (position k)) (table list at)) (S.Refused z) u
+module _ (lengthsOf : ℕ → List ℕ) (c : Class) (s : List ℕ) (k : Cursor) (list : List ℕ) (at : ℕ) (r : Field) (p : outcome r ≡ classValue lengthsOf c s (position k)) where
+  pub partition-cut : {z : Refusal} → r ≡ Refused z → (u : Table) → Wrote (into1 (putRow whole) (partition lengthsOf c s (position k)) (table list at)) (S.Refused z) u
   unfolding into1 mapped partition
   partition-cut q u = wrote-refused u (rw (refused-is p q))
 
   pub partition-read : {v : ℕ} {k₁ : Cursor} → r ≡ Value v k₁ → {st : Step} {u : Table}
-      → Wrote (into (putRow cell) (each (value B) (chosen c v (c .dimensions)) s (position k₁)) (table list at)) st u
-      → Wrote (into1 (putRow whole) (partition B c s (position k)) (table list at)) st u
+      → Wrote (into (putRow cell) (each (value lengthsOf) (chosen c v (c .dimensions)) s (position k₁)) (table list at)) st u
+      → Wrote (into1 (putRow whole) (partition lengthsOf c s (position k)) (table list at)) st u
   unfolding partition
-  partition-read {v} {k₁} q w = rw (value-is p q) (wrote-as (as-run (each (value B) (chosen c v (c .dimensions)) s (position k₁)) list at) w)
+  partition-read {v} {k₁} q w = rw (value-is p q) (wrote-as (as-run (each (value lengthsOf) (chosen c v (c .dimensions)) s (position k₁)) list at) w)
 
 -- the classes of a floor, as they lie in the table
 pub classes-long : (t : List ℕ) (at n : ℕ) → length (classesAt t at n) ≡ n
@@ -121,9 +120,9 @@ module _ {floors books lengths words : List ℕ} {n : ℕ} (l : FloorLies floors
           readable = l .readable;
         }
 
-    pub partition-is : (B : ℕ → List ℕ) → partitionOf B (floorIn floors n) (getD (floorIn floors n .partitions) i 0) ≡ partition B (classIn floors n class)
+    pub partition-is : (lengthsOf : ℕ → List ℕ) → partitionOf lengthsOf (floorIn floors n) (getD (floorIn floors n .partitions) i 0) ≡ partition lengthsOf (classIn floors n class)
     unfolding partitionOf
-    partition-is B = rw (class-of, class-get)
+    partition-is lengthsOf = rw (class-of, class-get)
 
 -- i of the partitions are read, and their values lie before place `at`
 pub record Going (s floors books lengths words : List ℕ) (n : ℕ) (entry : List ℕ) (from : Cursor) (count : ℕ) (now : List ℕ) (next : Cursor) (at i : ℕ) : Type 0 where

@@ -73,38 +73,38 @@ module _ (s : List ℕ) where
       then-cut (r p s k) (λ x. then (each r l s (x .1)) (λ y. ok (x .0 ∷ y .0, y .1))) (h p k)
       (λ x. then-cut (each r l s (x .1)) (λ y. ok (x .0 ∷ y .0, y .1)) (each-cut r h l (x .1)) (λ y. tt))
 
-module _ (B : ℕ → List ℕ) (s : List ℕ) where
-  value-cut : (p k : ℕ) → Cut (value B p s k)
+module _ (lengthsOf : ℕ → List ℕ) (s : List ℕ) where
+  value-cut : (p k : ℕ) → Cut (value lengthsOf p s k)
   unfolding value
-  value-cut p k = cond-cut (eqb p 0) (ok (0, k)) (codeword (B (p - 1)) s k) tt (codeword-cut s (B (p - 1)) k)
+  value-cut p k = cond-cut (eqb p 0) (ok (0, k)) (codeword (lengthsOf (p - 1)) s k) tt (codeword-cut s (lengthsOf (p - 1)) k)
 
-  class-cut : (c : Class) (k : ℕ) → Cut (classValue B c s k)
+  class-cut : (c : Class) (k : ℕ) → Cut (classValue lengthsOf c s k)
   unfolding classValue
-  class-cut c k = cond-cut (eqb (c .subclasses) 0) (ok (0, k)) (codeword (B (c .master - 1)) s k) tt (codeword-cut s (B (c .master - 1)) k)
+  class-cut c k = cond-cut (eqb (c .subclasses) 0) (ok (0, k)) (codeword (lengthsOf (c .master - 1)) s k) tt (codeword-cut s (lengthsOf (c .master - 1)) k)
 
   module _ (f : Floor) where
-    part-cut : (p k : ℕ) → Cut (partitionOf B f p s k)
+    part-cut : (p k : ℕ) → Cut (partitionOf lengthsOf f p s k)
     unfolding partitionOf partition
     part-cut p k =
         let c = getD (f .classes) p noClass in
-        then-cut (classValue B c s k) (λ v. each (value B) (chosen c (v .0) (c .dimensions)) s (v .1)) (class-cut c k)
-        (λ v. each-cut s (value B) value-cut (chosen c (v .0) (c .dimensions)) (v .1))
+        then-cut (classValue lengthsOf c s k) (λ v. each (value lengthsOf) (chosen c (v .0) (c .dimensions)) s (v .1)) (class-cut c k)
+        (λ v. each-cut s (value lengthsOf) value-cut (chosen c (v .0) (c .dimensions)) (v .1))
 
-    used-cut : (k : ℕ) → Cut (usedValues B f s k)
+    used-cut : (k : ℕ) → Cut (usedValues lengthsOf f s k)
     unfolding usedValues
     used-cut k =
         then-cut (many (field (firstBits (f .multiplier))) 2 s k)
-        (λ first. then (each (partitionOf B f) (f .partitions) s (first .1)) (λ later. ok (first .0 ++ rows whole (later .0), later .1)))
+        (λ first. then (each (partitionOf lengthsOf f) (f .partitions) s (first .1)) (λ later. ok (first .0 ++ rows whole (later .0), later .1)))
         (many-cut s (field (firstBits (f .multiplier))) (field-cut s (firstBits (f .multiplier))) 2 k)
-        (λ first. then-cut (each (partitionOf B f) (f .partitions) s (first .1)) (λ later. ok (first .0 ++ rows whole (later .0), later .1))
-        (each-cut s (partitionOf B f) part-cut (f .partitions) (first .1)) (λ later. tt))
+        (λ first. then-cut (each (partitionOf lengthsOf f) (f .partitions) s (first .1)) (λ later. ok (first .0 ++ rows whole (later .0), later .1))
+        (each-cut s (partitionOf lengthsOf f) part-cut (f .partitions) (first .1)) (λ later. tt))
 
-    floor-cut : (k : ℕ) → Cut (floorValues B f s k)
+    floor-cut : (k : ℕ) → Cut (floorValues lengthsOf f s k)
     unfolding floorValues
     floor-cut k =
-        then-cut (field 1 s k) (λ nonzero. cond (eqb (nonzero .0) 0) (ok (none, nonzero .1)) (mapped some (usedValues B f s (nonzero .1)))) (field-cut s 1 k)
-        (λ nonzero. cond-cut (eqb (nonzero .0) 0) (ok (none, nonzero .1)) (mapped some (usedValues B f s (nonzero .1))) tt
-        (mapped-cut some (usedValues B f s (nonzero .1)) (used-cut (nonzero .1))))
+        then-cut (field 1 s k) (λ nonzero. cond (eqb (nonzero .0) 0) (ok (none, nonzero .1)) (mapped some (usedValues lengthsOf f s (nonzero .1)))) (field-cut s 1 k)
+        (λ nonzero. cond-cut (eqb (nonzero .0) 0) (ok (none, nonzero .1)) (mapped some (usedValues lengthsOf f s (nonzero .1))) tt
+        (mapped-cut some (usedValues lengthsOf f s (nonzero .1)) (used-cut (nonzero .1))))
 
-    pub floor-refused : (k : ℕ) (z : Refusal) → floorValues B f s k ≡ bad z → z .number ≡ 1
+    pub floor-refused : (k : ℕ) (z : Refusal) → floorValues lengthsOf f s k ≡ bad z → z .number ≡ 1
     floor-refused k z e = subst (λ (o : Outcome (Option (List ℕ) × ℕ)). Cut o) e (floor-cut k)

@@ -1,11 +1,11 @@
 -- For callers: in tables that hold floors, each floor lies as reading its values asks, and it is the floor of the content. Assumes nothing.
-use Prim.Native.Nat.{ℕ, zero, suc, _+_, _*_, _≤_, _<_}
+use Prim.Native.Nat.{ℕ, zero, suc, _*_, _≤_, _<_}
 use native.Mathlib.Omega.{arith}
 use mathlib.Core.List.{List, [], _∷_}
-use mathlib.Core.Path.{_≡_, sym, _∙_}
+use mathlib.Core.Path.{_≡_}
 use lib.ListN.{length, getD}
 use Rattle.floors.specs.Content.{Floor}
-use Rattle.floors.specs.Decode.{noFloor, floorAt}
+use Rattle.floors.specs.Decode.{noFloor}
 use Rattle.floors.specs.Layout.{floorRow}
 use Rattle.floors.specs.Valid.{ValidFloor}
 use Rattle.floors.specs.Stand.{ValidFloors, FloorsStand}

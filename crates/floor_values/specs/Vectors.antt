@@ -1,15 +1,15 @@
 -- Worked examples. The books have a sole used entry each, which takes no bits: book 0 gives 2, every other book gives 1.
 use Prim.Native.Nat.{ℕ, zero, suc}
 use mathlib.Core.List.{List, [], _∷_, map}
-use mathlib.Core.Option.{Option, none, some}
+use mathlib.Core.Option.{none, some}
 use mathlib.Core.Path.{_≡_, refl}
 use Rattle.reading.specs.Least.{lowest}
 use Rattle.reading.specs.Lists.{rows}
-use Rattle.reading.specs.Outcome.{refusal, Outcome, ok, bad}
+use Rattle.reading.specs.Outcome.{refusal, ok, bad}
 use Rattle.reading.specs.Reader.{many, each, mapped}
 use Rattle.bits.specs.Field.{bitAt, valueAt, field}
 use Rattle.bits.specs.Ilog.{highestSet, ilog}
-use Rattle.codespace.specs.Book.{used, isUsed, isLone, orZero}
+use Rattle.codespace.specs.Book.{used, isUsed, isLone}
 use Rattle.codebook.specs.Codeword.{codeword, firstUsed}
 use Rattle.floors.specs.Content.{Floor}
 use Rattle.floor_points.specs.FinalY.{rangeOf}

@@ -3,12 +3,6 @@ use Rattle.book_codeword.proofs.Laws.{asked, read}
 use borrow.Author.Needs.{needs}
 use Rattle.book_codeword.proofs.read_entry.Statement.{statement}
 use Rattle.book_codeword.proofs.read_entry.Tie as tie
-use Rattle.book_codeword.proofs.read_entry.Reads as reads
-use Rattle.book_codeword.proofs.read_entry.Lts as lts
-use Rattle.book.proofs.entries.Reads as entries-reads
-use Rattle.book.proofs.first_entry.Reads as first-entry-reads
-use Rattle.book_codeword.proofs.wide.Reads as wide-reads
-use Rattle.codebook.proofs.read_codeword.Reads as read-codeword-reads
 
 first-entry-requires : tie.Need-first-entry-requires
 first-entry-requires c κs = search needs

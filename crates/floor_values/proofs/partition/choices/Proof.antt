@@ -3,8 +3,6 @@ use Rattle.floor_values.proofs.ClassLaws.{one-shifted}
 use borrow.Author.Needs.{needs}
 use Rattle.floor_values.proofs.partition.choices.Statement.{statement}
 use Rattle.floor_values.proofs.partition.choices.Tie as tie
-use Rattle.floor_values.proofs.partition.choices.Reads as reads
-use Rattle.floor_values.proofs.partition.choices.Lts as lts
 
 shl-result : tie.Need-shl-result
 shl-result c = search needs

@@ -3,12 +3,6 @@ use Rattle.floor_values.proofs.ClassLaws.{class-none, master-low, maste
 use borrow.Author.Needs.{needs}
 use Rattle.floor_values.proofs.partition.read_class_value.Statement.{statement}
 use Rattle.floor_values.proofs.partition.read_class_value.Tie as tie
-use Rattle.floor_values.proofs.partition.read_class_value.Reads as reads
-use Rattle.floor_values.proofs.partition.read_class_value.Lts as lts
-use Rattle.book_codeword.proofs.read_entry.Reads as read-entry-reads
-use Rattle.floor_values.proofs.partition.long.Reads as long-reads
-use Rattle.floors.proofs.table.class_master.Reads as class-master-reads
-use Rattle.floors.proofs.table.class_subclasses.Reads as class-subclasses-reads
 
 class-subclasses-requires : tie.Need-class-subclasses-requires
 class-subclasses-requires c κs = (c .before .before .before .before .before .pre .floor-few, c .before .before .before .before .before .pre .class-few)

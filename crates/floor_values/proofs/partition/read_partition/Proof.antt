@@ -3,10 +3,6 @@ use Rattle.floor_values.proofs.PartitionLaws.{partition-cut, partition-
 use borrow.Author.Needs.{needs}
 use Rattle.floor_values.proofs.partition.read_partition.Statement.{statement}
 use Rattle.floor_values.proofs.partition.read_partition.Tie as tie
-use Rattle.floor_values.proofs.partition.read_partition.Reads as reads
-use Rattle.floor_values.proofs.partition.read_partition.Lts as lts
-use Rattle.floor_values.proofs.partition.read_chosen.Reads as read-chosen-reads
-use Rattle.floor_values.proofs.partition.read_class_value.Reads as read-class-value-reads
 
 read-class-value-requires : tie.Need-read-class-value-requires
 read-class-value-requires c κs = c .before .before .before .before .before .before .pre .1

@@ -3,12 +3,6 @@ use Rattle.floor_values.proofs.ClassLaws.{value-none, value-low, value-
 use borrow.Author.Needs.{needs}
 use Rattle.floor_values.proofs.partition.read_value.Statement.{statement}
 use Rattle.floor_values.proofs.partition.read_value.Tie as tie
-use Rattle.floor_values.proofs.partition.read_value.Reads as reads
-use Rattle.floor_values.proofs.partition.read_value.Lts as lts
-use Rattle.book_codeword.proofs.read_entry.Reads as read-entry-reads
-use Rattle.floor_values.proofs.partition.long.Reads as long-reads
-use Rattle.floor_values.proofs.partition.narrow.Reads as narrow-reads
-use Rattle.reading.proofs.buffers.put_u16.Reads as put-u16-reads
 
 put-u16-requires : tie.Need-put-u16-requires
 put-u16-requires c κs = search needs

@@ -4,13 +4,6 @@ use Rattle.floor_values.proofs.FirstLaws.{multiplier-byte, range-some, 
 use borrow.Author.Needs.{needs}
 use Rattle.floor_values.proofs.values.read_first_two.Statement.{statement}
 use Rattle.floor_values.proofs.values.read_first_two.Tie as tie
-use Rattle.floor_values.proofs.values.read_first_two.Reads as reads
-use Rattle.floor_values.proofs.values.read_first_two.Lts as lts
-use Rattle.bits.proofs.ilog.ilog.Reads as ilog-reads
-use Rattle.floor_points.proofs.range_of.Reads as range-of-reads
-use Rattle.floor_values.proofs.values.byte.Reads as byte-reads
-use Rattle.floors.proofs.numbers.read_numbers.Reads as read-numbers-reads
-use Rattle.floors.proofs.table.multiplier.Reads as multiplier-reads
 
 multiplier-requires : tie.Need-multiplier-requires
 multiplier-requires c κs = c .before .before .before .before .before .before .pre .few

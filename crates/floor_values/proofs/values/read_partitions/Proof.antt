@@ -6,13 +6,6 @@ use Rattle.floor_values.proofs.PartitionLaws.{Going, go-start, count-fe
 use borrow.Author.Needs.{needs}
 use Rattle.floor_values.proofs.values.read_partitions.Statement.{statement}
 use Rattle.floor_values.proofs.values.read_partitions.Tie as tie
-use Rattle.floor_values.proofs.values.read_partitions.Reads as reads
-use Rattle.floor_values.proofs.values.read_partitions.Lts as lts
-use Rattle.floor_values.proofs.partition.read_partition.Reads as read-partition-reads
-use Rattle.floor_values.proofs.partition.wide.Reads as wide-reads
-use Rattle.floors.proofs.table.class_dimensions.Reads as class-dimensions-reads
-use Rattle.floors.proofs.table.partition_class.Reads as partition-class-reads
-use Rattle.floors.proofs.table.partition_count.Reads as partition-count-reads
 
 abbrev Inv-loop : tie.InvT-loop
 Inv-loop packet floors floor books lengths words values₀ count next₀ at₀ i₀ values next at i = Going packet floors books lengths words floor values₀ next₀ count values next at i

@@ -3,10 +3,6 @@ use Rattle.floor_values.proofs.FloorLaws.{used-refused, used-read}
 use borrow.Author.Needs.{needs}
 use Rattle.floor_values.proofs.values.read_used.Statement.{statement}
 use Rattle.floor_values.proofs.values.read_used.Tie as tie
-use Rattle.floor_values.proofs.values.read_used.Reads as reads
-use Rattle.floor_values.proofs.values.read_used.Lts as lts
-use Rattle.floor_values.proofs.values.read_first_two.Reads as read-first-two-reads
-use Rattle.floor_values.proofs.values.read_partitions.Reads as read-partitions-reads
 
 read-first-two-requires : tie.Need-read-first-two-requires
 read-first-two-requires c κs = search needs

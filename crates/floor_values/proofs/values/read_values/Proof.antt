@@ -4,10 +4,6 @@ use Rattle.floor_values.proofs.Known.{values-known}
 use borrow.Author.Needs.{needs}
 use Rattle.floor_values.proofs.values.read_values.Statement.{statement}
 use Rattle.floor_values.proofs.values.read_values.Tie as tie
-use Rattle.floor_values.proofs.values.read_values.Reads as reads
-use Rattle.floor_values.proofs.values.read_values.Lts as lts
-use Rattle.bits.proofs.Cursor.bit.Reads as bit-reads
-use Rattle.floor_values.proofs.values.read_used.Reads as read-used-reads
 
 bit-requires : tie.Need-bit-requires
 bit-requires c κs = search needs
