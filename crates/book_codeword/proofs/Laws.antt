@@ -1,0 +1,27 @@
+-- The parts of the tables that the code lends are the book's entries. Assumes nothing.
+use Prim.Native.Nat.{ℕ, _+_, _-_}
+use native.Mathlib.Omega.{arith}
+use mathlib.Core.List.{List}
+use mathlib.Core.Path.{_≡_}
+use lib.ListN.{take, drop}
+use Rattle.book.specs.Layout.{entriesAt, firstEntryAt}
+use Rattle.codebook.specs.Book.{Codebook}
+use Rattle.codebook.specs.Claims.{Settled}
+use Rattle.codebook.specs.Codeword.{codeword}
+use Rattle.bits.specs.Cursors.{outcome}
+use Rattle.bits.specs.declared.Field.{Field}
+use Rattle.book_codeword.specs.Lying.{entriesOf, BookLies}
+
+-- first and count as the code holds them
+module _ {books lengths words : List ℕ} {b : ℕ} (l : BookLies books lengths words b) {f f′ n n′ : ℕ} (e₁ : f′ ≡ f) (e₂ : f ≡ firstEntryAt books b) (e₃ : n′ ≡ n)
+    (e₄ : n ≡ entriesAt books b) where
+  part-is : (cells : List ℕ) → take (f′ + n′ - f′) (drop f′ cells) ≡ entriesOf books b cells
+  part-is cells = let h : f′ + n′ - f′ ≡ n′ = omega arith in rw (h, e₁, e₂, e₃, e₄)
+
+  pub asked : Codebook (take (f′ + n′ - f′) (drop f′ lengths)) (take (f′ + n′ - f′) (drop f′ words))
+  asked = rw (part-is lengths, part-is words) (l .book)
+
+  pub read : (s : List ℕ) (k : ℕ) (r : Field)
+      → (outcome r ≡ codeword (take (f′ + n′ - f′) (drop f′ lengths)) s k) × Settled (take (f′ + n′ - f′) (drop f′ lengths))
+      → (outcome r ≡ codeword (entriesOf books b lengths) s k) × Settled (entriesOf books b lengths)
+  read s k r p = rw (part-is lengths) at p

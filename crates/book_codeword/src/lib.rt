@@ -1,0 +1,32 @@
+// One codeword of a book that lies in the tables of a setup (01, "Bits and books"; docs/TABLES.md).
+use bits::Cursor;
+use bits::Field;
+ghost use mathlib.Core.Path.{_≡_};
+ghost use Rattle.bits.specs.Cursors.{position, outcome};
+ghost use Rattle.codebook.specs.Codeword.{codeword};
+ghost use Rattle.codebook.specs.Claims.{Settled};
+ghost use Rattle.book_codeword.specs.Lying.{entriesOf, BookLies};
+
+fn wide(x: u32) -> usize
+    ensures { λ r. ⌜ r ≡ x ⌝ }
+{
+    x as usize
+}
+
+// The entry of book number `book` whose codeword stands at the cursor, with the position behind it; or the cut.
+pub fn read_entry(
+    packet: &[u8],
+    from: Cursor,
+    book: u32,
+    books: &[u32],
+    lengths: &[u8],
+    words: &[u32],
+) -> Field
+    requires { ⌜ BookLies (now books) (now lengths) (now words) book ⌝ }
+    ensures { λ r. ⌜ outcome r ≡ codeword (entriesOf (now (books .entry)) book (now (lengths .entry))) (now (packet .entry)) (position from) ⌝ }
+    ensures { λ _. ⌜ Settled (entriesOf (now (books .entry)) book (now (lengths .entry))) ⌝ }
+{
+    let first = wide(book::first_entry(books, book));
+    let end = first + wide(book::entries(books, book));
+    codebook::read_codeword(packet, from, &lengths[first..end], &words[first..end])
+}

@@ -1,0 +1,10 @@
+pub mod ClassLaws
+pub mod ChosenLaws
+pub mod FirstLaws
+pub mod PartitionLaws
+pub mod FloorLaws
+pub mod Cuts
+pub mod Refused
+pub mod Known
+pub mod Stands
+pub mod Front

@@ -1,0 +1,200 @@
+-- Laws of reading one partition, and of the loop over the partitions of a floor, as the code asks them. Assumes nothing.
+use Prim.Native.Nat.{ℕ, zero, suc, _+_, _*_, _≤_, _<_}
+use native.Mathlib.Omega.{arith}
+use mathlib.Core.List.{List, [], _∷_}
+use mathlib.Core.Path.{_≡_, refl, sym, ap, _∙_}
+use lib.ListN.{length, getD, take, drop, length-take, length-drop}
+use lib.Seq.{sets, getD-take, getD-drop}
+use Rattle.reading.specs.Lists.{rows}
+use Rattle.reading.specs.Outcome.{Outcome, ok, bad}
+use Rattle.reading.specs.Reader.{each, mapped, puts, into, into1}
+use Rattle.reading.specs.Table.{Table, table, putRow}
+use Rattle.reading.proofs.Tables.{puts-rows}
+use Rattle.bits.specs.declared.Cursor.{Cursor}
+use Rattle.bits.specs.declared.Refusal.{Refusal}
+use Rattle.bits.specs.declared.Field.{Field}
+use Rattle.bits.specs.declared.Field.the-variants.{Value, Refused}
+use Rattle.bits.specs.declared.Step.{Step}
+use Rattle.bits.specs.declared.Step.the-variants as S
+use Rattle.bits.specs.Cursors.{position, outcome, Wrote}
+use Rattle.bits.proofs.Answers.{value-is, refused-is}
+use Rattle.bits.proofs.Steps.{wrote-refused, EachRest, each-loop-start, each-loop-next, each-loop-refused, each-loop-done}
+use Rattle.bits.proofs.Written.{wrote-through}
+use Rattle.floors.specs.Cell.{cell}
+use Rattle.floors.specs.Content.{Class, classCount}
+use Rattle.floors.specs.Decode.{noClass, classAt, classesAt, floorAt}
+use Rattle.floors.specs.Valid.{ValidClass, ValidClasses}
+use Rattle.floors.proofs.Collected.{rows-cell, wrote-as}
+use Rattle.floors.proofs.RowLaws.{class-count-most}
+use Rattle.floor_values.specs.Values.{classValue, chosen, value, partition, partitionOf, whole}
+use Rattle.floor_values.specs.Lying.{lengthsIn, floorIn, classIn, ClassLies, FloorLies}
+
+-- numbers written one by one, and as one run
+pub as-run : (o : Outcome (List ℕ × ℕ)) (l : List ℕ) (i : ℕ) → into (putRow cell) o (table l i) ≡ into1 (putRow whole) o (table l i)
+unfolding into into1 mapped putRow whole
+as-run (ok x) l i = ap (λ (t : Table). ok (t, x .1)) (puts-rows cell (x .0) l i ∙ ap (λ (ys : List ℕ). table (sets l i ys) (i + length ys)) (rows-cell (x .0)))
+as-run (bad z) l i = refl
+
+-- one partition
+module _ (lengthsOf : ℕ → List ℕ) (c : Class) (s : List ℕ) (k : Cursor) (list : List ℕ) (at : ℕ) (r : Field) (p : outcome r ≡ classValue lengthsOf c s (position k)) where
+  pub partition-cut : {z : Refusal} → r ≡ Refused z → (u : Table) → Wrote (into1 (putRow whole) (partition lengthsOf c s (position k)) (table list at)) (S.Refused z) u
+  unfolding into1 mapped partition
+  partition-cut q u = wrote-refused u (rw (refused-is p q))
+
+  pub partition-read : {v : ℕ} {k₁ : Cursor} → r ≡ Value v k₁ → {st : Step} {u : Table}
+      → Wrote (into (putRow cell) (each (value lengthsOf) (chosen c v (c .dimensions)) s (position k₁)) (table list at)) st u
+      → Wrote (into1 (putRow whole) (partition lengthsOf c s (position k)) (table list at)) st u
+  unfolding partition
+  partition-read {v} {k₁} q w = rw (value-is p q) (wrote-as (as-run (each (value lengthsOf) (chosen c v (c .dimensions)) s (position k₁)) list at) w)
+
+-- the classes of a floor, as they lie in the table
+pub classes-long : (t : List ℕ) (at n : ℕ) → length (classesAt t at n) ≡ n
+unfolding classesAt
+classes-long t at zero = refl
+classes-long t at (suc n) = ap suc (classes-long t (at + 11) n)
+
+pub classes-get : (t : List ℕ) (at n c : ℕ) → c < n → getD (classesAt t at n) c noClass ≡ classAt t (at + 11 * c)
+unfolding classesAt
+classes-get t at zero c h = absurd (omega arith)
+classes-get t at (suc n) zero h = ap (classAt t) (omega arith)
+classes-get t at (suc n) (suc c) h = classes-get t (at + 11) n c (omega arith) ∙ ap (classAt t) (omega arith)
+
+pub valid-get : (b : ℕ) (cs : List Class) (c : ℕ) → c < length cs → ValidClasses b cs → ValidClass b (getD cs c noClass)
+unfolding ValidClasses
+valid-get b [] c h v = absurd (omega arith)
+valid-get b (x ∷ cs) zero h v = v .0
+valid-get b (x ∷ cs) (suc c) h v = valid-get b cs c (omega arith) (v .1)
+
+pub class-below : (ps : List ℕ) (i : ℕ) → i < length ps → getD ps i 0 < classCount ps
+unfolding classCount
+class-below [] i h = absurd (omega arith)
+class-below (p ∷ ps) zero h = omega arith
+class-below (p ∷ ps) (suc i) h = let l = class-below ps i (omega arith) in omega arith
+
+module _ {floors books lengths words : List ℕ} {n : ℕ} (l : FloorLies floors books lengths words n) where
+  -- as many partitions as the row says
+  pub partitions-long : getD floors (277 * n) 0 ≡ length (floorIn floors n .partitions)
+  partitions-long =
+      let few : length (floorIn floors n .partitions) ≤ 31 = l .valid .partitions in
+      let room = l .room in
+      let e : length (floorIn floors n .partitions) ≡ length (drop (277 * n + 5) (take (277 * n + 5 + getD floors (277 * n) 0) floors)) = unfold floorIn floorAt in refl in
+      let d = length-drop (277 * n + 5) (take (277 * n + 5 + getD floors (277 * n) 0) floors) in
+      let t = length-take (277 * n + 5 + getD floors (277 * n) 0) floors in
+      omega arith
+
+  pub partition-get : (i : ℕ) → i < length (floorIn floors n .partitions) → getD (floorIn floors n .partitions) i 0 ≡ getD floors (277 * n + 5 + i) 0
+  unfolding floorIn floorAt
+  partition-get i h =
+      let e = partitions-long in
+      getD-drop (277 * n + 5) (take (277 * n + 5 + getD floors (277 * n) 0) floors) i 0 ∙ getD-take (277 * n + 5 + getD floors (277 * n) 0) floors (277 * n + 5 + i) 0 (omega arith)
+
+  -- the class of partition i
+  module _ {i p class : ℕ} (h : i < length (floorIn floors n .partitions)) (e₁ : p ≡ getD floors (277 * n + 5 + i) 0) (e₂ : class ≡ p) where
+    class-of : getD (floorIn floors n .partitions) i 0 ≡ class
+    class-of = partition-get i h ∙ sym (e₂ ∙ e₁)
+
+    class-low : class < length (floorIn floors n .classes)
+    class-low = let b = class-below (floorIn floors n .partitions) i h in let c = l .valid .class-count in let e = class-of in omega arith
+
+    class-few : class < getD floors (277 * n + 1) 0
+    class-few =
+        let low = class-low in
+        let m = classes-long floors (277 * n + 36) (getD floors (277 * n + 1) 0) in
+        let f : length (floorIn floors n .classes) ≡ length (classesAt floors (277 * n + 36) (getD floors (277 * n + 1) 0)) = unfold floorIn floorAt in refl in
+        omega arith
+
+    class-get : getD (floorIn floors n .classes) class noClass ≡ classIn floors n class
+    unfolding floorIn floorAt classIn
+    class-get = classes-get floors (277 * n + 36) (getD floors (277 * n + 1) 0) class class-few
+
+    pub class-lies : ClassLies floors books lengths words n class
+    class-lies =
+        let low = class-low in
+        let most = class-count-most (floorIn floors n .partitions) (l .valid .classes-named) in
+        let c = l .valid .class-count in
+        record {
+          floor-few = l .few;
+          class-few = omega arith;
+          count = l .count;
+          valid = rw (← class-get) (valid-get (l .count) (floorIn floors n .classes) class low (l .valid .classes));
+          readable = l .readable;
+        }
+
+    pub partition-is : (lengthsOf : ℕ → List ℕ) → partitionOf lengthsOf (floorIn floors n) (getD (floorIn floors n .partitions) i 0) ≡ partition lengthsOf (classIn floors n class)
+    unfolding partitionOf
+    partition-is lengthsOf = rw (class-of, class-get)
+
+-- i of the partitions are read, and their values lie before place `at`
+pub record Going (s floors books lengths words : List ℕ) (n : ℕ) (entry : List ℕ) (from : Cursor) (count : ℕ) (now : List ℕ) (next : Cursor) (at i : ℕ) : Type 0 where
+  pub lies : FloorLies floors books lengths words n
+  pub counted : count ≡ length (floorIn floors n .partitions)
+  pub within : i ≤ count
+  pub place-few : at ≤ 2 + 8 * i
+  pub long : length now ≡ length entry
+  pub rest : EachRest 0 (putRow whole) (partitionOf (lengthsIn books lengths) (floorIn floors n)) s (floorIn floors n .partitions)
+      (into (putRow whole) (each (partitionOf (lengthsIn books lengths) (floorIn floors n)) (floorIn floors n .partitions) s (position from)) (table entry 2)) i next (table now at)
+
+-- what was written, without the place behind it
+written : (o : Outcome (List (List ℕ) × ℕ)) (entry : List ℕ) {st : Step} {u : Table} → Wrote (into (putRow whole) o (table entry 2)) st u
+    → Wrote (mapped (λ l. sets entry 2 (rows whole l)) o) st (u .cells)
+unfolding into
+written o entry w =
+    wrote-through (λ l. puts (putRow whole) l (table entry 2)) (λ t. t .cells) (λ l. sets entry 2 (rows whole l)) (λ l. ap (λ (t : Table). t .cells) (puts-rows whole l entry 2)) o w
+
+module _ {s floors books lengths words : List ℕ} {n : ℕ} {entry : List ℕ} {from : Cursor} {count : ℕ} where
+  pub go-start : FloorLies floors books lengths words n → {c : ℕ} → c ≡ getD floors (277 * n) 0 → count ≡ c → Going s floors books lengths words n entry from count entry from 2 0
+  go-start l e f =
+      record {
+        lies = l;
+        counted = f ∙ e ∙ partitions-long l;
+        within = omega arith;
+        place-few = omega arith;
+        long = refl;
+        rest = each-loop-start 0 (putRow whole) (partitionOf (lengthsIn books lengths) (floorIn floors n)) s (floorIn floors n .partitions) _ from (table entry 2) refl;
+      }
+
+  module _ {now : List ℕ} {next : Cursor} {at i : ℕ} (w : Going s floors books lengths words n entry from count now next at i) where
+    pub count-few : count ≤ 31
+    count-few = rw (w .counted) (w .lies .valid .partitions)
+
+    pub place-low : at ≤ 65535
+    place-low = let a = w .place-few in let b = w .within in let d = count-few in omega arith
+
+    module _ (h : i < count) {p class : ℕ} (e₁ : p ≡ getD floors (277 * n + 5 + i) 0) (e₂ : class ≡ p) where
+      low : i < length (floorIn floors n .partitions)
+      low = let e = w .counted in omega arith
+
+      pub go-class : ClassLies floors books lengths words n class
+      go-class = class-lies (w .lies) low e₁ e₂
+
+      module _ {st : Step} {now′ : List ℕ}
+          (one : Wrote (into1 (putRow whole) (partition (lengthsIn books lengths) (classIn floors n class) s (position next)) (table now at)) st (table now′ (at + classIn floors n class .dimensions))) where
+        step : Wrote (into1 (putRow whole) (partitionOf (lengthsIn books lengths) (floorIn floors n) (getD (floorIn floors n .partitions) i 0) s (position next)) (table now at)) st (table now′ (at + classIn floors n class .dimensions))
+        step = rw (partition-is (w .lies) low e₁ e₂ (lengthsIn books lengths)) one
+
+        pub go-refused : {z : Refusal} → st ≡ S.Refused z → (u : List ℕ)
+            → Wrote (mapped (λ l. sets entry 2 (rows whole l)) (each (partitionOf (lengthsIn books lengths) (floorIn floors n)) (floorIn floors n .partitions) s (position from))) (S.Refused z) u
+        go-refused q u =
+            written (each (partitionOf (lengthsIn books lengths) (floorIn floors n)) (floorIn floors n .partitions) s (position from)) entry
+            (each-loop-refused 0 (putRow whole) (partitionOf (lengthsIn books lengths) (floorIn floors n)) s (floorIn floors n .partitions) _ i next (table now at) (w .rest) low step q (table u 0))
+
+        pub go-next : {after : Cursor} → st ≡ S.Next after → length now′ ≡ length now → {d at′ : ℕ} → d ≡ getD floors (277 * n + 36 + 11 * class) 0 → {d′ : ℕ} → d′ ≡ d → at′ ≡ at + d′
+            → Going s floors books lengths words n entry from count now′ after at′ (i + 1)
+        go-next q e {d} {at′} f {d′} g a =
+            let dims : d′ ≡ classIn floors n class .dimensions = unfold classIn classAt in (g ∙ f) in
+            let most = go-class .valid .dimensions-high in
+            let place = w .place-few in
+            record {
+              lies = w .lies;
+              counted = w .counted;
+              within = omega arith;
+              place-few = omega arith;
+              long = e ∙ w .long;
+              rest = rw (a, dims) (each-loop-next 0 (putRow whole) (partitionOf (lengthsIn books lengths) (floorIn floors n)) s (floorIn floors n .partitions) _ i next (table now at) (w .rest) low step q);
+            }
+
+    pub go-done : count ≤ i
+        → Wrote (mapped (λ l. sets entry 2 (rows whole l)) (each (partitionOf (lengthsIn books lengths) (floorIn floors n)) (floorIn floors n .partitions) s (position from))) (S.Next next) now
+    go-done h =
+        written (each (partitionOf (lengthsIn books lengths) (floorIn floors n)) (floorIn floors n .partitions) s (position from)) entry
+        (each-loop-done 0 (putRow whole) (partitionOf (lengthsIn books lengths) (floorIn floors n)) s (floorIn floors n .partitions) _ i next (table now at) (w .rest) (rw (← w .counted) h))

@@ -1,0 +1,4 @@
+pub mod Values
+pub mod Lying
+pub mod Claims
+pub mod Vectors

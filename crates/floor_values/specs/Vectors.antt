@@ -1,0 +1,45 @@
+-- Worked examples. The books have a sole used entry each, which takes no bits: book 0 gives 2, every other book gives 1.
+use Prim.Native.Nat.{ℕ, zero, suc}
+use mathlib.Core.List.{List, [], _∷_, map}
+use mathlib.Core.Option.{none, some}
+use mathlib.Core.Path.{_≡_, refl}
+use Rattle.reading.specs.Least.{lowest}
+use Rattle.reading.specs.Lists.{rows}
+use Rattle.reading.specs.Outcome.{refusal, ok, bad}
+use Rattle.reading.specs.Reader.{many, each, mapped}
+use Rattle.bits.specs.Field.{bitAt, valueAt, field}
+use Rattle.bits.specs.Ilog.{highestSet, ilog}
+use Rattle.codespace.specs.Book.{used, isUsed, isLone}
+use Rattle.codebook.specs.Codeword.{codeword, firstUsed}
+use Rattle.floors.specs.Content.{Floor}
+use Rattle.floor_points.specs.FinalY.{rangeOf}
+use Rattle.floor_values.specs.Values.{firstBits, classValue, chosen, value, partition, partitionOf, whole, usedValues, floorValues}
+
+abbrev lengthsOf : ℕ → List ℕ
+lengthsOf zero = 0 ∷ 0 ∷ 1 ∷ []
+lengthsOf (suc b) = 0 ∷ 1 ∷ []
+
+-- one partition of two values; its master book is book 0, its first subclass has no book, its second has book 1
+abbrev floor : Floor
+floor =
+    record {
+      partitions = 0 ∷ [];
+      classes = record { dimensions = 2; subclasses = 1; master = 1; books = 0 ∷ 2 ∷ [] } ∷ [];
+      multiplier = 4;
+      rangebits = 4;
+      xs = 3 ∷ 9 ∷ [];
+    }
+
+pub record ValueVectors : Type 0 where
+  -- the flag, 5 and 33 in 6 bits each; then the class value 2, whose digits 0 and 1 choose no book and book 1
+  pub used-floor : floorValues lengthsOf floor (139 ∷ 16 ∷ []) 0 ≡ ok (some (5 ∷ 33 ∷ 0 ∷ 1 ∷ []), 13)
+  -- the second value is cut after its first bit
+  pub cut-floor : floorValues lengthsOf floor (139 ∷ []) 0 ≡ bad (refusal 1 7)
+  pub unused-floor : floorValues lengthsOf floor (138 ∷ []) 0 ≡ ok (none, 1)
+  pub no-flag : floorValues lengthsOf floor [] 0 ≡ bad (refusal 1 0)
+  -- the ranges 256, 128, 86 and 64
+  pub first-bits : map firstBits (1 ∷ 2 ∷ 3 ∷ 4 ∷ []) ≡ (8 ∷ 7 ∷ 7 ∷ 6 ∷ [])
+
+pub vectors : ValueVectors
+unfolding floorValues usedValues firstBits classValue chosen value partition partitionOf whole many each mapped rows field valueAt bitAt ilog highestSet rangeOf codeword firstUsed used isUsed isLone lowest
+vectors = record { used-floor = refl; cut-floor = refl; unused-floor = refl; no-flag = refl; first-bits = refl }

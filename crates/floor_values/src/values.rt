@@ -1,0 +1,160 @@
+// The values of a floor (004, "packet decode").
+use super::partition;
+use bits::Cursor;
+use bits::Field;
+use bits::Step;
+use floors::numbers;
+use floors::table;
+ghost use mathlib.Core.Path.{_≡_};
+ghost use Prim.Native.Nat.{_<_};
+ghost use lib.Seq.{sets};
+ghost use Rattle.reading.specs.Lists.{rows};
+ghost use Rattle.reading.specs.Reader.{many, each, mapped, into};
+ghost use Rattle.reading.specs.Table.{table, putRow};
+ghost use Rattle.bits.specs.Field.{field};
+ghost use Rattle.bits.specs.Cursors.{position, Wrote};
+ghost use Rattle.floors.specs.Cell.{cell};
+ghost use Rattle.floor_values.specs.Values.{firstBits, partitionOf, whole, usedValues, floorValues, held};
+ghost use Rattle.floor_values.specs.Lying.{lengthsIn, floorIn, FloorLies};
+ghost use Rattle.floor_values.specs.Claims.{FloorValues};
+
+fn byte(x: u16) -> u8
+    requires { ⌜ x < 256 ⌝ }
+    ensures { λ r. ⌜ r ≡ x ⌝ }
+{
+    x as u8
+}
+
+// The first two values, into the first two places of the list.
+fn read_first_two(
+    packet: &[u8],
+    from: Cursor,
+    floors: &[u16],
+    floor: usize,
+    books: &[u32],
+    lengths: &[u8],
+    words: &[u32],
+    values: &mut [u16],
+) -> Step
+    requires { ⌜ FloorLies (now floors) (now books) (now lengths) (now words) floor ⌝ }
+    ensures { λ r. ⌜ Wrote (into (putRow cell) (many (field (firstBits (floorIn (now (floors .entry)) floor .multiplier))) 2 (now (packet .entry)) (position from)) (table (now (values .entry)) 0)) r (table (now (values .exit)) 2) ⌝ }
+{
+    let range = floor_points::range_of(byte(table::multiplier(floors, floor)));
+    let width = bits::ilog::ilog(range - 1);
+    numbers::read_numbers(packet, from, width, 2, values, 0)
+}
+
+// The values of the partitions, one after the other, into the list from place 2 on.
+fn read_partitions(
+    packet: &[u8],
+    from: Cursor,
+    floors: &[u16],
+    floor: usize,
+    books: &[u32],
+    lengths: &[u8],
+    words: &[u32],
+    values: &mut [u16],
+) -> Step
+    requires { ⌜ FloorLies (now floors) (now books) (now lengths) (now words) floor ⌝ }
+    ensures { λ r. ⌜ Wrote (mapped (λ l. sets (now (values .entry)) 2 (rows whole l)) (each (partitionOf (lengthsIn (now (books .entry)) (now (lengths .entry))) (floorIn (now (floors .entry)) floor)) (floorIn (now (floors .entry)) floor .partitions) (now (packet .entry)) (position from))) r (now (values .exit)) ⌝ }
+{
+    let count = partition::wide(table::partition_count(floors, floor));
+    let mut next = from;
+    let mut at: usize = 2;
+    let mut i: usize = 0;
+    while i < count {
+        let class = partition::wide(table::partition_class(floors, floor, i));
+        match partition::read_partition(
+            packet,
+            next,
+            floors,
+            floor,
+            class,
+            books,
+            lengths,
+            words,
+            values,
+            at,
+        ) {
+            Step::Refused(z) => {
+                return Step::Refused(z);
+            }
+            Step::Next(after) => {
+                next = after;
+            }
+        }
+        at = at + partition::wide(table::class_dimensions(floors, floor, class));
+        i = i + 1;
+    }
+    Step::Next(next)
+}
+
+// The values of a floor that is used, into the list from its front on.
+fn read_used(
+    packet: &[u8],
+    from: Cursor,
+    floors: &[u16],
+    floor: usize,
+    books: &[u32],
+    lengths: &[u8],
+    words: &[u32],
+    values: &mut [u16],
+) -> Step
+    requires { ⌜ FloorLies (now floors) (now books) (now lengths) (now words) floor ⌝ }
+    ensures { λ r. ⌜ Wrote (mapped (sets (now (values .entry)) 0) (usedValues (lengthsIn (now (books .entry)) (now (lengths .entry))) (floorIn (now (floors .entry)) floor) (now (packet .entry)) (position from))) r (now (values .exit)) ⌝ }
+{
+    match read_first_two(packet, from, floors, floor, books, lengths, words, values) {
+        Step::Refused(z) => Step::Refused(z),
+        Step::Next(next) => read_partitions(
+            packet,
+            next,
+            floors,
+            floor,
+            books,
+            lengths,
+            words,
+            values,
+        ),
+    }
+}
+
+// Where reading goes on, and whether the floor is used. On a refusal, which is the cut, `used` and the list mean nothing.
+pub struct ValuesRead {
+    pub step: Step,
+    pub used: bool,
+}
+
+// The values of floor number `floor`, into the list from its front on; none where the packet says that the floor is unused.
+pub fn read_values(
+    packet: &[u8],
+    from: Cursor,
+    floors: &[u16],
+    floor: usize,
+    books: &[u32],
+    lengths: &[u8],
+    words: &[u32],
+    values: &mut [u16],
+) -> ValuesRead
+    requires { ⌜ FloorLies (now floors) (now books) (now lengths) (now words) floor ⌝ }
+    ensures { λ r. ⌜ Wrote (mapped (held (now (values .entry))) (floorValues (lengthsIn (now (books .entry)) (now (lengths .entry))) (floorIn (now (floors .entry)) floor) (now (packet .entry)) (position from))) (r .step) (r .used, now (values .exit)) ⌝ }
+    ensures { λ _. ⌜ FloorValues (lengthsIn (now (books .entry)) (now (lengths .entry))) (floorIn (now (floors .entry)) floor) ⌝ }
+{
+    match from.bit(packet) {
+        Field::Refused(z) => ValuesRead {
+            step: Step::Refused(z),
+            used: false,
+        },
+        Field::Value(nonzero, next) => {
+            if nonzero == 0 {
+                return ValuesRead {
+                    step: Step::Next(next),
+                    used: false,
+                };
+            }
+            ValuesRead {
+                step: read_used(packet, next, floors, floor, books, lengths, words, values),
+                used: true,
+            }
+        }
+    }
+}
