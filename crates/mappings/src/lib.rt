@@ -1,10 +1,8 @@
-// Mappings in a setup packet: what one is, its rules, its row in the tables, reading it, recognising it again (003, section 4.2.4, "Mappings").
+// Mappings in a setup packet: what one is, its rules, its row in the tables, reading it (003, section 4.2.4, "Mappings").
 // Each field is judged as soon as it is read; a refusal says nothing of the buffer, which the outermost function clears.
 pub mod counts; // how many submaps and coupling steps
 pub mod couplings; // the coupling steps
 pub mod submaps; // each channel's submap, and the submaps
-pub mod stand; // whether a table that is handed in holds mappings
-pub mod access; // what a table says of each mapping
 
 use bits::Cursor;
 use bits::Field;

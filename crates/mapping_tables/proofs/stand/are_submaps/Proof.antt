@@ -1,14 +1,14 @@
 use Prim.Native.Nat.{_-_, _≤_}
-use Rattle.mappings.proofs.StandLaws.{submap-stand-laws}
+use Rattle.mapping_tables.proofs.StandLaws.{submap-stand-laws}
 use Rattle.mappings.proofs.Laws.{submap-pairs}
 use Rattle.reading.proofs.PairRows.{Finding}
 use Rattle.mappings.specs.Valid.{ValidSubmap}
 use borrow.Author.Needs.{needs}
-use Rattle.mappings.proofs.stand.are_submaps.Statement.{statement}
-use Rattle.mappings.proofs.stand.are_submaps.Tie as tie
-use Rattle.mappings.proofs.stand.are_submaps.Reads as reads
-use Rattle.mappings.proofs.stand.are_submaps.Lts as lts
-use Rattle.mappings.proofs.stand.is_submap.Reads as is-submap-reads
+use Rattle.mapping_tables.proofs.stand.are_submaps.Statement.{statement}
+use Rattle.mapping_tables.proofs.stand.are_submaps.Tie as tie
+use Rattle.mapping_tables.proofs.stand.are_submaps.Reads as reads
+use Rattle.mapping_tables.proofs.stand.are_submaps.Lts as lts
+use Rattle.mapping_tables.proofs.stand.is_submap.Reads as is-submap-reads
 use Rattle.reading.proofs.zeros.zeros_u8.Reads as zeros-u8-reads
 
 abbrev Inv-loop : tie.InvT-loop

@@ -1,11 +1,11 @@
 use Prim.Native.Nat.{_*_, _-_, _≤_}
-use Rattle.mappings.proofs.StandLaws.{Finding, stand-laws, part-width, find-stop, find-next}
+use Rattle.mapping_tables.proofs.StandLaws.{Finding, stand-laws, part-width, find-stop, find-next}
 use borrow.Author.Needs.{needs}
-use Rattle.mappings.proofs.stand.are_mappings.Statement.{statement}
-use Rattle.mappings.proofs.stand.are_mappings.Tie as tie
-use Rattle.mappings.proofs.stand.are_mappings.Reads as reads
-use Rattle.mappings.proofs.stand.are_mappings.Lts as lts
-use Rattle.mappings.proofs.stand.is_mapping.Reads as is-mapping-reads
+use Rattle.mapping_tables.proofs.stand.are_mappings.Statement.{statement}
+use Rattle.mapping_tables.proofs.stand.are_mappings.Tie as tie
+use Rattle.mapping_tables.proofs.stand.are_mappings.Reads as reads
+use Rattle.mapping_tables.proofs.stand.are_mappings.Lts as lts
+use Rattle.mapping_tables.proofs.stand.is_mapping.Reads as is-mapping-reads
 use Rattle.reading.proofs.zeros.zeros_u8.Reads as zeros-u8-reads
 
 abbrev Inv-loop : tie.InvT-loop

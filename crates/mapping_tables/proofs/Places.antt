@@ -10,12 +10,12 @@ use Rattle.reading.specs.Lists.{rows}
 use Rattle.reading.specs.Pad.{pad}
 use Rattle.reading.proofs.Stands.{row-place, rows-length}
 use Rattle.reading.proofs.Pads.{pad-get}
 use Rattle.mappings.specs.Content.{Coupling, Submap, Mapping}
 use Rattle.mappings.specs.declared.Known.{Known}
 use Rattle.mappings.specs.Layout.{couplingRow, submapRow, mappingRow}
 use Rattle.mappings.specs.Valid.{ValidMapping}
-use Rattle.mappings.specs.Stand.{MappingsStand}
+use Rattle.mapping_tables.specs.Stand.{MappingsStand}
 use Rattle.mappings.proofs.RowLaws.{coupling-wide, submap-wide, mapping-wide, part-couplings, part-multiplex, part-submaps}
 
 -- number j of a row, by its part
 module _ (m : Mapping) where

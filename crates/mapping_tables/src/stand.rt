@@ -1,5 +1,5 @@
 // Whether a table that is handed in is the writing-out of some mappings: row by row, each row part by part.
-use super::Known;
+use mappings::Known;
 ghost use Prim.Native.Nat.{_+_, _*_, _≤_, _<_};
 ghost use mathlib.Core.Bool.{true};
 ghost use mathlib.Core.List.{[], _∷_};
@@ -7,10 +7,10 @@ ghost use mathlib.Core.Logic.{_↔_};
 ghost use mathlib.Core.Path.{_≡_};
 ghost use lib.ListN.{length};
 ghost use Rattle.reading.specs.Stand.{RowOf, Stands};
 ghost use Rattle.mappings.specs.Decode.{couplingOf, submapOf};
 ghost use Rattle.mappings.specs.Layout.{couplingRow, multiplexRow, submapRow, mappingRow};
-ghost use Rattle.mappings.specs.Stand.{MappingsStand, multiplexCount};
+ghost use Rattle.mapping_tables.specs.Stand.{MappingsStand, multiplexCount};
 ghost use Rattle.mappings.specs.Valid.{ValidCoupling, ValidMultiplex, ValidSubmap, ValidMapping};
 
 // Whether the two numbers are a coupling step of so many channels.
 fn is_coupling(magnitude: u8, angle: u8, channels: u32) -> bool

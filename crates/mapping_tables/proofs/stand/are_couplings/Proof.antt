@@ -1,14 +1,14 @@
 use Prim.Native.Nat.{_-_, _≤_}
-use Rattle.mappings.proofs.StandLaws.{coupling-stand-laws}
+use Rattle.mapping_tables.proofs.StandLaws.{coupling-stand-laws}
 use Rattle.mappings.proofs.Laws.{coupling-pairs}
 use Rattle.reading.proofs.PairRows.{Finding}
 use Rattle.mappings.specs.Valid.{ValidCoupling}
 use borrow.Author.Needs.{needs}
-use Rattle.mappings.proofs.stand.are_couplings.Statement.{statement}
-use Rattle.mappings.proofs.stand.are_couplings.Tie as tie
-use Rattle.mappings.proofs.stand.are_couplings.Reads as reads
-use Rattle.mappings.proofs.stand.are_couplings.Lts as lts
-use Rattle.mappings.proofs.stand.is_coupling.Reads as is-coupling-reads
+use Rattle.mapping_tables.proofs.stand.are_couplings.Statement.{statement}
+use Rattle.mapping_tables.proofs.stand.are_couplings.Tie as tie
+use Rattle.mapping_tables.proofs.stand.are_couplings.Reads as reads
+use Rattle.mapping_tables.proofs.stand.are_couplings.Lts as lts
+use Rattle.mapping_tables.proofs.stand.is_coupling.Reads as is-coupling-reads
 use Rattle.reading.proofs.zeros.zeros_u8.Reads as zeros-u8-reads
 
 abbrev Inv-loop : tie.InvT-loop

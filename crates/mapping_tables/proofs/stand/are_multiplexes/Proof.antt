@@ -1,11 +1,11 @@
 use Prim.Native.Nat.{_-_, _≤_}
-use Rattle.mappings.proofs.StandLaws.{Numbers, multiplex-stand-laws}
+use Rattle.mapping_tables.proofs.StandLaws.{Numbers, multiplex-stand-laws}
 use borrow.Author.Needs.{needs}
-use Rattle.mappings.proofs.stand.are_multiplexes.Statement.{statement}
-use Rattle.mappings.proofs.stand.are_multiplexes.Tie as tie
-use Rattle.mappings.proofs.stand.are_multiplexes.Reads as reads
-use Rattle.mappings.proofs.stand.are_multiplexes.Lts as lts
-use Rattle.mappings.proofs.stand.is_multiplex.Reads as is-multiplex-reads
+use Rattle.mapping_tables.proofs.stand.are_multiplexes.Statement.{statement}
+use Rattle.mapping_tables.proofs.stand.are_multiplexes.Tie as tie
+use Rattle.mapping_tables.proofs.stand.are_multiplexes.Reads as reads
+use Rattle.mapping_tables.proofs.stand.are_multiplexes.Lts as lts
+use Rattle.mapping_tables.proofs.stand.is_multiplex.Reads as is-multiplex-reads
 use Rattle.reading.proofs.zeros.zeros_u8.Reads as zeros-u8-reads
 
 abbrev Inv-loop : tie.InvT-loop
