@@ -1,12 +1,12 @@
 use Prim.Native.Nat.{_-_}
 use Rattle.residues.proofs.FitsLaws.{Testing, testing-laws}
 use lib.Dec.{leb}
 use borrow.Author.Needs.{needs}
-use Rattle.residues.proofs.stand.places_set_up.Statement.{statement}
-use Rattle.residues.proofs.stand.places_set_up.Tie as tie
-use Rattle.residues.proofs.stand.places_set_up.Reads as reads
-use Rattle.residues.proofs.stand.places_set_up.Lts as lts
-use Rattle.residues.proofs.stand.wider.Reads as wider-reads
+use Rattle.residue_tables.proofs.stand.places_set_up.Statement.{statement}
+use Rattle.residue_tables.proofs.stand.places_set_up.Tie as tie
+use Rattle.residue_tables.proofs.stand.places_set_up.Reads as reads
+use Rattle.residue_tables.proofs.stand.places_set_up.Lts as lts
+use Rattle.residue_tables.proofs.stand.wider.Reads as wider-reads
 
 abbrev Inv-loop : tie.InvT-loop
 Inv-loop places from to count i₀ i = Testing (λ b. leb b count) places i₀ to i

@@ -1,17 +1,17 @@
 use Prim.Native.Nat.{_-_}
 use Rattle.residues.proofs.FitsLaws.{Testing, zero-laws}
 use lib.Dec.{eqb}
 use borrow.Author.Needs.{needs}
-use Rattle.residues.proofs.stand.zeros.Statement.{statement}
-use Rattle.residues.proofs.stand.zeros.Tie as tie
-use Rattle.residues.proofs.stand.zeros.Reads as reads
-use Rattle.residues.proofs.stand.zeros.Lts as lts
+use Rattle.residue_tables.proofs.stand.zeros_wide.Statement.{statement}
+use Rattle.residue_tables.proofs.stand.zeros_wide.Tie as tie
+use Rattle.residue_tables.proofs.stand.zeros_wide.Reads as reads
+use Rattle.residue_tables.proofs.stand.zeros_wide.Lts as lts
 
 abbrev Inv-loop : tie.InvT-loop
-Inv-loop places from to i₀ i = Testing (λ b. eqb b 0) places i₀ to i
+Inv-loop numbers from to i₀ i = Testing (λ b. eqb b 0) numbers i₀ to i
 
 abbrev μ-loop : tie.MeasureT-loop
-μ-loop places from to i₀ i = to - i
+μ-loop numbers from to i₀ i = to - i
 
 loop-holds : tie.Need-loop-holds Inv-loop μ-loop
 loop-holds c = search zero-laws
@@ -40,8 +40,8 @@ loop-again c = search zero-laws
 returns-3 : tie.Need-returns-3 Inv-loop μ-loop
 returns-3 c = search zero-laws
 
-pub zeros-spec : {M : Type 1} → statement M
-zeros-spec =
+pub zeros-wide-spec : {M : Type 1} → statement M
+zeros-wide-spec =
     tie.close
     (tie.spec
     Inv-loop

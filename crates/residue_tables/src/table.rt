@@ -1,10 +1,10 @@
 // Reading a residue's numbers back from the tables. A number past a table's end reads as zero.
-use crate::head::Head;
+use residues::head::Head;
 ghost use mathlib.Core.Path.{_≡_};
 ghost use Prim.Native.Nat.{_+_, _*_, _<_};
 ghost use lib.ListN.{getD};
 ghost use Rattle.residues.specs.Decode.{headAt};
 ghost use Rattle.residues.specs.Heads.{headOf};
 
 fn wide(x: u32) -> usize
     ensures { λ r. ⌜ r ≡ x ⌝ }

@@ -1,10 +1,10 @@
-use Rattle.residues.proofs.StandLaws.{head-test-laws}
+use Rattle.residue_tables.proofs.StandLaws.{head-test-laws}
 use borrow.Author.Needs.{needs}
-use Rattle.residues.proofs.stand.head_stands.Statement.{statement}
-use Rattle.residues.proofs.stand.head_stands.Tie as tie
-use Rattle.residues.proofs.stand.head_stands.Reads as reads
-use Rattle.residues.proofs.stand.head_stands.Lts as lts
+use Rattle.residue_tables.proofs.stand.head_stands.Statement.{statement}
+use Rattle.residue_tables.proofs.stand.head_stands.Tie as tie
+use Rattle.residue_tables.proofs.stand.head_stands.Reads as reads
+use Rattle.residue_tables.proofs.stand.head_stands.Lts as lts
 use Rattle.residues.proofs.fits.head_fits.Reads as head-fits-reads
 
 returns : tie.Need-returns
 returns c = search head-test-laws

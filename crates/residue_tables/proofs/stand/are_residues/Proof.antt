@@ -1,16 +1,16 @@
 use Prim.Native.Nat.{_-_}
 use Rattle.residues.specs.FromTable.{booksOf}
-use Rattle.residues.proofs.StandLaws.{Standing, standing-start, standing-next, standing-failed, tail-failed, tail-judged}
-use Rattle.residues.proofs.StandTheorem.{one-content, short, short-plans, stand-iff}
+use Rattle.residue_tables.proofs.StandLaws.{Standing, standing-start, standing-next, standing-failed, tail-failed, tail-judged}
+use Rattle.residue_tables.proofs.StandTheorem.{one-content, short, short-plans, stand-iff}
 use borrow.Author.Needs.{needs}
-use Rattle.residues.proofs.stand.are_residues.Statement.{statement}
-use Rattle.residues.proofs.stand.are_residues.Tie as tie
-use Rattle.residues.proofs.stand.are_residues.Reads as reads
-use Rattle.residues.proofs.stand.are_residues.Lts as lts
-use Rattle.residues.proofs.stand.stands.Reads as stands-reads
-use Rattle.residues.proofs.stand.wide.Reads as wide-reads
-use Rattle.residues.proofs.stand.zeros.Reads as zeros-reads
-use Rattle.residues.proofs.stand.zeros_wide.Reads as zeros-wide-reads
+use Rattle.residue_tables.proofs.stand.are_residues.Statement.{statement}
+use Rattle.residue_tables.proofs.stand.are_residues.Tie as tie
+use Rattle.residue_tables.proofs.stand.are_residues.Reads as reads
+use Rattle.residue_tables.proofs.stand.are_residues.Lts as lts
+use Rattle.residue_tables.proofs.stand.stands.Reads as stands-reads
+use Rattle.residue_tables.proofs.stand.wide.Reads as wide-reads
+use Rattle.residue_tables.proofs.stand.zeros.Reads as zeros-reads
+use Rattle.residue_tables.proofs.stand.zeros_wide.Reads as zeros-wide-reads
 
 abbrev Inv-loop : tie.InvT-loop
 Inv-loop residues plans n count books i₀ i = Standing (booksOf count books) n residues plans i

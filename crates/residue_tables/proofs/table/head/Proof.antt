@@ -1,15 +1,15 @@
-use Rattle.residues.proofs.TableLaws.{table-laws}
+use Rattle.residue_tables.proofs.TableLaws.{table-laws}
 use borrow.Author.Needs.{needs}
-use Rattle.residues.proofs.table.head.Statement.{statement}
-use Rattle.residues.proofs.table.head.Tie as tie
-use Rattle.residues.proofs.table.head.Reads as reads
-use Rattle.residues.proofs.table.head.Lts as lts
-use Rattle.residues.proofs.table.begin.Reads as begin-reads
-use Rattle.residues.proofs.table.classbook.Reads as classbook-reads
-use Rattle.residues.proofs.table.classifications.Reads as classifications-reads
-use Rattle.residues.proofs.table.end.Reads as end-reads
-use Rattle.residues.proofs.table.kind.Reads as kind-reads
-use Rattle.residues.proofs.table.size.Reads as size-reads
+use Rattle.residue_tables.proofs.table.head.Statement.{statement}
+use Rattle.residue_tables.proofs.table.head.Tie as tie
+use Rattle.residue_tables.proofs.table.head.Reads as reads
+use Rattle.residue_tables.proofs.table.head.Lts as lts
+use Rattle.residue_tables.proofs.table.begin.Reads as begin-reads
+use Rattle.residue_tables.proofs.table.classbook.Reads as classbook-reads
+use Rattle.residue_tables.proofs.table.classifications.Reads as classifications-reads
+use Rattle.residue_tables.proofs.table.end.Reads as end-reads
+use Rattle.residue_tables.proofs.table.kind.Reads as kind-reads
+use Rattle.residue_tables.proofs.table.size.Reads as size-reads
 
 kind-requires : tie.Need-kind-requires
 kind-requires c κs = search needs

@@ -11,13 +11,13 @@ use lib.Dec.{eqb, leb}
 use lib.ListN.{length, take, drop, length-drop}
 use lib.Seq.{getD-drop, drop-drop, take-all}
 use Rattle.reading.specs.Lists.{all}
 use Rattle.residues.specs.Reading.{Books, Head, placeFits}
 use Rattle.residues.specs.FromTable.{booksOf}
 use Rattle.residues.specs.Heads.{headOf}
 use Rattle.residues.specs.Plans.{headFits}
 use Rattle.residues.specs.Decode.{headAt}
-use Rattle.residues.specs.Stand.{headTest, placesTest, residueTest, residuesTest}
+use Rattle.residue_tables.specs.Stand.{headTest, placesTest, residueTest, residuesTest}
 use Rattle.residues.specs.declared.head.Head as D
 
 -- the fields before the plan, one law for each way out
 module _ (count : ℕ) (t : List ℕ) (h : D.Head) where

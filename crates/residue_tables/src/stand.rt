@@ -1,5 +1,5 @@
 // Whether tables that are handed in are the writing-out of residues that meet every rule (01, "What the reader takes and gives").
-use crate::head::Head;
+use residues::head::Head;
 ghost use mathlib.Core.Path.{_≡_};
 ghost use mathlib.Core.Bool.{true};
 ghost use mathlib.Core.Logic.{_↔_};
@@ -7,9 +7,9 @@ ghost use Prim.Native.Nat.{_-_, _*_, _≤_};
 ghost use lib.Dec.{eqb, leb};
 ghost use lib.ListN.{take, drop};
 ghost use Rattle.reading.specs.Lists.{all};
 ghost use Rattle.residues.specs.FromTable.{booksOf};
 ghost use Rattle.residues.specs.Heads.{headOf};
-ghost use Rattle.residues.specs.Stand.{headTest, residueTest, ResiduesStand, OneContent};
+ghost use Rattle.residue_tables.specs.Stand.{headTest, residueTest, ResiduesStand, OneContent};
 
 fn wide(x: u32) -> usize
     ensures { λ r. ⌜ r ≡ x ⌝ }
@@ -103,7 +103,7 @@ fn head_stands(head: Head, count: u32, books: &[u32]) -> bool
     if count <= head.classbook {
         return false;
     }
-    crate::fits::head_fits(head, books)
+    residues::fits::head_fits(head, books)
 }
 
 // Residue `index` of the tables meets every rule.
@@ -120,7 +120,7 @@ fn stands(residues: &[u32], plans: &[u16], index: u32, count: u32, books: &[u32]
     if !places_set_up(plans, first, last, count) {
         return false;
     }
-    if !crate::fits::places_fit(plans, first, last, head.size, books) {
+    if !residues::fits::places_fit(plans, first, last, head.size, books) {
         return false;
     }
     zeros(plans, last, first + 512)
