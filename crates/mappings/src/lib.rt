@@ -8,7 +8,9 @@ use bits::Cursor;
 use bits::Field;
 use bits::Refusal;
 use bits::Step;
-ghost use Prim.Native.Nat.{_+_, _*_, _≤_};
+ghost use Prim.Native.Nat.{_+_, _*_, _/_, _%_, _≤_};
+ghost use mathlib.Core.Path.{_≡_};
+ghost use lib.ListN.{set, replicate};
 ghost use Rattle.reading.specs.Reader.{many, mapped, into, into1};
 ghost use Rattle.reading.specs.Table.{table, putRow};
 ghost use Rattle.bits.specs.Cursors.{position, Wrote};
@@ -66,6 +68,18 @@ fn read_parts(
     }
 }
 
+// A row in which a mapping's counts stand, and zeros behind them.
+fn counted(submaps: u32, steps: u32) -> [u8; 804]
+    requires { ⌜ (submaps ≤ 16) × (steps ≤ 256) ⌝ }
+    ensures { λ r. ⌜ r ≡ set (set (set (replicate 804 0) 0 (steps % 256)) 1 (steps / 256)) 2 submaps ⌝ }
+{
+    let mut row = [0u8; 804];
+    row[0] = (steps % 256) as u8;
+    row[1] = (steps / 256) as u8;
+    row[2] = submaps as u8;
+    row
+}
+
 // One mapping, its row written at `at`.
 pub fn read_mapping(
     packet: &[u8],
@@ -95,10 +109,7 @@ pub fn read_mapping(
                 ) {
                     Field::Refused(z) => Step::Refused(z),
                     Field::Value(steps, at_parts) => {
-                        let mut row = [0u8; 804];
-                        row[0] = (steps % 256) as u8;
-                        row[1] = (steps / 256) as u8;
-                        row[2] = submaps as u8;
+                        let mut row = counted(submaps, steps);
                         match read_parts(packet, at_parts, known, submaps, steps, &mut row) {
                             Step::Refused(z) => Step::Refused(z),
                             Step::Next(next) => {
