@@ -17,7 +17,6 @@ use Rattle.floors.specs.Content.{Class, xList}
 use Rattle.floors.specs.Reading.{masterBook, subclassBook, class, xValues, Ends, ends}
 use Rattle.floors.specs.Valid.{ValidClass, ValidClasses}
 use Rattle.floors.proofs.Collected.{many-length}
-use Rattle.floors.specs.Rules.{MasterFits}
 use Rattle.floors.proofs.ClassLaws.{master-ok}
 use Rattle.floors.proofs.FloorLaws.{values-ok}
 

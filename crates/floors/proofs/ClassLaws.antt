@@ -33,7 +33,7 @@ use Rattle.floors.specs.Cell.{cell}
 use Rattle.floors.specs.Layout.{classRow}
 use Rattle.floors.specs.Reading.{masterBook, subclassBook, class}
 use Rattle.floors.specs.Pieces.{classRowOf}
-use Rattle.floors.specs.Rules.{MasterFits}
+use Rattle.floors.specs.Valid.{MasterFits}
 use Rattle.floors.proofs.Collected.{Collected, collected, rows-cell, wrote-as}
 
 abbrev at : ℕ → Cursor → Refusal

@@ -1,31 +1,29 @@
--- What other crates cite of floors: an accepted floor meets every rule; where its row lies in the table; which number of it each place holds.
+-- What other crates cite of floors: an accepted floor meets every rule; where its row lies in the table.
 -- Assumes nothing.
-use Prim.Native.Nat.{ℕ, zero, suc, _+_, _*_, _^_, _≤_, _<_}
+use Prim.Native.Nat.{ℕ, zero, suc, _+_, _*_, _≤_, _<_}
 use native.Mathlib.Omega.{arith}
-use mathlib.Core.Bool.{true}
 use mathlib.Core.List.{List, [], _∷_, _++_, map}
-use mathlib.Core.Path.{_≡_, refl, sym, ap, _∙_, subst}
+use mathlib.Core.Path.{_≡_, ap, _∙_, subst}
 use lib.Dec.{ltb}
 use lib.ListN.{length, getD, List·getD-append}
-use lib.Seq.{slice, getD-append-add}
+use lib.Seq.{getD-append-add}
 use Rattle.reading.specs.Lists.{rows}
 use Rattle.reading.specs.Pad.{pad}
-use Rattle.reading.proofs.Pads.{pad-get, length-pad}
-use Rattle.reading.specs.Outcome.{Outcome, ok, then}
+use Rattle.reading.proofs.Pads.{pad-get}
+use Rattle.reading.specs.Outcome.{ok}
 use Rattle.reading.specs.Reader.{many}
 use Rattle.reading.proofs.Outcomes.{then-ok}
 use Rattle.bits.specs.Field.{field}
 use Rattle.bits.proofs.Fields.{field-ok}
-use Rattle.floors.specs.Content.{Class, Floor, xList, classCount, valueCount}
-use Rattle.floors.specs.Layout.{classRow, floorRow}
-use Rattle.floors.specs.Decode.{noClass, noFloor}
-use Rattle.floors.proofs.Lies.{Lies, lies-at, lies-slice}
-use Rattle.floors.proofs.Decoded.{floor-long, ClassLies, class-lies, classes-lie, FloorLies, floor-lies}
-use Rattle.floors.specs.Reading.{floorType, class, Ends, ends, floor1, floor}
-use Rattle.floors.specs.Valid.{ValidFloor}
-use Rattle.floors.specs.Stand.{ValidFloors}
+use Rattle.floors.specs.Content.{Floor, classCount, valueCount}
+use Rattle.floors.specs.Layout.{floorRow}
+use Rattle.floors.specs.Decode.{noFloor}
+use Rattle.floors.proofs.Lies.{Lies}
+use Rattle.floors.proofs.Decoded.{floor-long, FloorLies, floor-lies}
+use Rattle.floors.specs.Reading.{floorType, class, ends, floor1, floor}
+use Rattle.floors.specs.Valid.{ValidFloor, ValidFloors}
 use Rattle.floors.proofs.Collected.{many-length}
-use Rattle.floors.proofs.Accepted.{ok-is, many-cons, many-all, field-below, EndsFit, ends-fit, classes-valid}
+use Rattle.floors.proofs.Accepted.{ok-is, many-cons, many-all, field-below, ends-fit, classes-valid}
 
 -- AN ACCEPTED FLOOR MEETS EVERY RULE
 pub floor1-valid : (books place : ℕ) (s : List ℕ) (k : ℕ) {x : Floor × ℕ} → floor1 books place s k ≡ ok x → ValidFloor books (x .0)
@@ -94,27 +92,3 @@ floors-row fs t e h f k =
 
 pub floors-lie : (fs : List Floor) (t : List ℕ) → t ≡ pad (length t) (rows floorRow fs) → 277 * length fs ≤ length t → (f : ℕ) → f < length fs → FloorLies t (277 * f) (getD fs f noFloor)
 floors-lie fs t e h f k = floor-lies (getD fs f noFloor) (floors-row fs t e h f k)
-
--- row c of the rows of classes
-pub class-row : {t : List ℕ} (at m : ℕ) (cs : List Class) (c : ℕ) → c < length cs → length cs ≤ m → Lies t at (pad (11 * m) (rows classRow cs)) → Lies t (at + 11 * c) (classRow (getD cs c noClass))
-class-row at m [] c h k l = absurd (omega arith)
-class-row at zero (x ∷ cs) c h k l = absurd (omega arith)
-class-row at (suc m) (x ∷ cs) zero h k l = lies-at (omega arith) (classes-lie m x cs l .0)
-class-row at (suc m) (x ∷ cs) (suc c) h k l = lies-at (omega arith) (class-row (at + 11) m cs c (omega arith) (omega arith) (classes-lie m x cs l .1))
-
--- what each place of a floor that lies at `at` holds
-module _ {t : List ℕ} {at : ℕ} {f : Floor} (l : FloorLies t at f) where
-  pub partition-is : (i : ℕ) → i < 31 → getD t (at + 5 + i) 0 ≡ getD (f .partitions) i 0
-  partition-is i h = let p = length-pad 31 (f .partitions) in l .partitions .same i (omega arith) ∙ pad-get 31 (f .partitions) i h
-
-  pub x-is : (i : ℕ) → i < 65 → getD t (at + 212 + i) 0 ≡ getD (xList (f .rangebits) (f .xs)) i 0
-  x-is i h = let p = length-pad 65 (xList (f .rangebits) (f .xs)) in l .list .same i (omega arith) ∙ pad-get 65 (xList (f .rangebits) (f .xs)) i h
-
-  pub x-list-is : 2 + length (f .xs) ≤ 65 → slice (at + 212) (at + 212 + (2 + length (f .xs))) t ≡ xList (f .rangebits) (f .xs)
-  x-list-is h = lies-slice 65 (2 + length (f .xs)) (xList (f .rangebits) (f .xs)) (l .list) (omega arith) h
-
-  pub class-is : (c : ℕ) → c < length (f .classes) → length (f .classes) ≤ 16 → ClassLies t (at + 36 + 11 * c) (getD (f .classes) c noClass)
-  class-is c h k = class-lies (getD (f .classes) c noClass) (class-row (at + 36) 16 (f .classes) c h k (l .classes))
-
-pub subclass-book-is : {t : List ℕ} {at : ℕ} {c : Class} → ClassLies t at c → (j : ℕ) → j < 8 → getD t (at + 3 + j) 0 ≡ getD (c .books) j 0
-subclass-book-is {t} {at} {c} l j h = let p = length-pad 8 (c .books) in l .books .same j (omega arith) ∙ pad-get 8 (c .books) j h

@@ -9,5 +9,3 @@ pub mod RowLaws
 pub mod Lies
 pub mod Decoded
 pub mod Laws
-pub mod TestLaws
-pub mod Tested

@@ -4,6 +4,4 @@ pub mod Layout
 pub mod Valid
 pub mod Cell
 pub mod Pieces
-pub mod Rules
 pub mod Decode
-pub mod Stand

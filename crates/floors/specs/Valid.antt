@@ -8,6 +8,12 @@ use lib.ListN.{length}
 use Rattle.reading.specs.Lists.{distinct, all}
 use Rattle.floors.specs.Content.{Class, Floor, xList, classCount, valueCount}
 
+-- a master book exactly where there are subclass bits: its number plus one, 0 where there is none
+pub record MasterFits (books subclasses master : ℕ) : Type 0 where
+  pub none : subclasses ≡ 0 → master ≡ 0
+  pub some : (subclasses ≡ 0 → ⊥) → 1 ≤ master
+  pub most : master ≤ books
+
 pub record ValidClass (books : ℕ) (c : Class) : Type 0 where
   pub dimensions-low : 1 ≤ c .dimensions
   pub dimensions-high : c .dimensions ≤ 8
@@ -37,3 +43,7 @@ pub record ValidFloor (books : ℕ) (f : Floor) : Type 0 where
   pub few : length (f .xs) ≤ 63
   pub in-range : all (λ x. ltb x (2 ^ f .rangebits)) (f .xs) ≡ true
   pub different : distinct (xList (f .rangebits) (f .xs)) ≡ true
+
+unfoldable pub ValidFloors : ℕ → List Floor → Type 0
+ValidFloors books [] = Unit {0}
+ValidFloors books (f ∷ fs) = ValidFloor books f × ValidFloors books fs

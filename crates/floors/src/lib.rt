@@ -2,5 +2,3 @@
 pub mod class;
 pub mod floor;
 pub mod numbers;
-pub mod stand;
-pub mod table;

@@ -18,7 +18,6 @@ use Rattle.reading.proofs.Pads.{length-pad}
 use Rattle.reading.proofs.Outcomes.{then-ok, judged-ok}
 use Rattle.reading.proofs.Accepted.{many-each, many-number}
 use Rattle.reading.proofs.PairRows.{PairRow}
-use Rattle.reading.proofs.Stands.{stands-same}
 use Rattle.bits.specs.Field.{field}
 use Rattle.mappings.specs.Content.{Coupling, Submap, Mapping}
 use Rattle.mappings.specs.declared.Known.{Known}
@@ -26,11 +25,10 @@ use Rattle.mappings.specs.Reading.{submapCount, couplingCount, channel, 
 use Rattle.mappings.specs.Layout.{couplingRow, submapRow, mappingRow}
 use Rattle.mappings.specs.Valid.{ValidCoupling, ValidMultiplex, ValidSubmap, ValidMapping}
 use Rattle.mappings.specs.Decode.{couplingOf, submapOf, pairs, lessOne, decodeMapping}
-use Rattle.mappings.specs.Stand.{MappingsStand}
 use Rattle.mappings.proofs.CountLaws.{submaps-few, steps-few, submaps-some-at-least}
 use Rattle.mappings.proofs.CouplingLaws.{channel-below}
 use Rattle.mappings.proofs.MappingLaws.{parts-sizes}
-use Rattle.mappings.proofs.RowLaws.{mapping-wide, part-couplings, part-multiplex, part-submaps}
+use Rattle.mappings.proofs.RowLaws.{part-couplings, part-multiplex, part-submaps}
 
 pub coupling-valid : (channels : ℕ) (s : List ℕ) (k : ℕ) (x : Coupling × ℕ) → coupling channels s k ≡ ok x → ValidCoupling channels (x .0)
 unfolding coupling
@@ -204,7 +202,3 @@ decode-mapping known m h v =
     ∙ ap (pairs submapOf (length (m .submaps))) (take-all 32 (pad 32 z) (let l = length-pad 32 z in omega arith))
     ∙ pairs-back submap-pairs (m .submaps) 32 (omega arith) in
     λ j. record { couplings = cs j; multiplex = ms j; submaps = ss j }
-
--- no other mappings share a table
-pub one-content : (known : Known) (n : ℕ) (cells : List ℕ) → known .channels ≤ 256 → (a b : MappingsStand known n cells) → a .items ≡ b .items
-one-content known n cells h a b = stands-same mappingRow (ValidMapping known) 804 mapping-wide decodeMapping (λ m v. decode-mapping known m h v) n cells a b

@@ -5,5 +5,3 @@ pub mod SubmapLaws
 pub mod RowLaws
 pub mod MappingLaws
 pub mod Laws
-pub mod StandLaws
-pub mod Places

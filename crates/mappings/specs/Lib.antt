@@ -3,4 +3,3 @@ pub mod Reading
 pub mod Layout
 pub mod Valid
 pub mod Decode
-pub mod Stand

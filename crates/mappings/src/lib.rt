@@ -1,16 +1,16 @@
-// Mappings in a setup packet: what one is, its rules, its row in the tables, reading it, recognising it again (003, section 4.2.4, "Mappings").
+// Mappings in a setup packet: what one is, its rules, its row in the tables, reading it (003, section 4.2.4, "Mappings").
 // Each field is judged as soon as it is read; a refusal says nothing of the buffer, which the outermost function clears.
 pub mod counts; // how many submaps and coupling steps
 pub mod couplings; // the coupling steps
 pub mod submaps; // each channel's submap, and the submaps
-pub mod stand; // whether a table that is handed in holds mappings
-pub mod access; // what a table says of each mapping
 
 use bits::Cursor;
 use bits::Field;
 use bits::Refusal;
 use bits::Step;
-ghost use Prim.Native.Nat.{_+_, _*_, _≤_};
+ghost use Prim.Native.Nat.{_+_, _*_, _/_, _%_, _≤_};
+ghost use mathlib.Core.Path.{_≡_};
+ghost use lib.ListN.{set, replicate};
 ghost use Rattle.reading.specs.Reader.{many, mapped, into, into1};
 ghost use Rattle.reading.specs.Table.{table, putRow};
 ghost use Rattle.bits.specs.Cursors.{position, Wrote};
@@ -68,6 +68,18 @@ fn read_parts(
     }
 }
 
+// A row in which a mapping's counts stand, and zeros behind them.
+fn counted(submaps: u32, steps: u32) -> [u8; 804]
+    requires { ⌜ (submaps ≤ 16) × (steps ≤ 256) ⌝ }
+    ensures { λ r. ⌜ r ≡ set (set (set (replicate 804 0) 0 (steps % 256)) 1 (steps / 256)) 2 submaps ⌝ }
+{
+    let mut row = [0u8; 804];
+    row[0] = (steps % 256) as u8;
+    row[1] = (steps / 256) as u8;
+    row[2] = submaps as u8;
+    row
+}
+
 // One mapping, its row written at `at`.
 pub fn read_mapping(
     packet: &[u8],
@@ -97,10 +109,7 @@ pub fn read_mapping(
                 ) {
                     Field::Refused(z) => Step::Refused(z),
                     Field::Value(steps, at_parts) => {
-                        let mut row = [0u8; 804];
-                        row[0] = (steps % 256) as u8;
-                        row[1] = (steps / 256) as u8;
-                        row[2] = submaps as u8;
+                        let mut row = counted(submaps, steps);
                         match read_parts(packet, at_parts, known, submaps, steps, &mut row) {
                             Step::Refused(z) => Step::Refused(z),
                             Step::Next(next) => {

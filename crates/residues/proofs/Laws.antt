@@ -18,9 +18,8 @@ use Rattle.reading.proofs.Pads.{length-pad}
 use Rattle.residues.specs.Content.{Residue}
 use Rattle.residues.specs.Reading.{Books, cascade, passes, planBook, planRow, head, residue, residueFits, withPlan}
 use Rattle.residues.specs.Layout.{headRow, planTable}
-use Rattle.residues.specs.Valid.{Rows8, ValidResidue}
+use Rattle.residues.specs.Valid.{Rows8, ValidResidue, AllValid, AcceptedValid}
 use Rattle.residues.specs.Decode.{chunks, decodeResidue}
-use Rattle.residues.specs.Stand.{AllValid, AcceptedValid}
 use Rattle.residues.proofs.PlanLaws.{place-sound}
 use Rattle.residues.proofs.RowsLaws.{all-append}
 use Rattle.residues.proofs.HeadSound.{head-sound}

@@ -8,6 +8,3 @@ pub mod ReadLaws
 pub mod HeadSound
 pub mod ResidueLaws
 pub mod Laws
-pub mod TableLaws
-pub mod StandLaws
-pub mod StandTheorem

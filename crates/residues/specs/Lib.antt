@@ -7,5 +7,4 @@ pub mod Heads
 pub mod Slots
 pub mod Plans
 pub mod Decode
-pub mod Stand
 pub mod Vectors

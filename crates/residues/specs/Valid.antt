@@ -5,9 +5,11 @@ use mathlib.Core.List.{List, [], _∷_}
 use mathlib.Core.Path.{_≡_}
 use lib.Dec.{leb}
 use lib.ListN.{length}
+use Rattle.reading.specs.Outcome.{ok}
+use Rattle.reading.specs.Reader.{many}
 use Rattle.reading.specs.Lists.{all, rows}
 use Rattle.residues.specs.Content.{Residue}
-use Rattle.residues.specs.Reading.{Books, residueFits}
+use Rattle.residues.specs.Reading.{Books, residue, residueFits}
 
 -- every row of a plan has 8 places
 unfoldable pub Rows8 : List (List ℕ) → Type 0
@@ -27,3 +29,11 @@ pub record ValidResidue (books : Books) (r : Residue) : Type 0 where
   pub passes : Rows8 (r .plan)
   pub set-up : all (λ b. leb b (books .count)) (rows (λ row. row) (r .plan)) ≡ true
   pub fits : residueFits books r ≡ true
+
+unfoldable pub AllValid : Books → List Residue → Type 0
+AllValid books [] = Unit {0}
+AllValid books (r ∷ l) = ValidResidue books r × AllValid books l
+
+-- residues that a packet is accepted with meet every rule
+pub record AcceptedValid (books : Books) (n : ℕ) (packet : List ℕ) (k : ℕ) : Type 0 where
+  pub valid : (x : List Residue × ℕ) → many (residue books) n packet k ≡ ok x → AllValid books (x .0)

@@ -4,5 +4,3 @@ pub mod cascade; // which passes each class has a book for
 pub mod plan; // the plan: which book each class has at each pass
 pub mod fits; // rule 13
 pub mod read; // reading one residue, and all of them
-pub mod table; // reading a residue's numbers back from the tables
-pub mod stand; // recognising tables that are handed in

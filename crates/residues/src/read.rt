@@ -15,7 +15,7 @@ ghost use Rattle.residues.specs.Layout.{putResidue};
 ghost use Rattle.residues.specs.FromTable.{booksOf};
 ghost use Rattle.residues.specs.Heads.{headOf, headNumbers};
 ghost use Rattle.residues.specs.Plans.{residueFrom, tablesAt};
-ghost use Rattle.residues.specs.Stand.{AcceptedValid};
+ghost use Rattle.residues.specs.Valid.{AcceptedValid};
 
 fn wide(x: u32) -> usize
     ensures { λ r. ⌜ r ≡ x ⌝ }

@@ -1,6 +1,5 @@
-use Rattle.mappings.proofs.MappingLaws.{mapping-laws, mapping-whole}
-use mathlib.Core.Path.{refl}
-use Rattle.mappings.proofs.CountLaws.{steps-fit, submaps-fit}
+use Rattle.mappings.proofs.MappingLaws.{type-cut, type-wrong, submap-count-refused, step-count-refused, parts-refused, mapping-whole}
+use Rattle.mappings.proofs.CountLaws.{submaps-few-here, steps-few-here}
 use borrow.Author.Needs.{needs}
 use Rattle.mappings.proofs.read_mapping.Statement.{statement}
 use Rattle.mappings.proofs.read_mapping.Tie as tie
@@ -22,7 +21,7 @@ enum-known-kind : tie.Need-enum-known-kind
 enum-known-kind c = search needs
 
 returns : tie.Need-returns
-returns c = search mapping-laws
+returns c = search (needs, type-wrong)
 
 read-submap-count-requires : tie.Need-read-submap-count-requires
 read-submap-count-requires c κs = search needs
@@ -42,29 +41,14 @@ enum-known-z-3 c = search needs
 enum-known-steps : tie.Need-enum-known-steps
 enum-known-steps c = search needs
 
-cast-row : tie.Need-cast-row
-cast-row c = search mapping-laws
-
-array-write-row : tie.Need-array-write-row
-array-write-row c = search needs
-
-cast-row-2 : tie.Need-cast-row-2
-cast-row-2 c = record { fits = steps-fit _ _ (c .before .before .before .read-coupling-count .ensures) (c .before .steps .given .1) }
-
-array-write-row-2 : tie.Need-array-write-row-2
-array-write-row-2 c = search needs
-
-cast-row-3 : tie.Need-cast-row-3
-cast-row-3 c = record { fits = submaps-fit _ _ (c .before .before .before .before .before .before .before .read-submap-count .ensures) (c .before .before .before .before .before .submaps .given .1) }
-
-array-write-row-3 : tie.Need-array-write-row-3
-array-write-row-3 c = search needs
+counted-requires : tie.Need-counted-requires
+counted-requires c κs = search (needs, submaps-few-here, steps-few-here)
 
 slice-aggregate-read-parts : tie.Need-slice-aggregate-read-parts
 slice-aggregate-read-parts c = search needs
 
 read-parts-requires : tie.Need-read-parts-requires
-read-parts-requires c κs = search mapping-laws
+read-parts-requires c κs = search (needs, submaps-few-here, steps-few-here)
 
 enum-known-z-4 : tie.Need-enum-known-z-4
 enum-known-z-4 c = search needs
@@ -79,24 +63,26 @@ write-u8-requires : tie.Need-write-u8-requires
 write-u8-requires c κs = search needs
 
 returns-2 : tie.Need-returns-2
-returns-2 c = search mapping-laws
+returns-2 c = search (needs, type-cut)
 
 returns-3 : tie.Need-returns-3
-returns-3 c = search mapping-laws
+returns-3 c = search (needs, submap-count-refused)
 
 returns-4 : tie.Need-returns-4
-returns-4 c = search mapping-laws
+returns-4 c = search (needs, step-count-refused)
 
 returns-5 : tie.Need-returns-5
-returns-5 c = search mapping-laws
+returns-5 c =
+    parts-refused _ _ _ (c .before .before .before .before .before .before .before .before .before .before .before .before .before .before .before .before .before .before .before .field .ensures) (c .before .before .before .before .before .before .before .before .before .before .before .before .before .before .before .before .before .kind .given .1) (c .before .before .before .before .before .before .before .before .before .before .before .before .before .before .before .if1 .left) (c .before .before .before .before .before .before .before .before .before .before .before .before .before .before .read-submap-count .ensures) (c .before .before .before .before .before .before .before .before .before .before .before .before .submaps .given .1) (c .before .before .before .before .before .before .before .before .before .before .read-coupling-count .ensures) (c .before .before .before .before .before .before .before .before .steps .given .1) _
+    (c .before .before .before .before .read-parts .ensures) (search needs) _ _
 
 same-length : tie.Need-same-length
 same-length c = search needs
 
 returns-6 : tie.Need-returns-6
 returns-6 c =
-    mapping-whole _ _ _ (c .before .before .before .before .before .before .before .before .before .before .before .before .before .before .before .before .before .before .before .before .before .before .before .field .ensures) (c .before .before .before .before .before .before .before .before .before .before .before .before .before .before .before .before .before .before .before .before .before .kind .given .1) (c .before .before .before .before .before .before .before .before .before .before .before .before .before .before .before .before .before .before .before .if1 .left) (c .before .before .before .before .before .before .before .before .before .before .before .before .before .before .before .before .before .before .read-submap-count .ensures) (c .before .before .before .before .before .before .before .before .before .before .before .before .before .before .before .before .submaps .given .1) (c .before .before .before .before .before .before .before .before .before .before .before .before .before .before .read-coupling-count .ensures) (c .before .before .before .before .before .before .before .before .before .before .before .before .steps .given .1) _
-    (c .before .before .before .before .before .before .before .before .before .read-parts .ensures) (c .before .before .before .before .before .before .next .given .1) (c .before .before .before .before .before .before .before .before .before .before .before .before .before .before .before .before .before .before .before .before .before .before .before .before .before .before .pre .1) refl _ _ (c .before .before .write-u8 .ensures)
+    mapping-whole _ _ _ (c .before .before .before .before .before .before .before .before .before .before .before .before .before .before .before .before .before .before .before .before .before .before .before .before .field .ensures) (c .before .before .before .before .before .before .before .before .before .before .before .before .before .before .before .before .before .before .before .before .before .before .kind .given .1) (c .before .before .before .before .before .before .before .before .before .before .before .before .before .before .before .before .before .before .before .before .if1 .left) (c .before .before .before .before .before .before .before .before .before .before .before .before .before .before .before .before .before .before .before .read-submap-count .ensures) (c .before .before .before .before .before .before .before .before .before .before .before .before .before .before .before .before .before .submaps .given .1) (c .before .before .before .before .before .before .before .before .before .before .before .before .before .before .before .read-coupling-count .ensures) (c .before .before .before .before .before .before .before .before .before .before .before .before .before .steps .given .1) _
+    (c .before .before .before .before .before .before .before .before .before .read-parts .ensures) (c .before .before .before .before .before .before .next .given .1) (c .before .before .before .before .before .before .before .before .before .before .before .before .before .before .before .before .before .before .before .before .before .before .before .before .before .before .before .pre .1) (c .before .before .before .before .before .before .before .before .before .before .before .counted .ensures) _ _ (c .before .before .write-u8 .ensures)
 
 pub read-mapping-spec : {M : Type 1} → statement M
 read-mapping-spec =
@@ -112,12 +98,7 @@ read-mapping-spec =
     read-coupling-count-requires
     enum-known-z-3
     enum-known-steps
-    cast-row
-    array-write-row
-    cast-row-2
-    array-write-row-2
-    cast-row-3
-    array-write-row-3
+    counted-requires
     slice-aggregate-read-parts
     read-parts-requires
     enum-known-z-4

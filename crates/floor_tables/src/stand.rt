@@ -1,0 +1,242 @@
+// Whether a table of floors that anyone hands in is the writing-out of floors that meet every rule.
+use floors::floor;
+use floors::numbers;
+use reading::buffers;
+ghost use mathlib.Core.Path.{_≡_};
+ghost use mathlib.Core.Bool.{true};
+ghost use mathlib.Core.Logic.{_↔_};
+ghost use Prim.Native.Nat.{_+_, _^_, _<_, _≤_};
+ghost use lib.ListN.{length, getD};
+ghost use Rattle.floors.specs.Valid.{MasterFits};
+ghost use Rattle.floor_tables.specs.Rules.{Below, BookRules, ClassRules, ClassesRules, PartitionRules, NamedRules, HeadRules, ListRules, FloorRules, FloorsRules};
+ghost use Rattle.floor_tables.specs.Stand.{FloorsStand};
+
+// A place of the table.
+fn number(floors: &[u16], at: usize) -> usize
+    ensures { λ r. ⌜ (r ≡ getD (now (floors .entry)) at 0) × (r < 65536) ⌝ }
+{
+    numbers::wide(buffers::get_u16(floors, at))
+}
+
+// Whether every number from place `from` up to `to` is below the limit. Past the end there are zeros.
+fn are_below(floors: &[u16], from: usize, to: usize, limit: usize) -> bool
+    ensures { λ r. ⌜ (r ≡ true) ↔ Below (now (floors .entry)) from to limit ⌝ }
+{
+    let mut i = from;
+    while i < to {
+        if limit <= number(floors, i) {
+            return false;
+        }
+        i = i + 1;
+    }
+    true
+}
+
+// Whether there is a master book exactly where there are subclass bits, and it is set up.
+fn is_master(books: usize, subclasses: usize, master: usize) -> bool
+    ensures { λ r. ⌜ (r ≡ true) ↔ MasterFits books subclasses master ⌝ }
+{
+    if books < master {
+        return false;
+    }
+    if subclasses == 0 {
+        if master == 0 {
+            return true;
+        }
+        return false;
+    }
+    if master < 1 {
+        return false;
+    }
+    true
+}
+
+// Whether the subclass books of a class lie from place `at` on, `count` of them, and zeros behind.
+fn are_books(floors: &[u16], at: usize, books: usize, count: usize) -> bool
+    requires { ⌜ (at ≤ 65535) × (books ≤ 256) × (count ≤ 8) ⌝ }
+    ensures { λ r. ⌜ (r ≡ true) ↔ BookRules books (now (floors .entry)) at count ⌝ }
+{
+    if !are_below(floors, at, at + count, books + 1) {
+        return false;
+    }
+    if !are_below(floors, at, at + count, 256) {
+        return false;
+    }
+    are_below(floors, at + count, at + 8, 1)
+}
+
+// Whether the row of a class begins at place `at`.
+fn is_class(floors: &[u16], at: usize, books: usize) -> bool
+    requires { ⌜ (at ≤ 65524) × (books ≤ 256) ⌝ }
+    ensures { λ r. ⌜ (r ≡ true) ↔ ClassRules books (now (floors .entry)) at ⌝ }
+{
+    let dimensions = number(floors, at);
+    if dimensions < 1 {
+        return false;
+    }
+    if 8 < dimensions {
+        return false;
+    }
+    let subclasses = buffers::get_u16(floors, at + 1);
+    if 3 < subclasses {
+        return false;
+    }
+    if !is_master(books, numbers::wide(subclasses), number(floors, at + 2)) {
+        return false;
+    }
+    are_books(
+        floors,
+        at + 3,
+        books,
+        numbers::wide(numbers::power(subclasses as u32)),
+    )
+}
+
+// Whether the rows of `count` classes lie from place `at` on.
+fn are_classes(floors: &[u16], at: usize, count: usize, books: usize) -> bool
+    requires { ⌜ (at ≤ 20000) × (count ≤ 16) × (books ≤ 256) ⌝ }
+    ensures { λ r. ⌜ (r ≡ true) ↔ ClassesRules books (now (floors .entry)) at count ⌝ }
+{
+    let mut c: usize = 0;
+    while c < count {
+        if !is_class(floors, at + 11 * c, books) {
+            return false;
+        }
+        c = c + 1;
+    }
+    true
+}
+
+// Whether the partitions of the floor at place `at` stand.
+fn are_partitions(floors: &[u16], at: usize) -> bool
+    requires { ⌜ at ≤ 17451 ⌝ }
+    ensures { λ r. ⌜ (r ≡ true) ↔ PartitionRules (now (floors .entry)) at ⌝ }
+{
+    let count = number(floors, at);
+    if 31 < count {
+        return false;
+    }
+    if !are_below(floors, at + 5, at + 5 + count, 16) {
+        return false;
+    }
+    are_below(floors, at + 5 + count, at + 36, 1)
+}
+
+// Whether its classes stand.
+fn are_named(floors: &[u16], at: usize, books: usize) -> bool
+    requires { ⌜ (at ≤ 17451) × (books ≤ 256) × (at + 277 ≤ length (now floors)) ⌝ }
+    ensures { λ r. ⌜ (r ≡ true) ↔ NamedRules books (now (floors .entry)) at ⌝ }
+{
+    let count = number(floors, at + 1);
+    if 16 < count {
+        return false;
+    }
+    if count != floor::class_count(&floors[at + 5..at + 36], number(floors, at)) {
+        return false;
+    }
+    if !are_classes(floors, at + 36, count, books) {
+        return false;
+    }
+    are_below(floors, at + 36 + 11 * count, at + 212, 1)
+}
+
+// Whether its multiplier, range bits and count of X values stand.
+fn is_head(floors: &[u16], at: usize) -> bool
+    requires { ⌜ (at ≤ 17451) × (at + 277 ≤ length (now floors)) × (getD (now floors) at 0 ≤ 31) ⌝ }
+    ensures { λ r. ⌜ (r ≡ true) ↔ HeadRules (now (floors .entry)) at ⌝ }
+{
+    let multiplier = number(floors, at + 2);
+    if multiplier < 1 {
+        return false;
+    }
+    if 4 < multiplier {
+        return false;
+    }
+    if 15 < number(floors, at + 3) {
+        return false;
+    }
+    let values = number(floors, at + 4);
+    if 65 < values {
+        return false;
+    }
+    let read = floor::value_count(
+        &floors[at + 5..at + 36],
+        number(floors, at),
+        &floors[at + 36..at + 212],
+    );
+    if values < 2 {
+        return false;
+    }
+    if values - 2 != read {
+        return false;
+    }
+    true
+}
+
+// Whether its X list stands.
+fn is_list(floors: &[u16], at: usize) -> bool
+    requires { ⌜ (at ≤ 17451) × (at + 277 ≤ length (now floors)) × (getD (now floors) (at + 3) 0 ≤ 15) × (getD (now floors) (at + 4) 0 ≤ 65) ⌝ }
+    ensures { λ r. ⌜ (r ≡ true) ↔ ListRules (now (floors .entry)) at ⌝ }
+{
+    let range = numbers::wide(numbers::power(buffers::get_u16(floors, at + 3) as u32));
+    let end = at + 212 + number(floors, at + 4);
+    if 0 < number(floors, at + 212) {
+        return false;
+    }
+    if range != number(floors, at + 213) {
+        return false;
+    }
+    if !are_below(floors, at + 214, end, range) {
+        return false;
+    }
+    if !are_below(floors, end, at + 277, 1) {
+        return false;
+    }
+    numbers::are_distinct(floors, at + 212, end)
+}
+
+// Whether the row of a floor begins at place `at`.
+fn is_floor(floors: &[u16], at: usize, books: usize) -> bool
+    requires { ⌜ (at ≤ 17451) × (books ≤ 256) × (at + 277 ≤ length (now floors)) ⌝ }
+    ensures { λ r. ⌜ (r ≡ true) ↔ FloorRules books (now (floors .entry)) at ⌝ }
+{
+    if !are_partitions(floors, at) {
+        return false;
+    }
+    if !are_named(floors, at, books) {
+        return false;
+    }
+    if !is_head(floors, at) {
+        return false;
+    }
+    is_list(floors, at)
+}
+
+// Whether the rows of `count` floors lie from the front on.
+fn are_rows(floors: &[u16], count: usize, books: usize) -> bool
+    requires { ⌜ (count ≤ 64) × (books ≤ 256) × (17728 ≤ length (now floors)) ⌝ }
+    ensures { λ r. ⌜ (r ≡ true) ↔ FloorsRules books (now (floors .entry)) count ⌝ }
+{
+    let mut f: usize = 0;
+    while f < count {
+        if !is_floor(floors, 277 * f, books) {
+            return false;
+        }
+        f = f + 1;
+    }
+    true
+}
+
+// Whether the table is the writing-out of `count` floors that are right for `books` codebooks, with zeros behind them.
+pub fn are_floors(floors: &[u16], count: usize, books: u32) -> bool
+    requires { ⌜ (count ≤ 64) × (books ≤ 256) ⌝ }
+    ensures { λ r. ⌜ (r ≡ true) ↔ FloorsStand books count (now (floors .entry)) ⌝ }
+{
+    if floors.len() < 17728 {
+        return false;
+    }
+    if !are_rows(floors, count, numbers::long(books)) {
+        return false;
+    }
+    are_below(floors, 277 * count, floors.len(), 1)
+}

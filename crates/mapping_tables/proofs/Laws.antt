@@ -1,0 +1,16 @@
+-- A law of tables of mappings that other crates cite: one content for one table. Assumes nothing.
+use Prim.Native.Nat.{ℕ, _≤_}
+use mathlib.Core.List.{List}
+use mathlib.Core.Path.{_≡_}
+use Rattle.reading.proofs.Stands.{stands-same}
+use Rattle.mappings.specs.declared.Known.{Known}
+use Rattle.mappings.specs.Decode.{decodeMapping}
+use Rattle.mappings.specs.Layout.{mappingRow}
+use Rattle.mappings.specs.Valid.{ValidMapping}
+use Rattle.mappings.proofs.Laws.{decode-mapping}
+use Rattle.mappings.proofs.RowLaws.{mapping-wide}
+use Rattle.mapping_tables.specs.Stand.{MappingsStand}
+
+-- no other mappings share a table
+pub one-content : (known : Known) (n : ℕ) (cells : List ℕ) → known .channels ≤ 256 → (a b : MappingsStand known n cells) → a .items ≡ b .items
+one-content known n cells h a b = stands-same mappingRow (ValidMapping known) 804 mapping-wide decodeMapping (λ m v. decode-mapping known m h v) n cells a b

@@ -1,0 +1,14 @@
+use Rattle.mapping_tables.proofs.StandLaws.{count-known}
+use Rattle.mapping_tables.proofs.stand.multiplex_count.Statement.{statement}
+use Rattle.mapping_tables.proofs.stand.multiplex_count.Tie as tie
+use Rattle.mapping_tables.proofs.stand.multiplex_count.Reads as reads
+use Rattle.mapping_tables.proofs.stand.multiplex_count.Lts as lts
+
+returns : tie.Need-returns
+returns c = search count-known
+
+returns-2 : tie.Need-returns-2
+returns-2 c = search count-known
+
+pub multiplex-count-spec : {M : Type 1} → statement M
+multiplex-count-spec = tie.close (tie.spec returns returns-2)

@@ -1,0 +1,90 @@
+use Prim.Native.Nat.{_-_}
+use Rattle.residues.specs.FromTable.{booksOf}
+use Rattle.residue_tables.proofs.StandLaws.{Standing, standing-start, standing-next, standing-failed, tail-failed, tail-judged}
+use Rattle.residue_tables.proofs.StandTheorem.{one-content, short, short-plans, stand-iff}
+use borrow.Author.Needs.{needs}
+use Rattle.residue_tables.proofs.stand.are_residues.Statement.{statement}
+use Rattle.residue_tables.proofs.stand.are_residues.Tie as tie
+use Rattle.residue_tables.proofs.stand.are_residues.Reads as reads
+use Rattle.residue_tables.proofs.stand.are_residues.Lts as lts
+use Rattle.residue_tables.proofs.stand.stands.Reads as stands-reads
+use Rattle.residue_tables.proofs.stand.wide.Reads as wide-reads
+use Rattle.residue_tables.proofs.stand.zeros.Reads as zeros-reads
+use Rattle.residue_tables.proofs.stand.zeros_wide.Reads as zeros-wide-reads
+
+abbrev Inv-loop : tie.InvT-loop
+Inv-loop residues plans n count books i₀ i = Standing (booksOf count books) n residues plans i
+
+abbrev μ-loop : tie.MeasureT-loop
+μ-loop residues plans n count books i₀ i = n - i
+
+returns : tie.Need-returns Inv-loop μ-loop
+returns c = (short (booksOf (c .before .before .before .before .args .count) (c .before .before .before .before .args .books .now)) (c .before .before .before .before .args .n) (c .before .before .before .before .args .residues .now) (c .before .before .before .before .args .plans .now) (search needs), one-content (booksOf (c .before .before .before .before .args .count) (c .before .before .before .before .args .books .now)) (c .before .before .before .before .args .n) (c .before .before .before .before .args .residues .now) (c .before .before .before .before .args .plans .now) (c .before .before .before .before .pre))
+
+returns-2 : tie.Need-returns-2 Inv-loop μ-loop
+returns-2 c = (short-plans (booksOf (c .before .before .before .before .before .args .count) (c .before .before .before .before .before .args .books .now)) (c .before .before .before .before .before .args .n) (c .before .before .before .before .before .args .residues .now) (c .before .before .before .before .before .args .plans .now) (search needs), one-content (booksOf (c .before .before .before .before .before .args .count) (c .before .before .before .before .before .args .books .now)) (c .before .before .before .before .before .args .n) (c .before .before .before .before .before .args .residues .now) (c .before .before .before .before .before .args .plans .now) (c .before .before .before .before .before .pre))
+
+loop-holds : tie.Need-loop-holds Inv-loop μ-loop
+loop-holds c = standing-start _ _ _ _
+
+stands-requires : tie.Need-stands-requires Inv-loop μ-loop
+stands-requires c κs = search needs
+
+returns-3 : tie.Need-returns-3 Inv-loop μ-loop
+returns-3 c = (stand-iff (booksOf (c .before .before .before .before .before .before .before .before .before .args .count) (c .before .before .before .before .before .before .before .before .before .args .books .now)) (c .before .before .before .before .before .before .before .before .before .args .n) (c .before .before .before .before .before .before .before .before .before .args .residues .now) (c .before .before .before .before .before .before .before .before .before .args .plans .now) (c .before .before .before .before .before .before .before .before .before .pre) (search needs) (search needs) (standing-failed _ _ _ _ (c .before .before .before .loop .inv) (search needs) (c .before .stands .ensures) (c .if3 .taken)), one-content (booksOf (c .before .before .before .before .before .before .before .before .before .args .count) (c .before .before .before .before .before .before .before .before .before .args .books .now)) (c .before .before .before .before .before .before .before .before .before .args .n) (c .before .before .before .before .before .before .before .before .before .args .residues .now) (c .before .before .before .before .before .before .before .before .before .args .plans .now) (c .before .before .before .before .before .before .before .before .before .pre))
+
+add-i : tie.Need-add-i Inv-loop μ-loop
+add-i c = search needs
+
+loop-less : tie.Need-loop-less Inv-loop μ-loop
+loop-less c = search needs
+
+loop-again : tie.Need-loop-again Inv-loop μ-loop
+loop-again c = standing-next _ _ _ _ (c .before .before .before .loop .inv) (search needs) (c .before .stands .ensures) (c .if3 .left)
+
+wide-requires : tie.Need-wide-requires Inv-loop μ-loop
+wide-requires c κs = search needs
+
+mul-zeros-wide : tie.Need-mul-zeros-wide Inv-loop μ-loop
+mul-zeros-wide c = search needs
+
+zeros-wide-requires : tie.Need-zeros-wide-requires Inv-loop μ-loop
+zeros-wide-requires c κs = search needs
+
+returns-4 : tie.Need-returns-4 Inv-loop μ-loop
+returns-4 c = (stand-iff (booksOf (c .before .before .before .before .before .before .before .before .before .before .args .count) (c .before .before .before .before .before .before .before .before .before .before .args .books .now)) (c .before .before .before .before .before .before .before .before .before .before .args .n) (c .before .before .before .before .before .before .before .before .before .before .args .residues .now) (c .before .before .before .before .before .before .before .before .before .before .args .plans .now) (c .before .before .before .before .before .before .before .before .before .before .pre) (search needs) (search needs) (tail-failed _ _ _ _ (c .before .before .before .before .loop .inv) (search needs) (c .before .before .wide .ensures) (c .before .zeros-wide .ensures) (c .if4 .taken)), one-content (booksOf (c .before .before .before .before .before .before .before .before .before .before .args .count) (c .before .before .before .before .before .before .before .before .before .before .args .books .now)) (c .before .before .before .before .before .before .before .before .before .before .args .n) (c .before .before .before .before .before .before .before .before .before .before .args .residues .now) (c .before .before .before .before .before .before .before .before .before .before .args .plans .now) (c .before .before .before .before .before .before .before .before .before .before .pre))
+
+wide-requires-2 : tie.Need-wide-requires-2 Inv-loop μ-loop
+wide-requires-2 c κs = search needs
+
+mul-zeros : tie.Need-mul-zeros Inv-loop μ-loop
+mul-zeros c = search needs
+
+zeros-requires : tie.Need-zeros-requires Inv-loop μ-loop
+zeros-requires c κs = search needs
+
+returns-5 : tie.Need-returns-5 Inv-loop μ-loop
+returns-5 c = (stand-iff (booksOf (c .before .before .before .before .before .before .before .before .before .before .before .before .args .count) (c .before .before .before .before .before .before .before .before .before .before .before .before .args .books .now)) (c .before .before .before .before .before .before .before .before .before .before .before .before .args .n) (c .before .before .before .before .before .before .before .before .before .before .before .before .args .residues .now) (c .before .before .before .before .before .before .before .before .before .before .before .before .args .plans .now) (c .before .before .before .before .before .before .before .before .before .before .before .before .pre) (search needs) (search needs) (tail-judged _ _ _ _ (c .before .before .before .before .before .before .loop .inv) (search needs) (c .before .before .before .before .wide .ensures) (c .before .before .before .zeros-wide .ensures) (c .before .before .if4 .left) (c .before .wide2 .ensures) (c .zeros .ensures)), one-content (booksOf (c .before .before .before .before .before .before .before .before .before .before .before .before .args .count) (c .before .before .before .before .before .before .before .before .before .before .before .before .args .books .now)) (c .before .before .before .before .before .before .before .before .before .before .before .before .args .n) (c .before .before .before .before .before .before .before .before .before .before .before .before .args .residues .now) (c .before .before .before .before .before .before .before .before .before .before .before .before .args .plans .now) (c .before .before .before .before .before .before .before .before .before .before .before .before .pre))
+
+pub are-residues-spec : {M : Type 1} → statement M
+are-residues-spec =
+    tie.close
+    (tie.spec
+    Inv-loop
+    μ-loop
+    returns
+    returns-2
+    loop-holds
+    stands-requires
+    returns-3
+    add-i
+    loop-less
+    loop-again
+    wide-requires
+    mul-zeros-wide
+    zeros-wide-requires
+    returns-4
+    wide-requires-2
+    mul-zeros
+    zeros-requires
+    returns-5)

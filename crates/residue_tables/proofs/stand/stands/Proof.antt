@@ -1,0 +1,78 @@
+use mathlib.Core.Path.{refl}
+use Rattle.residue_tables.proofs.StandLaws.{head-fails, set-up-fails, fits-fails, stands-whole}
+use borrow.Author.Needs.{needs}
+use Rattle.residue_tables.proofs.stand.stands.Statement.{statement}
+use Rattle.residue_tables.proofs.stand.stands.Tie as tie
+use Rattle.residue_tables.proofs.stand.stands.Reads as reads
+use Rattle.residue_tables.proofs.stand.stands.Lts as lts
+use Rattle.residues.proofs.fits.places_fit.Reads as places-fit-reads
+use Rattle.residue_tables.proofs.stand.head_stands.Reads as head-stands-reads
+use Rattle.residue_tables.proofs.stand.places_set_up.Reads as places-set-up-reads
+use Rattle.residue_tables.proofs.stand.wide.Reads as wide-reads
+use Rattle.residue_tables.proofs.stand.zeros.Reads as zeros-reads
+use Rattle.residue_tables.proofs.table.head.Reads as head-reads
+
+head-requires : tie.Need-head-requires
+head-requires c κs = search needs
+
+head-stands-requires : tie.Need-head-stands-requires
+head-stands-requires c κs = search needs
+
+returns : tie.Need-returns
+returns c = head-fails (c .before .before .before .before .before .before .args .count) (c .before .before .before .before .before .before .args .books .now) (c .before .before .before .before .before .before .args .residues .now) (c .before .before .before .before .before .before .args .plans .now) (c .before .before .before .before .before .before .args .index) (c .before .before .head .result) (c .before .before .head .ensures) refl refl (c .before .head-stands .ensures) (c .if1 .taken)
+
+wide-requires : tie.Need-wide-requires
+wide-requires c κs = search needs
+
+mul-first : tie.Need-mul-first
+mul-first c = search needs
+
+wide-requires-2 : tie.Need-wide-requires-2
+wide-requires-2 c κs = search needs
+
+mul-last : tie.Need-mul-last
+mul-last c = search needs
+
+add-last : tie.Need-add-last
+add-last c = search needs
+
+places-set-up-requires : tie.Need-places-set-up-requires
+places-set-up-requires c κs = search needs
+
+returns-2 : tie.Need-returns-2
+returns-2 c = set-up-fails (c .before .before .before .before .before .before .before .before .before .before .args .count) (c .before .before .before .before .before .before .before .before .before .before .args .books .now) (c .before .before .before .before .before .before .before .before .before .before .args .residues .now) (c .before .before .before .before .before .before .before .before .before .before .args .plans .now) (c .before .before .before .before .before .before .before .before .before .before .args .index) (c .before .before .before .before .before .before .head .result) (c .before .before .before .before .before .before .head .ensures) (c .before .before .before .wide .ensures) (c .before .before .wide2 .ensures) (c .before .before .before .before .before .head-stands .ensures) (c .before .before .before .before .if1 .left) (c .before .places-set-up .ensures) (c .if2 .taken)
+
+places-fit-requires : tie.Need-places-fit-requires
+places-fit-requires c κs = search needs
+
+returns-3 : tie.Need-returns-3
+returns-3 c = fits-fails (c .before .before .before .before .before .before .before .before .before .before .before .before .args .count) (c .before .before .before .before .before .before .before .before .before .before .before .before .args .books .now) (c .before .before .before .before .before .before .before .before .before .before .before .before .args .residues .now) (c .before .before .before .before .before .before .before .before .before .before .before .before .args .plans .now) (c .before .before .before .before .before .before .before .before .before .before .before .before .args .index) (c .before .before .before .before .before .before .before .before .head .result) (c .before .before .before .before .before .before .before .before .head .ensures) (c .before .before .before .before .before .wide .ensures) (c .before .before .before .before .wide2 .ensures) (c .before .before .before .before .before .before .before .head-stands .ensures) (c .before .before .before .before .before .before .if1 .left) (c .before .before .before .places-set-up .ensures) (c .before .before .if2 .left) (c .before .places-fit .ensures) (c .if3 .taken)
+
+add-zeros : tie.Need-add-zeros
+add-zeros c = search needs
+
+zeros-requires : tie.Need-zeros-requires
+zeros-requires c κs = search needs
+
+returns-4 : tie.Need-returns-4
+returns-4 c = stands-whole (c .before .before .before .before .before .before .before .before .before .before .before .before .before .args .count) (c .before .before .before .before .before .before .before .before .before .before .before .before .before .args .books .now) (c .before .before .before .before .before .before .before .before .before .before .before .before .before .args .residues .now) (c .before .before .before .before .before .before .before .before .before .before .before .before .before .args .plans .now) (c .before .before .before .before .before .before .before .before .before .before .before .before .before .args .index) (c .before .before .before .before .before .before .before .before .before .head .result) (c .before .before .before .before .before .before .before .before .before .head .ensures) (c .before .before .before .before .before .before .wide .ensures) (c .before .before .before .before .before .wide2 .ensures) (c .before .before .before .before .before .before .before .before .head-stands .ensures) (c .before .before .before .before .before .before .before .if1 .left) (c .before .before .before .before .places-set-up .ensures) (c .before .before .before .if2 .left) (c .before .before .places-fit .ensures) (c .before .if3 .left) _ (c .zeros .ensures)
+
+pub stands-spec : {M : Type 1} → statement M
+stands-spec =
+    tie.close
+    (tie.spec
+    head-requires
+    head-stands-requires
+    returns
+    wide-requires
+    mul-first
+    wide-requires-2
+    mul-last
+    add-last
+    places-set-up-requires
+    returns-2
+    places-fit-requires
+    returns-3
+    add-zeros
+    zeros-requires
+    returns-4)

@@ -1,0 +1,25 @@
+use borrow.Author.Needs.{needs}
+use Rattle.residue_tables.proofs.table.number.Statement.{statement}
+use Rattle.residue_tables.proofs.table.number.Tie as tie
+use Rattle.residue_tables.proofs.table.number.Reads as reads
+use Rattle.residue_tables.proofs.table.number.Lts as lts
+use Rattle.reading.proofs.buffers.get_u32.Reads as get-u32-reads
+use Rattle.residue_tables.proofs.table.wide.Reads as wide-reads
+
+wide-requires : tie.Need-wide-requires
+wide-requires c κs = search needs
+
+mul-place : tie.Need-mul-place
+mul-place c = search needs
+
+add-place : tie.Need-add-place
+add-place c = search needs
+
+get-u32-requires : tie.Need-get-u32-requires
+get-u32-requires c κs = search needs
+
+returns : tie.Need-returns
+returns c = rw (← c .before .wide .ensures) (c .get-u32 .ensures)
+
+pub number-spec : {M : Type 1} → statement M
+number-spec = tie.close (tie.spec wide-requires mul-place add-place get-u32-requires returns)

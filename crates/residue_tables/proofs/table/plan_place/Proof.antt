@@ -1,0 +1,49 @@
+use Rattle.residue_tables.proofs.TableLaws.{table-laws}
+use borrow.Author.Needs.{needs}
+use Rattle.residue_tables.proofs.table.plan_place.Statement.{statement}
+use Rattle.residue_tables.proofs.table.plan_place.Tie as tie
+use Rattle.residue_tables.proofs.table.plan_place.Reads as reads
+use Rattle.residue_tables.proofs.table.plan_place.Lts as lts
+use Rattle.reading.proofs.buffers.get_u16.Reads as get-u16-reads
+use Rattle.residue_tables.proofs.table.wide.Reads as wide-reads
+
+wide-requires : tie.Need-wide-requires
+wide-requires c κs = search needs
+
+mul-row : tie.Need-mul-row
+mul-row c = search needs
+
+wide-requires-2 : tie.Need-wide-requires-2
+wide-requires-2 c κs = search needs
+
+mul-place : tie.Need-mul-place
+mul-place c = search needs
+
+wide-requires-3 : tie.Need-wide-requires-3
+wide-requires-3 c κs = search needs
+
+add-place : tie.Need-add-place
+add-place c = search needs
+
+add-get-u16 : tie.Need-add-get-u16
+add-get-u16 c = search needs
+
+get-u16-requires : tie.Need-get-u16-requires
+get-u16-requires c κs = search needs
+
+returns : tie.Need-returns
+returns c = search table-laws
+
+pub plan-place-spec : {M : Type 1} → statement M
+plan-place-spec =
+    tie.close
+    (tie.spec
+    wide-requires
+    mul-row
+    wide-requires-2
+    mul-place
+    wide-requires-3
+    add-place
+    add-get-u16
+    get-u16-requires
+    returns)

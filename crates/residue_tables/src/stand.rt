@@ -1,0 +1,152 @@
+// Whether tables that are handed in are the writing-out of residues that meet every rule (01, "What the reader takes and gives").
+use residues::head::Head;
+ghost use mathlib.Core.Path.{_≡_};
+ghost use mathlib.Core.Bool.{true};
+ghost use mathlib.Core.Logic.{_↔_};
+ghost use Prim.Native.Nat.{_-_, _*_, _≤_};
+ghost use lib.Dec.{eqb, leb};
+ghost use lib.ListN.{take, drop};
+ghost use Rattle.reading.specs.Lists.{all};
+ghost use Rattle.residues.specs.FromTable.{booksOf};
+ghost use Rattle.residues.specs.Heads.{headOf};
+ghost use Rattle.residue_tables.specs.Stand.{headTest, residueTest, ResiduesStand, OneContent};
+
+fn wide(x: u32) -> usize
+    ensures { λ r. ⌜ r ≡ x ⌝ }
+{
+    x as usize
+}
+
+fn wider(x: u16) -> u32
+    ensures { λ r. ⌜ r ≡ x ⌝ }
+{
+    x as u32
+}
+
+// The numbers from `from` up to `to` are all zero; past the table's end there is none.
+fn zeros(places: &[u16], from: usize, to: usize) -> bool
+    ensures { λ r. ⌜ r ≡ all (λ b. eqb b 0) (take (to - from) (drop from (now (places .entry)))) ⌝ }
+{
+    let mut i = from;
+    while i < to {
+        if places.len() <= i {
+            return true;
+        }
+        if places[i] != 0 {
+            return false;
+        }
+        i = i + 1;
+    }
+    true
+}
+
+fn zeros_wide(numbers: &[u32], from: usize, to: usize) -> bool
+    ensures { λ r. ⌜ r ≡ all (λ b. eqb b 0) (take (to - from) (drop from (now (numbers .entry)))) ⌝ }
+{
+    let mut i = from;
+    while i < to {
+        if numbers.len() <= i {
+            return true;
+        }
+        if numbers[i] != 0 {
+            return false;
+        }
+        i = i + 1;
+    }
+    true
+}
+
+// The places from `from` up to `to` name books that are set up.
+fn places_set_up(places: &[u16], from: usize, to: usize, count: u32) -> bool
+    ensures { λ r. ⌜ r ≡ all (λ b. leb b count) (take (to - from) (drop from (now (places .entry)))) ⌝ }
+{
+    let mut i = from;
+    while i < to {
+        if places.len() <= i {
+            return true;
+        }
+        let place = wider(places[i]);
+        let known = place <= count;
+        if !known {
+            return false;
+        }
+        i = i + 1;
+    }
+    true
+}
+
+// The fields before the plan are within their widths and meet refusals 10, 11 and 13.
+fn head_stands(head: Head, count: u32, books: &[u32]) -> bool
+    ensures { λ r. ⌜ r ≡ headTest (booksOf count (now (books .entry))) (headOf head) ⌝ }
+{
+    if 2 < head.kind {
+        return false;
+    }
+    if 16777216 <= head.begin {
+        return false;
+    }
+    if 16777216 <= head.end {
+        return false;
+    }
+    if head.size < 1 {
+        return false;
+    }
+    if 16777216 < head.size {
+        return false;
+    }
+    if head.classifications < 1 {
+        return false;
+    }
+    if 64 < head.classifications {
+        return false;
+    }
+    if count <= head.classbook {
+        return false;
+    }
+    residues::fits::head_fits(head, books)
+}
+
+// Residue `index` of the tables meets every rule.
+fn stands(residues: &[u32], plans: &[u16], index: u32, count: u32, books: &[u32]) -> bool
+    requires { ⌜ index ≤ 63 ⌝ }
+    ensures { λ r. ⌜ r ≡ residueTest (booksOf count (now (books .entry))) (drop (6 * index) (now (residues .entry))) (drop (512 * index) (now (plans .entry))) ⌝ }
+{
+    let head = crate::table::head(residues, index);
+    if !head_stands(head, count, books) {
+        return false;
+    }
+    let first = 512 * wide(index);
+    let last = first + 8 * wide(head.classifications);
+    if !places_set_up(plans, first, last, count) {
+        return false;
+    }
+    if !residues::fits::places_fit(plans, first, last, head.size, books) {
+        return false;
+    }
+    zeros(plans, last, first + 512)
+}
+
+// Whether the tables are those of `n` residues.
+pub fn are_residues(residues: &[u32], plans: &[u16], n: u32, count: u32, books: &[u32]) -> bool
+    requires { ⌜ n ≤ 64 ⌝ }
+    ensures { λ r. ⌜ (r ≡ true) ↔ ResiduesStand (booksOf count (now (books .entry))) n (now (residues .entry)) (now (plans .entry)) ⌝ }
+    ensures { λ _. ⌜ OneContent (booksOf count (now (books .entry))) n (now (residues .entry)) (now (plans .entry)) ⌝ }
+{
+    if residues.len() < 384 {
+        return false;
+    }
+    if plans.len() < 32768 {
+        return false;
+    }
+    let mut i: u32 = 0;
+    while i < n {
+        if !stands(residues, plans, i, count, books) {
+            return false;
+        }
+        i = i + 1;
+    }
+    if !zeros_wide(residues, 6 * wide(n), residues.len()) {
+        return false;
+    }
+    zeros(plans, 512 * wide(n), plans.len())
+}
