@@ -8,7 +8,8 @@ use Rattle.floors.specs.Content.{Floor}
 use Rattle.floors.specs.Decode.{noFloor}
 use Rattle.floors.specs.Layout.{floorRow}
 use Rattle.floors.specs.Valid.{ValidFloor}
-use Rattle.floors.specs.Stand.{ValidFloors, FloorsStand}
+use Rattle.floors.specs.Valid.{ValidFloors}
+use Rattle.floor_tables.specs.Stand.{FloorsStand}
 use Rattle.floors.proofs.Decoded.{floor-long, floor-decoded-at}
 use Rattle.floors.proofs.Lies.{Lies}
 use Rattle.floors.proofs.Laws.{floors-row}

@@ -2,7 +2,7 @@
 use bits::Cursor;
 use bits::Field;
 use bits::Step;
-use floors::table;
+use floor_tables::table;
 use reading::buffers;
 ghost use mathlib.Core.Path.{_≡_};
 ghost use Prim.Native.Nat.{_+_, _^_, _<_, _≤_};

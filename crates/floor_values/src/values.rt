@@ -4,7 +4,7 @@ use bits::Cursor;
 use bits::Field;
 use bits::Step;
 use floors::numbers;
-use floors::table;
+use floor_tables::table;
 ghost use mathlib.Core.Path.{_≡_};
 ghost use Prim.Native.Nat.{_<_};
 ghost use lib.Seq.{sets};
