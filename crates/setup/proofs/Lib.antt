@@ -2,3 +2,5 @@ pub mod LaidLaws
 pub mod SectionLaws
 pub mod PartLaws
 pub mod TableLaws
+pub mod BookLinks
+pub mod ContentLaws

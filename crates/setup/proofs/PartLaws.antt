@@ -28,7 +28,7 @@ use Rattle.setup.specs.Parts.{Laid, RowsLie, ResiduesLie, FloorsLie, Map
 use Rattle.setup.proofs.LaidLaws.{laid-bad, laid-ok, laid-refused}
 
 -- what follows a content that is known: nothing of it stays
-skipped : {B C : Type 0} {L : C → Type 0} (a : C) (q : Outcome (B × ℕ)) {r : Step} → L a → stepped r ≡ then q (λ x. ok (x .1)) → Laid (then q (λ t. ok (a, t .1))) r L
+pub skipped : {B C : Type 0} {L : C → Type 0} (a : C) (q : Outcome (B × ℕ)) {r : Step} → L a → stepped r ≡ then q (λ x. ok (x .1)) → Laid (then q (λ t. ok (a, t .1))) r L
 skipped {B} {C} {L} a (ok t) l e = record { step = e; lies = λ x f. let p : a ≡ x .0 = cc in subst L p l }
 skipped a (bad z) l e = record { step = e; lies = λ x f. let n : _≡_ {A = ℕ} 0 1 = cc in absurd (omega arith) }
 

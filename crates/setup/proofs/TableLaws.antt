@@ -83,3 +83,45 @@ module _ (c b l w m f r p a o : List ℕ) {c′ b′ l′ w′ m′ f′ r′ p�
       → tables c′ b′ l′ w′ m′ f′ r′ p′ a′ o′ ≡ cleared (tables c b l w m f r p a o)
   unfolding cleared
   all-cleared e0 e1 e2 e3 e4 e5 e6 e7 e8 e9 = λ j. tables (e0 j) (e1 j) (e2 j) (e3 j) (e4 j) (e5 j) (e6 j) (e7 j) (e8 j) (e9 j)
+
+-- what room says of each table
+and-true : (a b : Bool) → a && b ≡ true → (a ≡ true) × (b ≡ true)
+and-true true b e = (refl, e)
+and-true false b e = let z : _≡_ {A = ℕ} 0 1 = cc in absurd (omega arith)
+
+pub record RoomParts (limits : Limits) (t : Tables) : Type 0 where
+  pub counts : 5 ≤ length (t .counts)
+  pub books : 2560 ≤ length (t .books)
+  pub lengths : limits .entries ≤ length (t .lengths)
+  pub codewords : limits .entries ≤ length (t .codewords)
+  pub multiplicands : limits .multiplicands ≤ length (t .multiplicands)
+  pub floors : 17728 ≤ length (t .floors)
+  pub residues : 384 ≤ length (t .residues)
+  pub plans : 32768 ≤ length (t .plans)
+  pub mappings : 51456 ≤ length (t .mappings)
+  pub modes : 128 ≤ length (t .modes)
+
+pub room-parts : (limits : Limits) (t : Tables) → hasRoom limits t ≡ true → RoomParts limits t
+unfolding hasRoom
+room-parts limits t e =
+    let a0 = and-true _ _ e in
+    let a1 = and-true _ _ (a0 .1) in
+    let a2 = and-true _ _ (a1 .1) in
+    let a3 = and-true _ _ (a2 .1) in
+    let a4 = and-true _ _ (a3 .1) in
+    let a5 = and-true _ _ (a4 .1) in
+    let a6 = and-true _ _ (a5 .1) in
+    let a7 = and-true _ _ (a6 .1) in
+    let a8 = and-true _ _ (a7 .1) in
+    record {
+      counts = leb-true _ _ (a0 .0);
+      books = leb-true _ _ (a1 .0);
+      lengths = leb-true _ _ (a2 .0);
+      codewords = leb-true _ _ (a3 .0);
+      multiplicands = leb-true _ _ (a4 .0);
+      floors = leb-true _ _ (a5 .0);
+      residues = leb-true _ _ (a6 .0);
+      plans = leb-true _ _ (a7 .0);
+      mappings = leb-true _ _ (a8 .0);
+      modes = leb-true _ _ (a8 .1);
+    }

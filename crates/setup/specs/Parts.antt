@@ -2,7 +2,7 @@
 -- to what is read. The tables are cleared before: what is written into them lies in front of zeros.
 use Prim.Native.Nat.{ℕ, _≤_}
 use mathlib.Core.Bool.{true}
-use mathlib.Core.List.{List}
+use mathlib.Core.List.{List, [], _∷_}
 use mathlib.Core.Path.{_≡_}
 use lib.ListN.{length}
 use Rattle.reading.specs.Outcome.{refusal, Outcome, ok, then, need}
@@ -110,13 +110,16 @@ behindBooks channels books s k =
 abbrev pub setupWith : List Book → (List Floor × List Residue) × (List Mapping × List Mode) → Setup
 setupWith bs x = record { books = bs; floors = x .0 .0; residues = x .0 .1; mappings = x .1 .0; modes = x .1 .1 }
 
--- what follows the header, and the position behind the framing bit
+-- and the framing bit
+unfoldable pub restPart : ℕ → Books → Reader ((List Floor × List Residue) × (List Mapping × List Mode))
+restPart channels books s k = then (behindBooks channels books s k) (λ x. then (framing s (x .1)) (λ f. ok (x .0, f .1)))
+
+-- what follows the header
 unfoldable pub behindHeader : Limits → ℕ → Reader Setup
 behindHeader limits channels s k =
     then (bookPart limits s k) (λ bs.
-    then (behindBooks channels (booksKnown (bs .0)) s (bs .1)) (λ x.
-    then (framing s (x .1)) (λ f.
-    ok (setupWith (bs .0) (x .0), f .1))))
+    then (restPart channels (booksKnown (bs .0)) s (bs .1)) (λ x.
+    ok (setupWith (bs .0) (x .0), x .1)))
 
 -- the whole packet, with that position
 unfoldable pub packetPart : Limits → ℕ → List ℕ → Outcome (Setup × ℕ)
@@ -130,6 +133,15 @@ checkedPart limits i s t = need (isSound (limits .channels) i) (refusal 18 0) (n
 pub record BehindLie (floors residues mappings modes : ℕ) (f f′ r r′ p p′ m m′ o o′ : List ℕ) (x : (List Floor × List Residue) × (List Mapping × List Mode)) : Type 0 where
   pub floor-part : FloorsLie floors residues f f′ r r′ p p′ (x .0)
   pub mapping-part : MappingsLie mappings modes m m′ o o′ (x .1)
+
+-- the same with the counts, behind n books
+pub record RestLie (n : ℕ) (c c′ f f′ r r′ p p′ m m′ o o′ : List ℕ) (x : (List Floor × List Residue) × (List Mapping × List Mode)) : Type 0 where
+  pub counts : c′ ≡ pad (length c) (n ∷ length (x .0 .0) ∷ length (x .0 .1) ∷ length (x .1 .0) ∷ length (x .1 .1) ∷ [])
+  pub floors : f′ ≡ pad (length f) (rows floorRow (x .0 .0))
+  pub residues : r′ ≡ pad (length r) (rows headRow (x .0 .1))
+  pub plans : p′ ≡ pad (length p) (rows planTable (x .0 .1))
+  pub mappings : m′ ≡ pad (length m) (rows mappingRow (x .1 .0))
+  pub modes : o′ ≡ pad (length o) (rows modeRow (x .1 .1))
 
 -- cleared tables that have room, and limits within which the program can count
 pub record Ready (limits : Limits) (channels : ℕ) (t : Tables) : Type 0 where
