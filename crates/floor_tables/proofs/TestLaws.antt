@@ -225,8 +225,6 @@ module _ (t : List ℕ) (at : ℕ) {m : ℕ} (q₂ : m ≡ getD t (at + 2) 0) wh
             let w = count in
             passes (record { low = rw q₂ at y₀; high = rw q₂ at y₁; rangebits = rw q₃ at y₂; values = omega arith; few = rw q₄ at y₃ })
 
-pub ruleset head-laws = (needs, head-low, head-high, head-range, head-many, head-few, head-other, head-end)
-
 -- the X list
 module _ (t : List ℕ) (at : ℕ) {b : ℕ} (q₃ : b ≡ getD t (at + 3) 0) {x n : ℕ} (power : x ≡ 2 ^ b) (wide : n ≡ x) {v : ℕ} (q₄ : v ≡ getD t (at + 4) 0) {f : ℕ} (q₅ : f ≡ getD t (at + 212) 0) where
   pub list-first : 0 < f → (false ≡ true) ↔ ListRules t at
