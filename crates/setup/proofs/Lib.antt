@@ -4,3 +4,4 @@ pub mod PartLaws
 pub mod TableLaws
 pub mod BookLinks
 pub mod ContentLaws
+pub mod ValidLaws
