@@ -4,7 +4,7 @@ use native.Mathlib.Omega.{arith}
 use mathlib.Core.Bool.{Bool, true, false, not}
 use mathlib.Core.List.{List}
 use mathlib.Core.Logic.{_↔_}
-use mathlib.Core.Path.{_≡_, sym, subst, _∙_}
+use mathlib.Core.Path.{_≡_, sym, _∙_}
 use lib.ListN.{getD}
 use Rattle.reading.proofs.Stands.{iff-false}
 use Rattle.limits.specs.declared.Limits.{Limits}
@@ -13,14 +13,13 @@ use Rattle.book_tables.proofs.TestLaws.{refuted, shown}
 use Rattle.floor_tables.specs.Stand.{FloorsStand}
 use Rattle.residues.specs.FromTable.{booksOf}
 use Rattle.residue_tables.specs.Stand.{ResiduesStand}
-use Rattle.mappings.specs.declared.Known.{Known}
 use Rattle.mapping_tables.specs.Stand.{MappingsStand}
 use Rattle.modes.specs.Stand.{ModesStand}
 use Rattle.setup.specs.Layout.{hasRoom, tables}
 use Rattle.setup.specs.Parts.{Small}
 use Rattle.setup.specs.Sound.{Sound}
-use Rattle.setup_tables.specs.Stand.{CountsStand, knownBy, FrontStand, BackStand, PartsStand, OneContent}
-use Rattle.setup_tables.proofs.Theorem.{parts-sound, sound-parts, one-content}
+use Rattle.setup_tables.specs.Stand.{CountsStand, knownBy, FrontStand, BackStand}
+use Rattle.setup_tables.proofs.Theorem.{parts-sound, sound-parts}
 
 -- what a part asks for, and what it says, with a count that was read from its place
 module _ (cs : List ℕ) (stand : CountsStand cs) where

@@ -1,11 +1,9 @@
 -- THE THEOREM: tables that stand part by part, each with its count, are the writing-out of one setup that meets every rule, and back; and that no other
 -- setup shares them. Assumes nothing.
-use Prim.Native.Nat.{ℕ, _+_, _*_, _≤_, _<_}
+use Prim.Native.Nat.{ℕ, _≤_}
 use native.Mathlib.Omega.{arith}
-use mathlib.Core.Bool.{true}
 use mathlib.Core.List.{List, [], _∷_}
-use mathlib.Core.Logic.{_↔_}
-use mathlib.Core.Path.{_≡_, refl, sym, ap, subst, _∙_}
+use mathlib.Core.Path.{_≡_, sym, ap, subst, _∙_}
 use lib.ListN.{length, getD}
 use Rattle.reading.specs.Lists.{rows}
 use Rattle.reading.specs.Pad.{pad}
@@ -15,7 +13,6 @@ use Rattle.limits.specs.declared.Limits.{Limits}
 use Rattle.book.specs.Content.{Book}
 use Rattle.books.specs.Answers.{totals}
 use Rattle.books.specs.Rows.{bookRows}
-use Rattle.books.specs.Valid.{ValidBooks}
 use Rattle.book_tables.specs.Stand.{Asked, BooksStand}
 use Rattle.book_tables.proofs.HeldLaws as BookLaws
 use Rattle.floors.specs.Content.{Floor}
@@ -26,25 +23,22 @@ use Rattle.floors.proofs.Decoded.{floor-long, floor-decoded}
 use Rattle.floor_tables.specs.Stand.{FloorsStand}
 use Rattle.residues.specs.Content.{Residue}
 use Rattle.residues.specs.FromTable.{booksOf}
-use Rattle.residues.specs.Layout.{headRow, planTable}
 use Rattle.residues.specs.Reading.{Books}
 use Rattle.residues.specs.Valid.{ValidResidue, AllValid}
-use Rattle.residue_tables.specs.Stand.{Holds, ResiduesStand}
+use Rattle.residue_tables.specs.Stand.{ResiduesStand}
 use Rattle.residue_tables.proofs.StandTheorem as ResidueLaws
-use Rattle.mappings.specs.Content.{Mapping}
 use Rattle.mappings.specs.declared.Known.{Known}
 use Rattle.mappings.specs.Layout.{mappingRow}
 use Rattle.mappings.specs.Valid.{ValidMapping}
 use Rattle.mappings.proofs.RowLaws.{mapping-wide}
 use Rattle.mapping_tables.specs.Stand.{MappingsStand}
 use Rattle.mapping_tables.proofs.Laws as MappingLaws
-use Rattle.modes.specs.Content.{Mode}
 use Rattle.modes.specs.Layout.{modeRow}
 use Rattle.modes.specs.Valid.{ValidMode}
 use Rattle.modes.specs.Stand.{ModesStand}
 use Rattle.modes.proofs.Laws as ModeLaws
 use Rattle.setup.specs.Content.{Setup, booksKnown, known}
-use Rattle.setup.specs.Layout.{Tables, hasRoom, layout, writtenOut, tables}
+use Rattle.setup.specs.Layout.{Tables, layout, writtenOut, tables}
 use Rattle.setup.specs.Parts.{Small}
 use Rattle.setup.specs.Sound.{Counted, ValidSetup, Sound}
 use Rattle.setup.proofs.BookLinks.{books-link}

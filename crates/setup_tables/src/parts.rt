@@ -54,6 +54,7 @@ pub fn are_counts(counts: &[u32]) -> bool
     book_tables::clear::zeros_u32(counts, 5)
 }
 
+// Each kind's tables with its count.
 fn are_books(
     limits: Limits,
     counts: &[u32],
@@ -86,13 +87,8 @@ fn are_residues(counts: &[u32], books: &[u32], residues: &[u32], plans: &[u16]) 
     requires { ⌜ CountsStand (now counts) ⌝ }
     ensures { λ r. ⌜ (r ≡ true) ↔ ResiduesStand (booksOf (getD (now (counts .entry)) 0 0) (now (books .entry))) (getD (now (counts .entry)) 2 0) (now (residues .entry)) (now (plans .entry)) ⌝ }
 {
-    residue_tables::stand::are_residues(
-        residues,
-        plans,
-        get_u32(counts, 2),
-        get_u32(counts, 0),
-        books,
-    )
+    let set_up = get_u32(counts, 0);
+    residue_tables::stand::are_residues(residues, plans, get_u32(counts, 2), set_up, books)
 }
 
 fn are_mappings(channels: u32, counts: &[u32], mappings: &[u8]) -> bool

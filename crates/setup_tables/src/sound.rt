@@ -8,6 +8,7 @@ ghost use Prim.Native.Nat.{_≤_};
 ghost use Rattle.setup.specs.Layout.{tables};
 ghost use Rattle.setup.specs.Parts.{Small};
 ghost use Rattle.setup.specs.Sound.{Sound};
+ghost use Rattle.setup_tables.specs.Stand.{OneContent};
 
 // Whether the tables are the writing-out of some setup that meets every rule for so many channels.
 pub fn are_sound(
@@ -26,6 +27,7 @@ pub fn are_sound(
 ) -> bool
     requires { ⌜ Small limits × (channels ≤ 255) ⌝ }
     ensures { λ r. ⌜ (r ≡ true) ↔ Sound limits channels (tables (now (counts .entry)) (now (books .entry)) (now (lengths .entry)) (now (words .entry)) (now (multiplicands .entry)) (now (floors .entry)) (now (residues .entry)) (now (plans .entry)) (now (mappings .entry)) (now (modes .entry))) ⌝ }
+    ensures { λ _. ⌜ OneContent limits channels (tables (now (counts .entry)) (now (books .entry)) (now (lengths .entry)) (now (words .entry)) (now (multiplicands .entry)) (now (floors .entry)) (now (residues .entry)) (now (plans .entry)) (now (mappings .entry)) (now (modes .entry))) ⌝ }
 {
     if !setup::tables::have_room(
         limits,

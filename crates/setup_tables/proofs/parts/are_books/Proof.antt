@@ -8,10 +8,10 @@ get-u32-requires : tie.Need-get-u32-requires
 get-u32-requires c κs = search needs
 
 are-books-requires : tie.Need-are-books-requires
-are-books-requires c κs = search (needs, books-asked)
+are-books-requires c κs = search books-asked
 
 returns : tie.Need-returns
-returns c = search (needs, books-said)
+returns c = search books-said
 
 pub are-books-spec : {M : Type 1} → statement M
 are-books-spec = tie.close (tie.spec get-u32-requires are-books-requires returns)

@@ -14,10 +14,10 @@ get-u32-requires-2 : tie.Need-get-u32-requires-2
 get-u32-requires-2 c κs = search needs
 
 are-floors-requires : tie.Need-are-floors-requires
-are-floors-requires c κs = search (needs, few-books, few-floors)
+are-floors-requires c κs = search (few-books, few-floors)
 
 returns : tie.Need-returns
-returns c = search (needs, floors-said)
+returns c = search floors-said
 
 pub are-floors-spec : {M : Type 1} → statement M
 are-floors-spec = tie.close (tie.spec get-u32-requires wide-requires get-u32-requires-2 are-floors-requires returns)

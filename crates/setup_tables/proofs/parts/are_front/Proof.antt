@@ -8,13 +8,13 @@ are-books-requires : tie.Need-are-books-requires
 are-books-requires c κs = search needs
 
 returns : tie.Need-returns
-returns c = search (needs, front-books)
+returns c = search front-books
 
 are-floors-requires : tie.Need-are-floors-requires
 are-floors-requires c κs = search needs
 
 returns-2 : tie.Need-returns-2
-returns-2 c = search (needs, front-end)
+returns-2 c = search front-end
 
 pub are-front-spec : {M : Type 1} → statement M
 are-front-spec = tie.close (tie.spec are-books-requires returns are-floors-requires returns-2)

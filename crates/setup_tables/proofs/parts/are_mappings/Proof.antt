@@ -17,10 +17,10 @@ wide-requires : tie.Need-wide-requires
 wide-requires c κs = search needs
 
 are-mappings-requires : tie.Need-are-mappings-requires
-are-mappings-requires c κs = search (needs, few-mappings)
+are-mappings-requires c κs = search few-mappings
 
 returns : tie.Need-returns
-returns c = search (needs, mappings-said)
+returns c = search mappings-said
 
 pub are-mappings-spec : {M : Type 1} → statement M
 are-mappings-spec = tie.close (tie.spec get-u32-requires get-u32-requires-2 get-u32-requires-3 wide-requires are-mappings-requires returns)

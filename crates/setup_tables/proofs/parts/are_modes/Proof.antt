@@ -14,10 +14,10 @@ get-u32-requires-2 : tie.Need-get-u32-requires-2
 get-u32-requires-2 c κs = search needs
 
 are-modes-requires : tie.Need-are-modes-requires
-are-modes-requires c κs = search (needs, few-modes)
+are-modes-requires c κs = search few-modes
 
 returns : tie.Need-returns
-returns c = search (needs, modes-said)
+returns c = search modes-said
 
 pub are-modes-spec : {M : Type 1} → statement M
 are-modes-spec = tie.close (tie.spec get-u32-requires wide-requires get-u32-requires-2 are-modes-requires returns)

@@ -11,10 +11,10 @@ get-u32-requires-2 : tie.Need-get-u32-requires-2
 get-u32-requires-2 c κs = search needs
 
 are-residues-requires : tie.Need-are-residues-requires
-are-residues-requires c κs = search (needs, few-residues)
+are-residues-requires c κs = search few-residues
 
 returns : tie.Need-returns
-returns c = search (needs, residues-said)
+returns c = search residues-said
 
 pub are-residues-spec : {M : Type 1} → statement M
 are-residues-spec = tie.close (tie.spec get-u32-requires get-u32-requires-2 are-residues-requires returns)
