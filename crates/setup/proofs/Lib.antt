@@ -6,3 +6,4 @@ pub mod BookLinks
 pub mod ContentLaws
 pub mod Whole
 pub mod CallLaws
+pub mod ValidLaws

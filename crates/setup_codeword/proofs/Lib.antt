@@ -1,0 +1,3 @@
+pub mod JudgedLaws
+pub mod DecodesLaws
+pub mod LyingLaws
