@@ -1,12 +1,12 @@
 -- WHAT A SETUP CALL ACCEPTS MEETS EVERY RULE: the content of an accepted packet is valid, and the tables as that call left them are sound.
 -- Assumes nothing.
-use Prim.Native.Nat.{ℕ, _+_, _≤_, _<_}
+use Prim.Native.Nat.{ℕ, zero, suc, _+_, _≤_, _<_}
 use native.Mathlib.Omega.{arith}
 use mathlib.Core.Bool.{true}
 use mathlib.Core.List.{List, [], _∷_}
 use mathlib.Core.Path.{_≡_, refl, sym, ap, subst, _∙_}
 use lib.Dec.{leb}
-use lib.ListN.{length}
+use lib.ListN.{length, replicate}
 use Rattle.reading.specs.Outcome.{Outcome, ok, bad, then, need, refusal}
 use Rattle.reading.specs.Reader.{Reader, many}
 use Rattle.reading.specs.Stand.{Each}
@@ -38,9 +38,11 @@ use Rattle.modes.specs.Reading.{mode}
 use Rattle.modes.proofs.Laws.{modes-valid}
 use Rattle.setup.specs.Content.{Setup, booksKnown, known}
 use Rattle.setup.specs.Reading.{bookSection, section, timeValue, sections, setup}
-use Rattle.setup.specs.Layout.{Tables, layout, hasRoom, writtenOut}
+use Rattle.setup.specs.Layout.{Tables, layout, hasRoom, writtenOut, cleared}
 use Rattle.setup.specs.Sound.{Counted, ValidSetup, Sound}
 use Rattle.setup.specs.Call.{setupOf}
+use Rattle.setup.specs.Accepted.{AcceptedSound}
+use Rattle.setup.proofs.TableLaws.{room-parts}
 
 -- a fact of all, as each crate states it, is one of each
 floors-each : (books : ℕ) (fs : List Floor) → ValidFloors books fs → Each (ValidFloor books) fs
@@ -173,3 +175,19 @@ pub accepted-sound : (limits : Limits) (i : Identity) (s : List ℕ) (t : Tables
 accepted-sound limits i s t {c} e =
     let a = call-accepted limits i s t e in
     record { content = c; valid = setup-valid limits (i .channels) s (a .content); room = room-written limits c t ∙ a .room; written = written-twice c t }
+
+-- all-zero tables are not sound: they count no book
+unsound-zeros : (limits : Limits) (channels : ℕ) (t : Tables) → Sound limits channels (cleared t) → ⊥
+unfolding cleared writtenOut layout hasRoom pad
+unsound-zeros limits channels t x = go (length (t .counts)) (ap (λ (u : Tables). u .counts) (x .written)) (room-parts limits (cleared t) (x .room) .counts)
+  where
+    go : (n : ℕ) → replicate {A = ℕ} n 0 ≡ pad (length (replicate {A = ℕ} n 0)) (layout (x .content) .counts) → 5 ≤ length (replicate {A = ℕ} n 0) → ⊥
+    go zero e h = omega arith
+    go (suc n) e h =
+        let b = x .valid .book-count .low in
+        let z : 0 ≡ length (x .content .books) = cc in
+        omega arith
+
+pub accepts : (limits : Limits) (i : Identity) (s : List ℕ) (t : Tables) → AcceptedSound limits i s t
+unfolding accepted-sound
+accepts limits i s t = record { sound = λ c e. (accepted-sound limits i s t e, refl); cleared-unsound = unsound-zeros limits (i .channels) t }

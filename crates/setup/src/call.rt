@@ -12,6 +12,7 @@ ghost use mathlib.Core.Path.{_≡_};
 ghost use Rattle.bits.specs.declared.Step.the-variants.{Refused};
 ghost use Rattle.setup.specs.Layout.{tables};
 ghost use Rattle.setup.specs.Call.{left, setupCall};
+ghost use Rattle.setup.specs.Accepted.{AcceptedSound};
 ghost use Rattle.setup.specs.Parts.{Laid, Small, WrittenOut, checkedPart};
 
 // A refusal of what was handed in beside the packet.
@@ -114,6 +115,7 @@ pub fn read_setup(
 ) -> u32
     requires { ⌜ Small limits ⌝ }
     ensures { λ r. ⌜ left r (tables (now (counts .exit)) (now (books .exit)) (now (lengths .exit)) (now (words .exit)) (now (multiplicands .exit)) (now (floors .exit)) (now (residues .exit)) (now (plans .exit)) (now (mappings .exit)) (now (modes .exit))) ≡ setupCall limits identity (now (packet .entry)) (tables (now (counts .entry)) (now (books .entry)) (now (lengths .entry)) (now (words .entry)) (now (multiplicands .entry)) (now (floors .entry)) (now (residues .entry)) (now (plans .entry)) (now (mappings .entry)) (now (modes .entry))) ⌝ }
+    ensures { λ _. ⌜ AcceptedSound limits identity (now (packet .entry)) (tables (now (counts .entry)) (now (books .entry)) (now (lengths .entry)) (now (words .entry)) (now (multiplicands .entry)) (now (floors .entry)) (now (residues .entry)) (now (plans .entry)) (now (mappings .entry)) (now (modes .entry))) ⌝ }
 {
     match read_checked(
         packet,
