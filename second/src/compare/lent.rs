@@ -38,6 +38,23 @@ pub struct TablesMut<'a> {
     pub modes: &'a mut [u8],
 }
 
+impl<'a> From<&'a mut Tables> for TablesMut<'a> {
+    fn from(tables: &'a mut Tables) -> Self {
+        TablesMut {
+            counts: &mut tables.counts,
+            books: &mut tables.books,
+            lengths: &mut tables.lengths,
+            codewords: &mut tables.codewords,
+            multiplicands: &mut tables.multiplicands,
+            floors: &mut tables.floors,
+            residues: &mut tables.residues,
+            plans: &mut tables.plans,
+            mappings: &mut tables.mappings,
+            modes: &mut tables.modes,
+        }
+    }
+}
+
 /// What the ten tables are lent from, kept from call to call.
 #[derive(Debug, Default)]
 pub struct Rooms {

@@ -278,7 +278,7 @@ fn other_floor(floor: &Floor, random: &mut Random) -> Option<Floor> {
             }
         }
     }
-    x_list[1] = 1 << range_bits;
+    *x_list.get_mut(1)? = 1 << range_bits;
     Floor::new(partition_classes, classes, multiplier, range_bits, x_list)
 }
 
