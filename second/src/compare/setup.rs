@@ -226,6 +226,7 @@ fn largest(random: &mut Random, rooms: &mut Rooms, report: &mut Report) -> Resul
             packet(identity, &flipped(&bytes, random), rooms, report)?;
         }
         setup_sound::around(identity, &content, 20, random, report)?;
+        setup_sound::last_book(identity, &content, report)?;
         codeword::around(identity, &content, 20, random, report)?;
     }
     Ok(())

@@ -12,7 +12,9 @@ use second::generate::random::Random;
 use second::recognise::recognise;
 use second::setup::Setup;
 use second::space::CodeSpace;
-use second::tables::{tables, Tables, COUNT, NAMES, NEEDS};
+use second::tables::{
+    tables, Tables, CLASS_ROW, CLASS_SUBCLASSES, COUNT, FLOOR_CLASSES, NAMES, NEEDS, RESIDUE_ROW,
+};
 
 /// Most entries and most multiplicands of a setup (01, row 14).
 const MOST: usize = 16_384;
@@ -361,6 +363,31 @@ pub fn boundaries(random: &mut Random, report: &mut Report) -> Result<(), String
         }
     }
     Ok(())
+}
+
+/// The last of 256 books as master book, in a plan and as class book, where it may stand,
+/// and as subclass book, which no field can name.
+pub fn last_book(identity: Identity, content: &Setup, report: &mut Report) -> Result<(), String> {
+    let tables = &mut tables(content);
+    let expect = |tables: &mut Tables, (table, place): (usize, usize), good: bool, report: &mut Report| {
+        let old = tables.number(table, place);
+        tables.set(table, place, 256);
+        let answer =
+            ask(identity, tables, report, || format!("the last book in {} at {place}", NAMES[table]))?;
+        tables.set(table, place, old);
+        if answer == good {
+            Ok(())
+        } else {
+            Err(format!("both sides answer {answer} to book 255 in {} at {place}", NAMES[table]))
+        }
+    };
+    for (number, class) in content.floors[0].classes().iter().enumerate() {
+        let row = FLOOR_CLASSES + number * CLASS_ROW;
+        expect(tables, (5, row + CLASS_SUBCLASSES), false, report)?;
+        expect(tables, (5, row + CLASS_SUBCLASSES - 1), class.subclass_bits != 0, report)?;
+    }
+    expect(tables, (7, 0), true, report)?;
+    expect(tables, (6, RESIDUE_ROW - 1), true, report)
 }
 
 /// The small setup's first book with any two lengths, good or not.
