@@ -138,7 +138,7 @@ fn take_residue((row, plan): (&[u32], &[u16])) -> Option<Residue> {
         begin: row[1],
         end: row[2],
         partition_size: row[3],
-        class_book: book(row[5])??,
+        class_book: row[5].try_into().ok()?,
         plan: plan.collect::<Option<_>>()?,
     })
 }

@@ -206,7 +206,7 @@ fn put<T: Copy>(table: &mut [T], numbers: &[T]) {
     table[..numbers.len()].copy_from_slice(numbers);
 }
 
-/// A place for a book holds its number plus one, or 0 for none.
+/// A place for a book or none holds its number plus one, or 0.
 fn book_place(book: Option<u8>) -> u32 {
     book.map_or(0, |number| u32::from(number) + 1)
 }
@@ -270,8 +270,7 @@ fn lay_class(row: &mut [u16], class: &Class) {
 
 fn lay_residue(row: &mut [u32], residue: &Residue) {
     let Residue { residue_type, begin, end, partition_size, class_book, .. } = *residue;
-    let class_book = book_place(Some(class_book));
-    put(row, &[residue_type, begin, end, partition_size, residue.classifications(), class_book]);
+    put(row, &[residue_type, begin, end, partition_size, residue.classifications(), class_book.into()]);
 }
 
 fn lay_mapping(row: &mut [u8], mapping: &Mapping) {

@@ -41,7 +41,7 @@ fn the_tables_of_a_small_setup() {
     assert!(holds(&small.multiplicands, &[(0, &[5, 7])]));
     let class: &[u32] = &[2, 1, 1, 2, 0];
     assert!(holds(&small.floors, &[(0, &[1, 1, 1, 5, 4]), (36, class), (212, &[0, 32, 16, 8])]));
-    assert!(holds(&small.residues, &[(0, &[0, 0, 24, 8, 2, 1])]));
+    assert!(holds(&small.residues, &[(0, &[0, 0, 24, 8, 2])]));
     assert!(holds(&small.plans, &[(0, &[2])]));
     let submaps: &[u32] = &[0, 0, 0, 0];
     assert!(holds(&small.mappings, &[(0, &[1, 0, 2, 0, 0, 1]), (516, &[1, 2, 1]), (772, submaps)]));
@@ -68,7 +68,7 @@ fn later_books_begin_where_the_earlier_end() {
             510
         ]
     );
-    assert_eq!(tables.residues[5], 256);
+    assert_eq!(tables.residues[5], 255);
     assert_eq!(tables.mappings[..4], [0, 1, 16, 0]);
     assert_eq!(tables.floors[..5], [31, 16, tables.floors[2], 15, 65]);
     assert_eq!(tables.floors[212..214], [0, 1 << 15]);
@@ -130,7 +130,7 @@ fn one_number_changed_is_another_content_or_none() {
     assert!(!changed(5, 40, 3) && changed(5, 40, 1), "books of a class are set up");
     assert!(!changed(5, 41, 1), "no third subclass");
     assert!(changed(6, 1, 24) && !changed(6, 1, 25), "begin is not above end");
-    assert!(!changed(6, 5, 0) && changed(6, 5, 2), "a class book there is");
+    assert!(changed(6, 5, 1) && !changed(6, 5, 2), "a class book there is");
     assert!(!changed(7, 0, 1), "a vector book has values");
     assert!(!changed(8, 5, 0) && changed(8, 5, 2) && !changed(8, 5, 3), "the angle channel");
     assert!(!changed(8, 3, 1), "a place that is zero");

@@ -371,7 +371,7 @@ pub fn last_book(identity: Identity, content: &Setup, report: &mut Report) -> Re
     let tables = &mut tables(content);
     let expect = |tables: &mut Tables, (table, place): (usize, usize), good: bool, report: &mut Report| {
         let old = tables.number(table, place);
-        tables.set(table, place, 256);
+        tables.set(table, place, if table == 6 { 255 } else { 256 });
         let answer =
             ask(identity, tables, report, || format!("the last book in {} at {place}", NAMES[table]))?;
         tables.set(table, place, old);
