@@ -19,7 +19,7 @@ fn zeros_u16(buffer: &[u16], from: usize) -> bool
     true
 }
 
-fn zeros_u32(buffer: &[u32], from: usize) -> bool
+pub fn zeros_u32(buffer: &[u32], from: usize) -> bool
     ensures { λ r. ⌜ (r ≡ true) ↔ Zeros (drop from (now (buffer .entry))) ⌝ }
 {
     let mut i = from;

@@ -87,8 +87,6 @@ module _ (books : ℕ) (t : List ℕ) (at count : ℕ) {b₁ : Bool} (p₁ : (b�
     pub books-end : not b₂ ≡ false → {b₃ : Bool} → (b₃ ≡ true) ↔ Below t (at + count) (at + 8) 1 → (b₃ ≡ true) ↔ BookRules books t at count
     books-end y₂ p₃ = (λ e. record { set-up = shown p₁ y₁; carried = shown p₂ y₂; zeros = p₃ .0 e }, λ r. p₃ .1 (r .zeros))
 
-pub ruleset books-laws = (needs, books-unset, books-large, books-end)
-
 -- a class
 module _ (books : ℕ) (t : List ℕ) (at : ℕ) {d : ℕ} (q₀ : d ≡ getD t at 0) where
   pub class-low : d < 1 → (false ≡ true) ↔ ClassRules books t at
@@ -162,8 +160,6 @@ module _ (t : List ℕ) (at : ℕ) {n : ℕ} (q : n ≡ getD t at 0) where
     pub partitions-end : not b₁ ≡ false → {b₂ : Bool} → (b₂ ≡ true) ↔ Below t (at + 5 + n) (at + 36) 1 → (b₂ ≡ true) ↔ PartitionRules t at
     partitions-end z p₂ = (λ e. record { few = rw q at y; named = rw q at (shown p₁ z); zeros = rw q at (p₂ .0 e) }, λ r. p₂ .1 (rw q (r .zeros)))
 
-pub ruleset partition-laws = (needs, partitions-many, partitions-not, partitions-end)
-
 -- the named classes
 module _ (books : ℕ) (t : List ℕ) (at : ℕ) {n : ℕ} (q : n ≡ getD t (at + 1) 0) where
   pub named-many : 16 < n → (false ≡ true) ↔ NamedRules books t at
@@ -225,8 +221,6 @@ module _ (t : List ℕ) (at : ℕ) {m : ℕ} (q₂ : m ≡ getD t (at + 2) 0) wh
             let w = count in
             passes (record { low = rw q₂ at y₀; high = rw q₂ at y₁; rangebits = rw q₃ at y₂; values = omega arith; few = rw q₄ at y₃ })
 
-pub ruleset head-laws = (needs, head-low, head-high, head-range, head-many, head-few, head-other, head-end)
-
 -- the X list
 module _ (t : List ℕ) (at : ℕ) {b : ℕ} (q₃ : b ≡ getD t (at + 3) 0) {x n : ℕ} (power : x ≡ 2 ^ b) (wide : n ≡ x) {v : ℕ} (q₄ : v ≡ getD t (at + 4) 0) {f : ℕ} (q₅ : f ≡ getD t (at + 212) 0) where
   pub list-first : 0 < f → (false ≡ true) ↔ ListRules t at
@@ -263,8 +257,6 @@ module _ (t : List ℕ) (at : ℕ) {b : ℕ} (q₃ : b ≡ getD t (at + 3) 0) {x
                   },
               λ r. w′ ∙ r .different,
             )
-
-pub ruleset list-test-laws = (needs, list-first, list-second, list-range, list-trailing, list-end)
 
 -- a floor
 module _ (books : ℕ) (t : List ℕ) (at : ℕ) {b₁ : Bool} (p₁ : (b₁ ≡ true) ↔ PartitionRules t at) where

@@ -427,5 +427,3 @@ module _ (books count : ℕ) (t : List ℕ) where
 
     pub table-end : not b ≡ false → {b₂ : Bool} → (b₂ ≡ true) ↔ Below t (277 * count) (length t) 1 → (b₂ ≡ true) ↔ FloorsStand books count t
     table-end n p₂ = (λ e. floors-stand books t count few room (rw same at (shown p n)) (p₂ .0 e), λ st. p₂ .1 (floors-trailing books t count st))
-
-pub ruleset table-laws = (needs, table-short, table-rows, table-end)

@@ -63,8 +63,6 @@ module _ (books subclasses : ℕ) (s : List ℕ) (k : Cursor) where
       unfolding masterBook outcome mapped
       master-set h = rw (ne-eqb _ _ some, value-is p q, lt-ltb _ _ h, add-one)
 
-pub ruleset master-laws = (needs, master-none, master-cut, master-unset, master-set)
-
 -- which master books are accepted
 pub master-ok : (books subclasses : ℕ) (s : List ℕ) (k : ℕ) {m n : ℕ} → masterBook books subclasses s k ≡ ok (m, n) → MasterFits books subclasses m
 unfolding masterBook

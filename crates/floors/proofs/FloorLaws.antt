@@ -57,8 +57,6 @@ module _ (s : List ℕ) (k : Cursor) {r : Field} (p : outcome r ≡ field 16 s (
     unfolding floorType outcome
     type-one n h = rw (value-is p q, ne-eqb _ _ n, le-leb _ _ h)
 
-pub ruleset type-laws = (needs, type-cut, type-zero, type-high, type-one)
-
 pub larger-left : (a b : ℕ) → b ≤ a → a ≡ max a b
 larger-left a b h = omega arith
 
@@ -105,8 +103,6 @@ module _ (place : Cursor) (b n : ℕ) (s : List ℕ) (k : Cursor) (l : List ℕ)
     pub x-many : {c : Cursor} → st ≡ S.Next c → (t : Table) → Wrote (into (putRow cell) (xValues (position place) b n s (position k)) (table l 2)) (S.Refused (at 12 place)) t
     unfolding xValues into mapped
     x-many q t = wrote-refused t (rw (lt-leb _ _ h, mapped-ok _ (many (field b) 63 s (position k)) (wrote-ok w q) .1))
-
-pub ruleset x-laws = (needs, x-few, x-cut, x-many)
 
 -- what accepted X values are
 pub values-ok : (place b n : ℕ) (s : List ℕ) (k : ℕ) {xs : List ℕ} {j : ℕ} → xValues place b n s k ≡ ok (xs, j) → (n ≤ 63) × (many (field b) n s k ≡ ok (xs, j))
@@ -157,9 +153,6 @@ module _ (place : Cursor) (n m b : ℕ) (s : List ℕ) (k : Cursor) (entry : Lis
       let f : length l ≡ 65 = ap length (g .holds) ∙ length-pad 65 _ in
       omega arith
 
-  pub list-add : {c : Cursor} → st ≡ S.Next c → 2 + n < 2 ^ 64
-  list-add t = let h = list-few t in omega arith
-
   module _ {c : Cursor} (t : st ≡ S.Next c) {d : Bool} (tested : d ≡ distinct (slice 0 (2 + n) l)) where
     pub list-equal : not d ≡ true → (u : Held) → Wrote (mapped hold (endsFrom (position place) n m b s (position k))) (S.Refused (at 12 place)) u
     list-equal f u =
@@ -174,8 +167,6 @@ module _ (place : Cursor) (n m b : ℕ) (s : List ℕ) (k : Cursor) (entry : Lis
         list-once (position place) n m b s (position k) (g .items) c
         (ap (λ (j : ℕ). xValues (position place) j n s (position k)) (sym long) ∙ g .read) (g .long) (list-few t)
         (g .holds ∙ ap (λ (y : List ℕ). pad 65 (0 ∷ 2 ^ b ∷ y)) (rows-cell (g .items))) (sym tested ∙ not-false d f)
-
-pub ruleset list-laws = (needs, list-cut, list-room, list-add, list-equal, list-read)
 
 -- multiplier and range bits
 module _ (place : Cursor) (n : ℕ) (s : List ℕ) (k : Cursor) {r₁ : Field} (p₁ : outcome r₁ ≡ field 2 s (position k)) where

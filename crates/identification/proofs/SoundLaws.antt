@@ -4,7 +4,7 @@ use native.Mathlib.Nat.{le-of-suc-le-suc}
 use native.Mathlib.Numerals.{add-one}
 use native.Mathlib.Omega.{arith}
 use borrow.Author.Needs.{needs}
-use borrow.Author.Tests.{leb-true, leb-false, eqb-true, eqb-false, eq-eqb, ne-eqb, not-true, not-false}
+use borrow.Author.Tests.{le-leb, leb-true, leb-false, eqb-true, eqb-false, eq-eqb, ne-eqb, not-true, not-false}
 use mathlib.Core.Bool.{Bool, true, false, not, _&&_, _||_}
 use mathlib.Core.List.{List, [], _∷_}
 use mathlib.Core.Logic.{_↔_}
@@ -21,7 +21,7 @@ use Rattle.header.specs.Header.{commonHeader, framing}
 use Rattle.identification.specs.Identification.{stream, bitrates, blockSize, blockSizes, identification}
 use Rattle.identification.specs.Answers.{identified}
 use Rattle.reading.specs.Lists.{listed}
-use Rattle.identification.specs.Sound.{allowedSizes, Sound, AcceptedSound}
+use Rattle.identification.specs.Sound.{allowedSizes, Sound, isSound, AcceptedSound}
 use Rattle.identification.specs.declared.Identity.{Identity}
 use Rattle.identification.specs.declared.Identified.{Identified}
 use Rattle.identification.specs.declared.Identified.the-variants.{Accepted, Refused}
@@ -195,3 +195,21 @@ module _ (most : ℕ) (i : Identity) where
   )
 
 pub ruleset sound-laws = (needs, no-channel, many-channels, no-rate, reversed, first-unlisted, last-tested)
+
+-- soundness and its test
+both : (a b : Bool) → a && b ≡ true → (a ≡ true) × (b ≡ true)
+both true b e = (refl, e)
+both false b e = let z : _≡_ {A = ℕ} 0 1 = cc in absurd (omega arith)
+
+pub sound-test : (most : ℕ) (i : Identity) → (isSound most i ≡ true) ↔ Sound most i
+unfolding isSound
+sound-test most i = (
+  (λ e.
+      let a = both _ _ e in
+      let b = both _ _ (a .1) in
+      let c = both _ _ (b .1) in
+      let d = both _ _ (c .1) in
+      let f = both _ _ (d .1) in
+      record { some-channel = leb-true _ _ (a .0); few-channels = leb-true _ _ (b .0); some-rate = leb-true _ _ (c .0); first-size = d .0; second-size = f .0; in-order = leb-true _ _ (f .1) }),
+  (λ s. rw (le-leb _ _ (s .some-channel), le-leb _ _ (s .few-channels), le-leb _ _ (s .some-rate), s .first-size, s .second-size, le-leb _ _ (s .in-order)) refl),
+)

@@ -66,8 +66,6 @@ module _ (number submaps : ℕ) where
     (λ r. le-leb _ _ (as-row r .1)),
   )
 
-pub ruleset number-laws = (needs, magnitude-high, angle-high, coupling-low, floor-high, floor-low, multiplex-zero, multiplex-some)
-
 pub ruleset coupling-stand-laws = (pair-laws, coupling-pairs)
 
 pub ruleset submap-stand-laws = (pair-laws, submap-pairs)

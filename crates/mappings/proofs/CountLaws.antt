@@ -99,10 +99,4 @@ submaps-few-here s k p q = submaps-few s (position k) (value-is p q)
 pub steps-few-here : (s : List ℕ) (k : Cursor) {r : Field} {v : ℕ} {k₁ : Cursor} → outcome r ≡ couplingCount s (position k) → r ≡ Value v k₁ → v ≤ 256
 steps-few-here s k p q = steps-few s (position k) (value-is p q)
 
-pub submaps-fit : (s : List ℕ) (k : Cursor) {r : Field} {v : ℕ} {k₁ : Cursor} → outcome r ≡ submapCount s (position k) → r ≡ Value v k₁ → v < 256
-submaps-fit s k p q = let b = submaps-few-here s k p q in omega arith
-
-pub steps-fit : (s : List ℕ) (k : Cursor) {r : Field} {v : ℕ} {k₁ : Cursor} → outcome r ≡ couplingCount s (position k) → r ≡ Value v k₁ → v / 256 < 256
-steps-fit s k p q = let b = steps-few-here s k p q in omega arith
-
 pub ruleset count-laws = (needs, four-fits, eight-fits, submaps-flag-cut, steps-flag-cut, submaps-one, steps-none, submaps-cut, submaps-some, steps-cut, steps-some)

@@ -185,8 +185,4 @@ module _ (known : Known) (s : List ℕ) (n : ℕ) where
           let e : 804 * i + 804 ≡ 804 * (i + 1) = omega arith in
           record { within = omega arith; rest = subst (λ (j : ℕ). Rest (putRow mappingRow) (mapping known) s n W (i + 1) k′ (table cells′ j)) e (loop-next _ _ _ _ _ i k _ (w .rest) h one q) }
 
-pub ruleset parts-laws = (needs, couplings-refused, reserved-cut, reserved-wrong, multiplexes-refused, parts-whole)
-
-pub ruleset mapping-laws = (needs, submaps-few-here, steps-few-here, type-cut, type-wrong, submap-count-refused, step-count-refused, parts-refused, mapping-whole)
-
 pub ruleset mappings-laws = (needs, mappings-start, mappings-done, mappings-refused, mappings-next)

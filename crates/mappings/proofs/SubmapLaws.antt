@@ -98,5 +98,3 @@ module _ (known : Known) (s : List ℕ) (k : Cursor) {r : Field} (p : outcome r 
           submap-whole g cells i e = wrote-next (rw (e, value-is p q, value-is p₁ q₁, lt-ltb _ _ h, value-is p₂ q₂, lt-ltb _ _ g))
 
 pub ruleset multiplex-laws = (needs, multiplex-fits, multiplex-cut, multiplex-unknown, multiplex-whole, multiplex-none, multiplex-each)
-
-pub ruleset submap-laws = (needs, byte-fits, discarded-cut, floor-cut, floor-unknown, residue-cut, residue-unknown, submap-whole)

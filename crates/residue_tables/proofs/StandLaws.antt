@@ -72,8 +72,6 @@ module _ (count : ℕ) (t : List ℕ) (h : D.Head) where
                     (le-leb (h .kind) 2 a, lt-ltb (h .begin) (2 ^ 24) b, lt-ltb (h .end) (2 ^ 24) c, le-leb 1 (h .size) d, le-leb (h .size) (2 ^ 24) e, le-leb 1 (h .classifications) f, le-leb (h .classifications) 64 g, lt-ltb (h .classbook) count x)
                     p
 
-pub ruleset head-test-laws = (needs, type-over, begin-over, end-over, size-none, size-over, classes-none, classes-over, classbook-over, head-judged)
-
 head-dropped : (l : List ℕ) (i : ℕ) → headAt (drop (6 * i) l) 0 ≡ headAt l i
 head-dropped l i =
     λ j. record {

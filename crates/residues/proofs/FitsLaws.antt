@@ -27,8 +27,6 @@ module _ (t : List ℕ) (h : Head) where
       → (r : Bool) → r ≡ leb (h .classifications ^ d) e → r ≡ headFits (booksOf 0 t) h
   class-words l d e p q r w = rw (le-leb (h .begin) (h .end) l, ← p, ← q) w
 
-pub ruleset head-fits-laws = (needs, begin-above, class-words)
-
 -- a place
 module _ (t : List ℕ) (size b : ℕ) where
   pub empty-place : b ≡ 0 → true ≡ placeFits (booksOf 0 t) size b
@@ -48,8 +46,6 @@ module _ (t : List ℕ) (size b : ℕ) where
       pub divides : (d ≡ 0 → ⊥) → eqb (size % d) 0 ≡ placeFits (booksOf 0 t) size b
       unfolding placeFits
       divides n = rw (ne-eqb b 0 some, ← p, ne-eqb l 0 values, ← q)
-
-pub ruleset place-fits-laws = (needs, empty-place, no-values, no-dimensions, divides)
 
 -- a test of the numbers from one place up to another, of which those before i are done
 module _ (f : ℕ → Bool) (l : List ℕ) (from to : ℕ) where

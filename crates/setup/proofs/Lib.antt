@@ -4,3 +4,6 @@ pub mod PartLaws
 pub mod TableLaws
 pub mod BookLinks
 pub mod ContentLaws
+pub mod Whole
+pub mod CallLaws
+pub mod ValidLaws

@@ -18,10 +18,13 @@ pub record Left : Type 0 where
   pub number : ℕ
   pub tables : Tables
 
+abbrev pub left : ℕ → Tables → Left
+left number tables = record { number = number; tables = tables }
+
 -- accepted: the content written out. Refused: the number alone, and every table all zero
 unfoldable pub answered : Outcome Setup → Tables → Left
-answered (ok c) t = record { number = 0; tables = writtenOut c t }
-answered (bad z) t = record { number = z .number; tables = cleared t }
+answered (ok c) t = left 0 (writtenOut c t)
+answered (bad z) t = left (z .number) (cleared t)
 
 unfoldable pub setupCall : Limits → Identity → List ℕ → Tables → Left
 setupCall limits i s t = answered (setupOf limits i s t) t

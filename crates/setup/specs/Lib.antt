@@ -4,3 +4,4 @@ pub mod Layout
 pub mod Sound
 pub mod Call
 pub mod Parts
+pub mod Accepted

@@ -21,7 +21,7 @@ enum-known-kind : tie.Need-enum-known-kind
 enum-known-kind c = search needs
 
 returns : tie.Need-returns
-returns c = search (needs, type-wrong)
+returns c = search type-wrong
 
 read-submap-count-requires : tie.Need-read-submap-count-requires
 read-submap-count-requires c κs = search needs
@@ -63,13 +63,13 @@ write-u8-requires : tie.Need-write-u8-requires
 write-u8-requires c κs = search needs
 
 returns-2 : tie.Need-returns-2
-returns-2 c = search (needs, type-cut)
+returns-2 c = search type-cut
 
 returns-3 : tie.Need-returns-3
-returns-3 c = search (needs, submap-count-refused)
+returns-3 c = search submap-count-refused
 
 returns-4 : tie.Need-returns-4
-returns-4 c = search (needs, step-count-refused)
+returns-4 c = search step-count-refused
 
 returns-5 : tie.Need-returns-5
 returns-5 c =

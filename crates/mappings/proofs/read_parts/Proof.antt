@@ -1,4 +1,4 @@
-use Rattle.mappings.proofs.MappingLaws.{parts-laws}
+use Rattle.mappings.proofs.MappingLaws.{reserved-wrong, couplings-refused, reserved-cut, multiplexes-refused, parts-whole}
 use borrow.Author.Needs.{needs}
 use Rattle.mappings.proofs.read_parts.Statement.{statement}
 use Rattle.mappings.proofs.read_parts.Tie as tie
@@ -31,7 +31,7 @@ same-length : tie.Need-same-length
 same-length c = search needs
 
 returns : tie.Need-returns
-returns c = search parts-laws
+returns c = search reserved-wrong
 
 read-multiplexes-requires : tie.Need-read-multiplexes-requires
 read-multiplexes-requires c κs = search needs
@@ -49,25 +49,25 @@ same-length-2 : tie.Need-same-length-2
 same-length-2 c = search needs
 
 returns-2 : tie.Need-returns-2
-returns-2 c = search parts-laws
+returns-2 c = search couplings-refused
 
 same-length-3 : tie.Need-same-length-3
 same-length-3 c = search needs
 
 returns-3 : tie.Need-returns-3
-returns-3 c = search parts-laws
+returns-3 c = search reserved-cut
 
 same-length-4 : tie.Need-same-length-4
 same-length-4 c = search needs
 
 returns-4 : tie.Need-returns-4
-returns-4 c = search parts-laws
+returns-4 c = search multiplexes-refused
 
 same-length-5 : tie.Need-same-length-5
 same-length-5 c = search needs
 
 returns-5 : tie.Need-returns-5
-returns-5 c = search parts-laws
+returns-5 c = search parts-whole
 
 pub read-parts-spec : {M : Type 1} → statement M
 read-parts-spec =

@@ -1,5 +1,5 @@
 -- `floor_tables::stand::are_books` meets its contract. Assumes nothing.
-use Rattle.floor_tables.proofs.TestLaws.{books-laws}
+use Rattle.floor_tables.proofs.TestLaws.{books-unset, books-large, books-end}
 use borrow.Author.Needs.{needs}
 use Rattle.floor_tables.proofs.stand.are_books.Statement.{statement}
 use Rattle.floor_tables.proofs.stand.are_books.Tie as tie
@@ -14,7 +14,7 @@ are-below-requires : tie.Need-are-below-requires
 are-below-requires c κs = search needs
 
 returns : tie.Need-returns
-returns c = search books-laws
+returns c = search books-unset
 
 add-are-below-3 : tie.Need-add-are-below-3
 add-are-below-3 c = search needs
@@ -23,7 +23,7 @@ are-below-requires-2 : tie.Need-are-below-requires-2
 are-below-requires-2 c κs = search needs
 
 returns-2 : tie.Need-returns-2
-returns-2 c = search books-laws
+returns-2 c = search books-large
 
 add-are-below-4 : tie.Need-add-are-below-4
 add-are-below-4 c = search needs
@@ -35,7 +35,7 @@ are-below-requires-3 : tie.Need-are-below-requires-3
 are-below-requires-3 c κs = search needs
 
 returns-3 : tie.Need-returns-3
-returns-3 c = search books-laws
+returns-3 c = search books-end
 
 pub are-books-spec : {M : Type 1} → statement M
 are-books-spec =

@@ -1,5 +1,5 @@
 -- `floor_tables::stand::are_partitions` meets its contract. Assumes nothing.
-use Rattle.floor_tables.proofs.TestLaws.{partition-laws}
+use Rattle.floor_tables.proofs.TestLaws.{partitions-many, partitions-not, partitions-end}
 use borrow.Author.Needs.{needs}
 use Rattle.floor_tables.proofs.stand.are_partitions.Statement.{statement}
 use Rattle.floor_tables.proofs.stand.are_partitions.Tie as tie
@@ -8,7 +8,7 @@ number-requires : tie.Need-number-requires
 number-requires c κs = search needs
 
 returns : tie.Need-returns
-returns c = search partition-laws
+returns c = search partitions-many
 
 add-are-below : tie.Need-add-are-below
 add-are-below c = search needs
@@ -23,7 +23,7 @@ are-below-requires : tie.Need-are-below-requires
 are-below-requires c κs = search needs
 
 returns-2 : tie.Need-returns-2
-returns-2 c = search partition-laws
+returns-2 c = search partitions-not
 
 add-are-below-4 : tie.Need-add-are-below-4
 add-are-below-4 c = search needs
@@ -38,7 +38,7 @@ are-below-requires-2 : tie.Need-are-below-requires-2
 are-below-requires-2 c κs = search needs
 
 returns-3 : tie.Need-returns-3
-returns-3 c = search partition-laws
+returns-3 c = search partitions-end
 
 pub are-partitions-spec : {M : Type 1} → statement M
 are-partitions-spec =

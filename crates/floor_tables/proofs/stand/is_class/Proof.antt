@@ -1,5 +1,5 @@
 -- `floor_tables::stand::is_class` meets its contract. Assumes nothing.
-use Rattle.floor_tables.proofs.TestLaws.{class-test-laws}
+use Rattle.floor_tables.proofs.TestLaws.{class-test-laws, class-low, class-high, class-many, class-master-not, class-end}
 use borrow.Author.Needs.{needs}
 use Rattle.floor_tables.proofs.stand.is_class.Statement.{statement}
 use Rattle.floor_tables.proofs.stand.is_class.Tie as tie
@@ -8,10 +8,10 @@ number-requires : tie.Need-number-requires
 number-requires c κs = search needs
 
 returns : tie.Need-returns
-returns c = search class-test-laws
+returns c = search class-low
 
 returns-2 : tie.Need-returns-2
-returns-2 c = search class-test-laws
+returns-2 c = search class-high
 
 add-get-u16 : tie.Need-add-get-u16
 add-get-u16 c = search needs
@@ -20,7 +20,7 @@ get-u16-requires : tie.Need-get-u16-requires
 get-u16-requires c κs = search needs
 
 returns-3 : tie.Need-returns-3
-returns-3 c = search class-test-laws
+returns-3 c = search class-many
 
 wide-requires : tie.Need-wide-requires
 wide-requires c κs = search needs
@@ -35,7 +35,7 @@ is-master-requires : tie.Need-is-master-requires
 is-master-requires c κs = search needs
 
 returns-4 : tie.Need-returns-4
-returns-4 c = search class-test-laws
+returns-4 c = search class-master-not
 
 add-are-books : tie.Need-add-are-books
 add-are-books c = search needs
@@ -53,7 +53,7 @@ are-books-requires : tie.Need-are-books-requires
 are-books-requires c κs = search class-test-laws
 
 returns-5 : tie.Need-returns-5
-returns-5 c = search class-test-laws
+returns-5 c = search class-end
 
 pub is-class-spec : {M : Type 1} → statement M
 is-class-spec =

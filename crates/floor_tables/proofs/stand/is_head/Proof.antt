@@ -12,10 +12,10 @@ number-requires : tie.Need-number-requires
 number-requires c κs = search needs
 
 returns : tie.Need-returns
-returns c = search (needs, head-low)
+returns c = search head-low
 
 returns-2 : tie.Need-returns-2
-returns-2 c = search (needs, head-high)
+returns-2 c = search head-high
 
 add-number-2 : tie.Need-add-number-2
 add-number-2 c = search needs
@@ -24,7 +24,7 @@ number-requires-2 : tie.Need-number-requires-2
 number-requires-2 c κs = search needs
 
 returns-3 : tie.Need-returns-3
-returns-3 c = search (needs, head-range)
+returns-3 c = search head-range
 
 add-number-3 : tie.Need-add-number-3
 add-number-3 c = search needs
@@ -33,7 +33,7 @@ number-requires-3 : tie.Need-number-requires-3
 number-requires-3 c κs = search needs
 
 returns-4 : tie.Need-returns-4
-returns-4 c = search (needs, head-many)
+returns-4 c = search head-many
 
 add-value-count : tie.Need-add-value-count
 add-value-count c = search needs
@@ -78,7 +78,7 @@ value-count-requires : tie.Need-value-count-requires
 value-count-requires c κs = search needs
 
 returns-5 : tie.Need-returns-5
-returns-5 c = search (needs, head-few)
+returns-5 c = search head-few
 
 returns-6 : tie.Need-returns-6
 returns-6 c = head-other (c .before .before .before .before .before .before .before .before .before .before .before .before .before .before .args .floors .now) (c .before .before .before .before .before .before .before .before .before .before .before .before .before .before .args .at) (c .before .before .before .before .before .before .before .before .before .before .before .before .number .ensures .0) (omega arith) (omega arith) (c .before .before .before .before .before .before .before .before .before .number2 .ensures .0) (omega arith) (c .before .before .before .before .before .before .before .number3 .ensures .0) (omega arith) (omega arith) (c .before .before .before .before .number4 .ensures .0) (c .before .before .value-count .ensures) (c .if6 .taken)

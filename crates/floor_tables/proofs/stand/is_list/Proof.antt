@@ -1,5 +1,5 @@
 -- `floor_tables::stand::is_list` meets its contract. Assumes nothing.
-use Rattle.floor_tables.proofs.TestLaws.{list-test-laws}
+use Rattle.floor_tables.proofs.TestLaws.{list-first, list-second, list-range, list-trailing, list-end}
 use borrow.Author.Needs.{needs}
 use Rattle.floor_tables.proofs.stand.is_list.Statement.{statement}
 use Rattle.floor_tables.proofs.stand.is_list.Tie as tie
@@ -38,7 +38,7 @@ number-requires-2 : tie.Need-number-requires-2
 number-requires-2 c κs = search needs
 
 returns : tie.Need-returns
-returns c = search list-test-laws
+returns c = search list-first
 
 add-number-3 : tie.Need-add-number-3
 add-number-3 c = search needs
@@ -47,7 +47,7 @@ number-requires-3 : tie.Need-number-requires-3
 number-requires-3 c κs = search needs
 
 returns-2 : tie.Need-returns-2
-returns-2 c = search list-test-laws
+returns-2 c = search list-second
 
 add-are-below : tie.Need-add-are-below
 add-are-below c = search needs
@@ -56,7 +56,7 @@ are-below-requires : tie.Need-are-below-requires
 are-below-requires c κs = search needs
 
 returns-3 : tie.Need-returns-3
-returns-3 c = search list-test-laws
+returns-3 c = search list-range
 
 add-are-below-2 : tie.Need-add-are-below-2
 add-are-below-2 c = search needs
@@ -65,7 +65,7 @@ are-below-requires-2 : tie.Need-are-below-requires-2
 are-below-requires-2 c κs = search needs
 
 returns-4 : tie.Need-returns-4
-returns-4 c = search list-test-laws
+returns-4 c = search list-trailing
 
 add-are-distinct : tie.Need-add-are-distinct
 add-are-distinct c = search needs
@@ -74,7 +74,7 @@ are-distinct-requires : tie.Need-are-distinct-requires
 are-distinct-requires c κs = search needs
 
 returns-5 : tie.Need-returns-5
-returns-5 c = search list-test-laws
+returns-5 c = search list-end
 
 pub is-list-spec : {M : Type 1} → statement M
 is-list-spec =

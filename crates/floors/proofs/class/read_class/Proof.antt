@@ -1,7 +1,7 @@
 -- `floors::class::read_class` meets its contract. Assumes nothing.
 use native.Mathlib.Omega.{arith}
 use Rattle.bits.proofs.Answers.{value-below}
-use Rattle.floors.proofs.ClassLaws.{class-laws}
+use Rattle.floors.proofs.ClassLaws.{class-laws, class-cut₁, class-cut₂, class-cut₃, class-read}
 use borrow.Author.Needs.{needs}
 use Rattle.floors.proofs.class.read_class.Statement.{statement}
 use Rattle.floors.proofs.class.read_class.Tie as tie
@@ -40,19 +40,19 @@ read-class-row-requires : tie.Need-read-class-row-requires
 read-class-row-requires c κs = search class-laws
 
 returns : tie.Need-returns
-returns c = search class-laws
+returns c = search class-cut₁
 
 returns-2 : tie.Need-returns-2
-returns-2 c = search class-laws
+returns-2 c = search class-cut₂
 
 returns-3 : tie.Need-returns-3
-returns-3 c = search class-laws
+returns-3 c = search class-cut₃
 
 same-length : tie.Need-same-length
 same-length c = search needs
 
 returns-4 : tie.Need-returns-4
-returns-4 c = search class-laws
+returns-4 c = search class-read
 
 pub read-class-spec : {M : Type 1} → statement M
 read-class-spec =

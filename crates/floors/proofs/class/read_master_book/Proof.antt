@@ -1,11 +1,11 @@
 -- `floors::class::read_master_book` meets its contract. Assumes nothing.
-use Rattle.floors.proofs.ClassLaws.{master-laws}
+use Rattle.floors.proofs.ClassLaws.{master-none, master-unset, master-cut, master-set}
 use borrow.Author.Needs.{needs}
 use Rattle.floors.proofs.class.read_master_book.Statement.{statement}
 use Rattle.floors.proofs.class.read_master_book.Tie as tie
 
 returns : tie.Need-returns
-returns c = search master-laws
+returns c = search master-none
 
 field-requires : tie.Need-field-requires
 field-requires c κs = search needs
@@ -17,16 +17,16 @@ enum-known-v : tie.Need-enum-known-v
 enum-known-v c = search needs
 
 returns-2 : tie.Need-returns-2
-returns-2 c = search master-laws
+returns-2 c = search master-unset
 
 add-t13 : tie.Need-add-t13
 add-t13 c = search needs
 
 returns-3 : tie.Need-returns-3
-returns-3 c = search master-laws
+returns-3 c = search master-cut
 
 returns-4 : tie.Need-returns-4
-returns-4 c = search master-laws
+returns-4 c = search master-set
 
 pub read-master-book-spec : {M : Type 1} → statement M
 read-master-book-spec =

@@ -1,7 +1,7 @@
 -- `floors::floor::read_behind_classes` meets its contract. Assumes nothing.
 use mathlib.Core.List.{[]}
 use native.Mathlib.Omega.{arith}
-use Rattle.floors.proofs.RowLaws.{behind-few, behind-laws}
+use Rattle.floors.proofs.RowLaws.{behind-few, behind-laws, behind-refused, behind-written}
 use borrow.Author.Needs.{needs}
 use Rattle.floors.proofs.floor.read_behind_classes.Statement.{statement}
 use Rattle.floors.proofs.floor.read_behind_classes.Tie as tie
@@ -49,13 +49,13 @@ write-row-requires : tie.Need-write-row-requires
 write-row-requires c κs = search needs
 
 returns : tie.Need-returns
-returns c = search behind-laws
+returns c = search behind-refused
 
 same-length : tie.Need-same-length
 same-length c = search needs
 
 returns-2 : tie.Need-returns-2
-returns-2 c = search behind-laws
+returns-2 c = search behind-written
 
 pub read-behind-classes-spec : {M : Type 1} → statement M
 read-behind-classes-spec =

@@ -1,7 +1,7 @@
 -- `floors::floor::read_ends` meets its contract. Assumes nothing.
 use native.Mathlib.Omega.{arith}
 use Rattle.bits.proofs.Answers.{value-below}
-use Rattle.floors.proofs.FloorLaws.{ends-laws}
+use Rattle.floors.proofs.FloorLaws.{ends-laws, ends-cut₁, ends-cut₂, ends-read}
 use borrow.Author.Needs.{needs}
 use Rattle.floors.proofs.floor.read_ends.Statement.{statement}
 use Rattle.floors.proofs.floor.read_ends.Tie as tie
@@ -31,16 +31,16 @@ read-x-list-requires : tie.Need-read-x-list-requires
 read-x-list-requires c κs = search ends-laws
 
 returns : tie.Need-returns
-returns c = search ends-laws
+returns c = search ends-cut₁
 
 returns-2 : tie.Need-returns-2
-returns-2 c = search ends-laws
+returns-2 c = search ends-cut₂
 
 same-length : tie.Need-same-length
 same-length c = search needs
 
 returns-3 : tie.Need-returns-3
-returns-3 c = search ends-laws
+returns-3 c = search ends-read
 
 pub read-ends-spec : {M : Type 1} → statement M
 read-ends-spec =

@@ -1,5 +1,5 @@
 -- `floors::floor::read_type` meets its contract. Assumes nothing.
-use Rattle.floors.proofs.FloorLaws.{type-laws}
+use Rattle.floors.proofs.FloorLaws.{type-zero, type-high, type-cut, type-one}
 use borrow.Author.Needs.{needs}
 use Rattle.floors.proofs.floor.read_type.Statement.{statement}
 use Rattle.floors.proofs.floor.read_type.Tie as tie
@@ -14,16 +14,16 @@ enum-known-number : tie.Need-enum-known-number
 enum-known-number c = search needs
 
 returns : tie.Need-returns
-returns c = search type-laws
+returns c = search type-zero
 
 returns-2 : tie.Need-returns-2
-returns-2 c = search type-laws
+returns-2 c = search type-high
 
 returns-3 : tie.Need-returns-3
-returns-3 c = search type-laws
+returns-3 c = search type-cut
 
 returns-4 : tie.Need-returns-4
-returns-4 c = search type-laws
+returns-4 c = search type-one
 
 pub read-type-spec : {M : Type 1} → statement M
 read-type-spec =

@@ -1,6 +1,6 @@
 -- `floors::floor::read_x_list` meets its contract. Assumes nothing.
 use native.Mathlib.Omega.{arith}
-use Rattle.floors.proofs.FloorLaws.{list-few, list-room, list-laws}
+use Rattle.floors.proofs.FloorLaws.{list-few, list-room, list-equal, list-cut, list-read}
 use borrow.Author.Needs.{needs}
 use Rattle.floors.proofs.floor.read_x_list.Statement.{statement}
 use Rattle.floors.proofs.floor.read_x_list.Tie as tie
@@ -33,19 +33,19 @@ same-length : tie.Need-same-length
 same-length c = search needs
 
 returns : tie.Need-returns
-returns c = search list-laws
+returns c = search list-equal
 
 same-length-2 : tie.Need-same-length-2
 same-length-2 c = search needs
 
 returns-2 : tie.Need-returns-2
-returns-2 c = search list-laws
+returns-2 c = search list-cut
 
 same-length-3 : tie.Need-same-length-3
 same-length-3 c = search needs
 
 returns-3 : tie.Need-returns-3
-returns-3 c = search list-laws
+returns-3 c = search list-read
 
 pub read-x-list-spec : {M : Type 1} → statement M
 read-x-list-spec =

@@ -1,5 +1,5 @@
 -- `floors::floor::read_x_values` meets its contract. Assumes nothing.
-use Rattle.floors.proofs.FloorLaws.{x-laws}
+use Rattle.floors.proofs.FloorLaws.{x-few, x-cut, x-many}
 use borrow.Author.Needs.{needs}
 use Rattle.floors.proofs.floor.read_x_values.Statement.{statement}
 use Rattle.floors.proofs.floor.read_x_values.Tie as tie
@@ -11,7 +11,7 @@ same-length : tie.Need-same-length
 same-length c = search needs
 
 returns : tie.Need-returns
-returns c = search x-laws
+returns c = search x-few
 
 read-numbers-requires-2 : tie.Need-read-numbers-requires-2
 read-numbers-requires-2 c κs = search needs
@@ -26,13 +26,13 @@ same-length-2 : tie.Need-same-length-2
 same-length-2 c = search needs
 
 returns-2 : tie.Need-returns-2
-returns-2 c = search x-laws
+returns-2 c = search x-cut
 
 same-length-3 : tie.Need-same-length-3
 same-length-3 c = search needs
 
 returns-3 : tie.Need-returns-3
-returns-3 c = search x-laws
+returns-3 c = search x-many
 
 pub read-x-values-spec : {M : Type 1} → statement M
 read-x-values-spec =

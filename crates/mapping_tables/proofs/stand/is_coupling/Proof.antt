@@ -1,17 +1,17 @@
-use Rattle.mapping_tables.proofs.StandLaws.{number-laws}
+use Rattle.mapping_tables.proofs.StandLaws.{magnitude-high, angle-high, coupling-low}
 use Rattle.mapping_tables.proofs.stand.is_coupling.Statement.{statement}
 use Rattle.mapping_tables.proofs.stand.is_coupling.Tie as tie
 use Rattle.mapping_tables.proofs.stand.is_coupling.Reads as reads
 use Rattle.mapping_tables.proofs.stand.is_coupling.Lts as lts
 
 returns : tie.Need-returns
-returns c = search number-laws
+returns c = search magnitude-high
 
 returns-2 : tie.Need-returns-2
-returns-2 c = search number-laws
+returns-2 c = search angle-high
 
 returns-3 : tie.Need-returns-3
-returns-3 c = search number-laws
+returns-3 c = search coupling-low
 
 pub is-coupling-spec : {M : Type 1} → statement M
 is-coupling-spec = tie.close (tie.spec returns returns-2 returns-3)

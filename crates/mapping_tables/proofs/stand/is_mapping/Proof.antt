@@ -1,4 +1,4 @@
-use Rattle.mapping_tables.proofs.StandLaws.{row-laws, submaps-none, submaps-many, place-used}
+use Rattle.mapping_tables.proofs.StandLaws.{row-laws, submaps-none, submaps-many, place-used, steps-many, couplings-wrong, multiplex-wrong, row-right}
 use borrow.Author.Needs.{needs}
 use Rattle.mapping_tables.proofs.stand.is_mapping.Statement.{statement}
 use Rattle.mapping_tables.proofs.stand.is_mapping.Tie as tie
@@ -20,7 +20,7 @@ two-places-requires : tie.Need-two-places-requires
 two-places-requires c κs = search needs
 
 returns : tie.Need-returns
-returns c = search row-laws
+returns c = search steps-many
 
 shared-slice-read-submaps : tie.Need-shared-slice-read-submaps
 shared-slice-read-submaps c = search needs
@@ -50,7 +50,7 @@ are-couplings-requires : tie.Need-are-couplings-requires
 are-couplings-requires c κs = search needs
 
 returns-5 : tie.Need-returns-5
-returns-5 c = search row-laws
+returns-5 c = search couplings-wrong
 
 sub-are-multiplexes : tie.Need-sub-are-multiplexes
 sub-are-multiplexes c = search needs
@@ -68,7 +68,7 @@ are-multiplexes-requires : tie.Need-are-multiplexes-requires
 are-multiplexes-requires c κs = search row-laws
 
 returns-6 : tie.Need-returns-6
-returns-6 c = search row-laws
+returns-6 c = search multiplex-wrong
 
 sub-are-submaps : tie.Need-sub-are-submaps
 sub-are-submaps c = search needs
@@ -86,7 +86,7 @@ are-submaps-requires : tie.Need-are-submaps-requires
 are-submaps-requires c κs = search needs
 
 returns-7 : tie.Need-returns-7
-returns-7 c = search row-laws
+returns-7 c = search row-right
 
 pub is-mapping-spec : {M : Type 1} → statement M
 is-mapping-spec =

@@ -1,14 +1,14 @@
-use Rattle.mapping_tables.proofs.StandLaws.{number-laws}
+use Rattle.mapping_tables.proofs.StandLaws.{multiplex-zero, multiplex-some}
 use Rattle.mapping_tables.proofs.stand.is_multiplex.Statement.{statement}
 use Rattle.mapping_tables.proofs.stand.is_multiplex.Tie as tie
 use Rattle.mapping_tables.proofs.stand.is_multiplex.Reads as reads
 use Rattle.mapping_tables.proofs.stand.is_multiplex.Lts as lts
 
 returns : tie.Need-returns
-returns c = search number-laws
+returns c = search multiplex-zero
 
 returns-2 : tie.Need-returns-2
-returns-2 c = search number-laws
+returns-2 c = search multiplex-some
 
 pub is-multiplex-spec : {M : Type 1} → statement M
 is-multiplex-spec = tie.close (tie.spec returns returns-2)

@@ -1,14 +1,14 @@
-use Rattle.mapping_tables.proofs.StandLaws.{number-laws}
+use Rattle.mapping_tables.proofs.StandLaws.{floor-high, floor-low}
 use Rattle.mapping_tables.proofs.stand.is_submap.Statement.{statement}
 use Rattle.mapping_tables.proofs.stand.is_submap.Tie as tie
 use Rattle.mapping_tables.proofs.stand.is_submap.Reads as reads
 use Rattle.mapping_tables.proofs.stand.is_submap.Lts as lts
 
 returns : tie.Need-returns
-returns c = search number-laws
+returns c = search floor-high
 
 returns-2 : tie.Need-returns-2
-returns-2 c = search number-laws
+returns-2 c = search floor-low
 
 pub is-submap-spec : {M : Type 1} → statement M
 is-submap-spec = tie.close (tie.spec returns returns-2)

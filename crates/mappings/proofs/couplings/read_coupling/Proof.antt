@@ -1,4 +1,4 @@
-use Rattle.mappings.proofs.CouplingLaws.{coupling-laws}
+use Rattle.mappings.proofs.CouplingLaws.{coupling-laws, both-one, magnitude-refused, angle-refused, coupling-whole}
 use borrow.Author.Needs.{needs}
 use Rattle.mappings.proofs.couplings.read_coupling.Statement.{statement}
 use Rattle.mappings.proofs.couplings.read_coupling.Tie as tie
@@ -26,7 +26,7 @@ enum-known-angle : tie.Need-enum-known-angle
 enum-known-angle c = search needs
 
 returns : tie.Need-returns
-returns c = search coupling-laws
+returns c = search both-one
 
 cast-t19 : tie.Need-cast-t19
 cast-t19 c = search coupling-laws
@@ -41,16 +41,16 @@ write-u8-requires : tie.Need-write-u8-requires
 write-u8-requires c κs = search needs
 
 returns-2 : tie.Need-returns-2
-returns-2 c = search coupling-laws
+returns-2 c = search magnitude-refused
 
 returns-3 : tie.Need-returns-3
-returns-3 c = search coupling-laws
+returns-3 c = search angle-refused
 
 same-length : tie.Need-same-length
 same-length c = search needs
 
 returns-4 : tie.Need-returns-4
-returns-4 c = search coupling-laws
+returns-4 c = search coupling-whole
 
 pub read-coupling-spec : {M : Type 1} → statement M
 read-coupling-spec =

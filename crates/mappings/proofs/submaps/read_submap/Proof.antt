@@ -1,4 +1,4 @@
-use Rattle.mappings.proofs.SubmapLaws.{submap-laws, byte-fits}
+use Rattle.mappings.proofs.SubmapLaws.{byte-fits, floor-unknown, residue-unknown, discarded-cut, floor-cut, residue-cut, submap-whole}
 use borrow.Author.Needs.{needs}
 use Rattle.mappings.proofs.submaps.read_submap.Statement.{statement}
 use Rattle.mappings.proofs.submaps.read_submap.Tie as tie
@@ -26,7 +26,7 @@ enum-known-floor : tie.Need-enum-known-floor
 enum-known-floor c = search needs
 
 returns : tie.Need-returns
-returns c = search submap-laws
+returns c = search floor-unknown
 
 field-requires-3 : tie.Need-field-requires-3
 field-requires-3 c κs = search needs
@@ -38,7 +38,7 @@ enum-known-residue : tie.Need-enum-known-residue
 enum-known-residue c = search needs
 
 returns-2 : tie.Need-returns-2
-returns-2 c = search submap-laws
+returns-2 c = search residue-unknown
 
 cast-t25 : tie.Need-cast-t25
 cast-t25 c = record { fits = byte-fits _ _ (c .before .before .before .before .before .before .before .before .before .before .before .field2 .ensures) (c .before .before .before .before .before .before .before .before .before .floor .given .1) }
@@ -53,19 +53,19 @@ write-u8-requires : tie.Need-write-u8-requires
 write-u8-requires c κs = search needs
 
 returns-3 : tie.Need-returns-3
-returns-3 c = search submap-laws
+returns-3 c = search discarded-cut
 
 returns-4 : tie.Need-returns-4
-returns-4 c = search submap-laws
+returns-4 c = search floor-cut
 
 returns-5 : tie.Need-returns-5
-returns-5 c = search submap-laws
+returns-5 c = search residue-cut
 
 same-length : tie.Need-same-length
 same-length c = search needs
 
 returns-6 : tie.Need-returns-6
-returns-6 c = search submap-laws
+returns-6 c = search submap-whole
 
 pub read-submap-spec : {M : Type 1} → statement M
 read-submap-spec =

@@ -1,4 +1,4 @@
-use Rattle.residues.proofs.CascadeLaws.{cascade-laws}
+use Rattle.residues.proofs.CascadeLaws.{cascade-laws, low-alone, low-cut, flag-cut, high-cut, high-and-low}
 use borrow.Author.Needs.{needs}
 use Rattle.residues.proofs.cascade.read_cascade.Statement.{statement}
 use Rattle.residues.proofs.cascade.read_cascade.Tie as tie
@@ -26,7 +26,7 @@ enum-known-flag : tie.Need-enum-known-flag
 enum-known-flag c = search needs
 
 returns : tie.Need-returns
-returns c = search cascade-laws
+returns c = search low-alone
 
 field-requires-2 : tie.Need-field-requires-2
 field-requires-2 c κs = search needs
@@ -44,16 +44,16 @@ add-t20 : tie.Need-add-t20
 add-t20 c = search cascade-laws
 
 returns-2 : tie.Need-returns-2
-returns-2 c = search cascade-laws
+returns-2 c = search low-cut
 
 returns-3 : tie.Need-returns-3
-returns-3 c = search cascade-laws
+returns-3 c = search flag-cut
 
 returns-4 : tie.Need-returns-4
-returns-4 c = search cascade-laws
+returns-4 c = search high-cut
 
 returns-5 : tie.Need-returns-5
-returns-5 c = search cascade-laws
+returns-5 c = search high-and-low
 
 pub read-cascade-spec : {M : Type 1} → statement M
 read-cascade-spec =

@@ -1,4 +1,4 @@
-use Rattle.residues.proofs.FitsLaws.{head-fits-laws}
+use Rattle.residues.proofs.FitsLaws.{begin-above, class-words}
 use borrow.Author.Needs.{needs}
 use Rattle.residues.proofs.fits.head_fits.Statement.{statement}
 use Rattle.residues.proofs.fits.head_fits.Tie as tie
@@ -9,7 +9,7 @@ use Rattle.book.proofs.entries.Reads as entries-reads
 use Rattle.power.proofs.power_within.Reads as power-within-reads
 
 returns : tie.Need-returns
-returns c = search head-fits-laws
+returns c = search begin-above
 
 dimensions-requires : tie.Need-dimensions-requires
 dimensions-requires c κs = search needs
@@ -21,7 +21,7 @@ power-within-requires : tie.Need-power-within-requires
 power-within-requires c κs = search needs
 
 returns-2 : tie.Need-returns-2
-returns-2 c = search head-fits-laws
+returns-2 c = search class-words
 
 pub head-fits-spec : {M : Type 1} → statement M
 head-fits-spec =

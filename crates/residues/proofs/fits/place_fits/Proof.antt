@@ -1,4 +1,4 @@
-use Rattle.residues.proofs.FitsLaws.{place-fits-laws}
+use Rattle.residues.proofs.FitsLaws.{empty-place, no-values, no-dimensions, divides}
 use borrow.Author.Needs.{needs}
 use Rattle.residues.proofs.fits.place_fits.Statement.{statement}
 use Rattle.residues.proofs.fits.place_fits.Tie as tie
@@ -8,7 +8,7 @@ use Rattle.book.proofs.dimensions.Reads as dimensions-reads
 use Rattle.book.proofs.lookup.Reads as lookup-reads
 
 returns : tie.Need-returns
-returns c = search place-fits-laws
+returns c = search empty-place
 
 sub-lookup : tie.Need-sub-lookup
 sub-lookup c = search needs
@@ -17,7 +17,7 @@ lookup-requires : tie.Need-lookup-requires
 lookup-requires c κs = search needs
 
 returns-2 : tie.Need-returns-2
-returns-2 c = search place-fits-laws
+returns-2 c = search no-values
 
 sub-dimensions : tie.Need-sub-dimensions
 sub-dimensions c = search needs
@@ -26,13 +26,13 @@ dimensions-requires : tie.Need-dimensions-requires
 dimensions-requires c κs = search needs
 
 returns-3 : tie.Need-returns-3
-returns-3 c = search place-fits-laws
+returns-3 c = search no-dimensions
 
 rem-result : tie.Need-rem-result
 rem-result c = search needs
 
 returns-4 : tie.Need-returns-4
-returns-4 c = search place-fits-laws
+returns-4 c = search divides
 
 pub place-fits-spec : {M : Type 1} → statement M
 place-fits-spec =

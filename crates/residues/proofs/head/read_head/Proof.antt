@@ -1,4 +1,4 @@
-use Rattle.residues.proofs.HeadLaws.{head-laws}
+use Rattle.residues.proofs.HeadLaws.{type-large, type-cut, begin-cut, end-cut, head-rest}
 use borrow.Author.Needs.{needs}
 use Rattle.residues.proofs.head.read_head.Statement.{statement}
 use Rattle.residues.proofs.head.read_head.Tie as tie
@@ -17,7 +17,7 @@ enum-known-kind : tie.Need-enum-known-kind
 enum-known-kind c = search needs
 
 returns : tie.Need-returns
-returns c = search head-laws
+returns c = search type-large
 
 field-requires-2 : tie.Need-field-requires-2
 field-requires-2 c κs = search needs
@@ -41,16 +41,16 @@ read-head-from-requires : tie.Need-read-head-from-requires
 read-head-from-requires c κs = search needs
 
 returns-2 : tie.Need-returns-2
-returns-2 c = search head-laws
+returns-2 c = search type-cut
 
 returns-3 : tie.Need-returns-3
-returns-3 c = search head-laws
+returns-3 c = search begin-cut
 
 returns-4 : tie.Need-returns-4
-returns-4 c = search head-laws
+returns-4 c = search end-cut
 
 returns-5 : tie.Need-returns-5
-returns-5 c = search head-laws
+returns-5 c = search head-rest
 
 pub read-head-spec : {M : Type 1} → statement M
 read-head-spec =

@@ -1,4 +1,4 @@
-use Rattle.residues.proofs.HeadLaws.{head-laws}
+use Rattle.residues.proofs.HeadLaws.{head-laws, classbook-unset, size-cut, classes-cut, classbook-cut, head-whole}
 use borrow.Author.Needs.{needs}
 use Rattle.residues.proofs.head.read_head_from.Statement.{statement}
 use Rattle.residues.proofs.head.read_head_from.Tie as tie
@@ -34,7 +34,7 @@ enum-known-classbook : tie.Need-enum-known-classbook
 enum-known-classbook c = search needs
 
 returns : tie.Need-returns
-returns c = search head-laws
+returns c = search classbook-unset
 
 add-t24 : tie.Need-add-t24
 add-t24 c = search head-laws
@@ -43,16 +43,16 @@ add-t25 : tie.Need-add-t25
 add-t25 c = search head-laws
 
 returns-2 : tie.Need-returns-2
-returns-2 c = search head-laws
+returns-2 c = search size-cut
 
 returns-3 : tie.Need-returns-3
-returns-3 c = search head-laws
+returns-3 c = search classes-cut
 
 returns-4 : tie.Need-returns-4
-returns-4 c = search head-laws
+returns-4 c = search classbook-cut
 
 returns-5 : tie.Need-returns-5
-returns-5 c = search head-laws
+returns-5 c = search head-whole
 
 pub read-head-from-spec : {M : Type 1} → statement M
 read-head-from-spec =

@@ -1,4 +1,4 @@
-use Rattle.residues.proofs.PlanLaws.{place-laws}
+use Rattle.residues.proofs.PlanLaws.{place-laws, place-none, place-unset, place-cut, place-book}
 use borrow.Author.Needs.{needs}
 use Rattle.residues.proofs.plan.read_place.Statement.{statement}
 use Rattle.residues.proofs.plan.read_place.Tie as tie
@@ -7,7 +7,7 @@ use Rattle.residues.proofs.plan.read_place.Lts as lts
 use Rattle.bits.proofs.Cursor.field.Reads as field-reads
 
 returns : tie.Need-returns
-returns c = search place-laws
+returns c = search place-none
 
 field-requires : tie.Need-field-requires
 field-requires c κs = search needs
@@ -19,16 +19,16 @@ enum-known-book : tie.Need-enum-known-book
 enum-known-book c = search needs
 
 returns-2 : tie.Need-returns-2
-returns-2 c = search place-laws
+returns-2 c = search place-unset
 
 add-t13 : tie.Need-add-t13
 add-t13 c = search place-laws
 
 returns-3 : tie.Need-returns-3
-returns-3 c = search place-laws
+returns-3 c = search place-cut
 
 returns-4 : tie.Need-returns-4
-returns-4 c = search place-laws
+returns-4 c = search place-book
 
 pub read-place-spec : {M : Type 1} → statement M
 read-place-spec =

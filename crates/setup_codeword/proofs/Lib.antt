@@ -1,0 +1,4 @@
+pub mod JudgedLaws
+pub mod DecodesLaws
+pub mod LyingLaws
+pub mod CallLaws

@@ -1,0 +1,110 @@
+-- The parts put together, as the code asks it. Assumes nothing.
+use Prim.Native.Nat.{ℕ, _≤_}
+use native.Mathlib.Omega.{arith}
+use mathlib.Core.Bool.{Bool, true, false, not}
+use mathlib.Core.List.{List}
+use mathlib.Core.Logic.{_↔_}
+use mathlib.Core.Path.{_≡_, sym, _∙_}
+use lib.ListN.{getD}
+use Rattle.reading.proofs.Stands.{iff-false}
+use Rattle.limits.specs.declared.Limits.{Limits}
+use Rattle.book_tables.specs.Stand.{Asked, BooksStand}
+use Rattle.book_tables.proofs.TestLaws.{refuted, shown}
+use Rattle.floor_tables.specs.Stand.{FloorsStand}
+use Rattle.residues.specs.FromTable.{booksOf}
+use Rattle.residue_tables.specs.Stand.{ResiduesStand}
+use Rattle.mapping_tables.specs.Stand.{MappingsStand}
+use Rattle.modes.specs.Stand.{ModesStand}
+use Rattle.setup.specs.Layout.{hasRoom, tables}
+use Rattle.setup.specs.Parts.{Small}
+use Rattle.setup.specs.Sound.{Sound}
+use Rattle.setup_tables.specs.Stand.{CountsStand, knownBy, FrontStand, BackStand}
+use Rattle.setup_tables.proofs.Theorem.{parts-sound, sound-parts}
+
+-- what a part asks for, and what it says, with a count that was read from its place
+module _ (cs : List ℕ) (stand : CountsStand cs) where
+  pub few-books : {n : ℕ} → n ≡ getD cs 0 0 → n ≤ 256
+  few-books e = let h = stand .books .high in omega arith
+
+  pub few-floors : {n m : ℕ} → n ≡ getD cs 1 0 → m ≡ n → m ≤ 64
+  few-floors e f = let h = stand .floors .high in omega arith
+
+  pub few-residues : {n : ℕ} → n ≡ getD cs 2 0 → n ≤ 64
+  few-residues e = let h = stand .residues .high in omega arith
+
+  pub few-mappings : {n m : ℕ} → n ≡ getD cs 3 0 → m ≡ n → m ≤ 64
+  few-mappings e f = let h = stand .mappings .high in omega arith
+
+  pub few-modes : {n m : ℕ} → n ≡ getD cs 4 0 → m ≡ n → m ≤ 64
+  few-modes e f = let h = stand .modes .high in omega arith
+
+  pub books-asked : (limits : Limits) → Small limits → {n : ℕ} → n ≡ getD cs 0 0 → Asked limits n
+  books-asked limits small e = let h = stand .books .high in record { few-books = omega arith; few-entries = small .few-entries; few-values = small .few-values }
+
+module _ (cs : List ℕ) {r : Bool} where
+  pub books-said : (limits : Limits) (bs ls ws vs : List ℕ) {n : ℕ} → n ≡ getD cs 0 0 → (r ≡ true) ↔ BooksStand limits n bs ls ws vs
+      → (r ≡ true) ↔ BooksStand limits (getD cs 0 0) bs ls ws vs
+  books-said limits bs ls ws vs e p = rw e at p
+
+  pub floors-said : (fs : List ℕ) {k n m : ℕ} → k ≡ getD cs 0 0 → n ≡ getD cs 1 0 → m ≡ n → (r ≡ true) ↔ FloorsStand k m fs
+      → (r ≡ true) ↔ FloorsStand (getD cs 0 0) (getD cs 1 0) fs
+  floors-said fs d e f p = rw (d, f, e) at p
+
+  pub residues-said : (bs rs ps : List ℕ) {k n : ℕ} → k ≡ getD cs 0 0 → n ≡ getD cs 2 0 → (r ≡ true) ↔ ResiduesStand (booksOf k bs) n rs ps
+      → (r ≡ true) ↔ ResiduesStand (booksOf (getD cs 0 0) bs) (getD cs 2 0) rs ps
+  residues-said bs rs ps d e p = rw (d, e) at p
+
+  pub mappings-said : (channels : ℕ) (ms : List ℕ) {f q n m : ℕ} → f ≡ getD cs 1 0 → q ≡ getD cs 2 0 → n ≡ getD cs 3 0 → m ≡ n
+      → (r ≡ true) ↔ MappingsStand (record { channels = channels; floors = f; residues = q }) m ms
+      → (r ≡ true) ↔ MappingsStand (knownBy channels cs) (getD cs 3 0) ms
+  mappings-said channels ms a b d e p = rw (a, b, e, d) at p
+
+  pub modes-said : (os : List ℕ) {k n m : ℕ} → k ≡ getD cs 3 0 → n ≡ getD cs 4 0 → m ≡ n → (r ≡ true) ↔ ModesStand k m os
+      → (r ≡ true) ↔ ModesStand (getD cs 3 0) (getD cs 4 0) os
+  modes-said os d e f p = rw (d, f, e) at p
+
+-- books and floors
+module _ (limits : Limits) (cs bs ls ws vs fs : List ℕ) {b₁ : Bool} (p₁ : (b₁ ≡ true) ↔ BooksStand limits (getD cs 0 0) bs ls ws vs) where
+  pub front-books : not b₁ ≡ true → (false ≡ true) ↔ FrontStand limits cs bs ls ws vs fs
+  front-books n = iff-false (λ s. refuted p₁ n (s .book-tables))
+
+  pub front-end : not b₁ ≡ false → {b₂ : Bool} → (b₂ ≡ true) ↔ FloorsStand (getD cs 0 0) (getD cs 1 0) fs → (b₂ ≡ true) ↔ FrontStand limits cs bs ls ws vs fs
+  front-end y₁ p₂ = ((λ t. record { book-tables = shown p₁ y₁; floor-table = p₂ .0 t }), (λ s. p₂ .1 (s .floor-table)))
+
+-- residues, mappings, modes
+module _ (channels : ℕ) (cs bs rs ps ms os : List ℕ) {b₁ : Bool} (p₁ : (b₁ ≡ true) ↔ ResiduesStand (booksOf (getD cs 0 0) bs) (getD cs 2 0) rs ps) where
+  pub back-residues : not b₁ ≡ true → (false ≡ true) ↔ BackStand channels cs bs rs ps ms os
+  back-residues n = iff-false (λ s. refuted p₁ n (s .residue-tables))
+
+  module _ (y₁ : not b₁ ≡ false) {b₂ : Bool} (p₂ : (b₂ ≡ true) ↔ MappingsStand (knownBy channels cs) (getD cs 3 0) ms) where
+    pub back-mappings : not b₂ ≡ true → (false ≡ true) ↔ BackStand channels cs bs rs ps ms os
+    back-mappings n = iff-false (λ s. refuted p₂ n (s .mapping-table))
+
+    pub back-end : not b₂ ≡ false → {b₃ : Bool} → (b₃ ≡ true) ↔ ModesStand (getD cs 3 0) (getD cs 4 0) os → (b₃ ≡ true) ↔ BackStand channels cs bs rs ps ms os
+    back-end y₂ p₃ = ((λ t. record { residue-tables = shown p₁ y₁; mapping-table = shown p₂ y₂; mode-table = p₃ .0 t }), (λ s. p₃ .1 (s .mode-table)))
+
+-- the counts behind their test
+pub counts-known : (cs : List ℕ) {b : Bool} → (b ≡ true) ↔ CountsStand cs → not b ≡ false → CountsStand cs
+counts-known cs p y = shown p y
+
+-- all ten tables
+module _ (limits : Limits) (channels : ℕ) (cs bs ls ws vs fs rs ps ms os : List ℕ) {b₀ : Bool} (e₀ : b₀ ≡ hasRoom limits (tables cs bs ls ws vs fs rs ps ms os)) where
+  room-said : (b₀ ≡ true) ↔ (hasRoom limits (tables cs bs ls ws vs fs rs ps ms os) ≡ true)
+  room-said = ((λ t. sym e₀ ∙ t), (λ t. e₀ ∙ t))
+
+  pub sound-room : not b₀ ≡ true → (false ≡ true) ↔ Sound limits channels (tables cs bs ls ws vs fs rs ps ms os)
+  sound-room n = iff-false (λ s. refuted room-said n (s .room))
+
+  module _ (y₀ : not b₀ ≡ false) {b₁ : Bool} (p₁ : (b₁ ≡ true) ↔ CountsStand cs) where
+    pub sound-counts : not b₁ ≡ true → (false ≡ true) ↔ Sound limits channels (tables cs bs ls ws vs fs rs ps ms os)
+    sound-counts n = iff-false (λ s. refuted p₁ n (sound-parts limits channels _ s .numbers))
+
+    module _ (y₁ : not b₁ ≡ false) {b₂ : Bool} (p₂ : (b₂ ≡ true) ↔ FrontStand limits cs bs ls ws vs fs) where
+      pub sound-front : not b₂ ≡ true → (false ≡ true) ↔ Sound limits channels (tables cs bs ls ws vs fs rs ps ms os)
+      sound-front n = iff-false (λ s. refuted p₂ n (sound-parts limits channels _ s .front))
+
+      pub sound-end : not b₂ ≡ false → {b₃ : Bool} → (b₃ ≡ true) ↔ BackStand channels cs bs rs ps ms os → (b₃ ≡ true) ↔ Sound limits channels (tables cs bs ls ws vs fs rs ps ms os)
+      sound-end y₂ p₃ = (
+        (λ t. parts-sound limits channels _ (record { room = shown room-said y₀; numbers = shown p₁ y₁; front = shown p₂ y₂; back = p₃ .0 t })),
+        (λ s. p₃ .1 (sound-parts limits channels _ s .back)),
+      )

@@ -1,0 +1,23 @@
+-- `setup_tables::parts::are_floors` meets its contract. Assumes nothing.
+use Rattle.setup_tables.proofs.Laws.{few-books, few-floors, floors-said}
+use borrow.Author.Needs.{needs}
+use Rattle.setup_tables.proofs.parts.are_floors.Statement.{statement}
+use Rattle.setup_tables.proofs.parts.are_floors.Tie as tie
+
+get-u32-requires : tie.Need-get-u32-requires
+get-u32-requires c κs = search needs
+
+wide-requires : tie.Need-wide-requires
+wide-requires c κs = search needs
+
+get-u32-requires-2 : tie.Need-get-u32-requires-2
+get-u32-requires-2 c κs = search needs
+
+are-floors-requires : tie.Need-are-floors-requires
+are-floors-requires c κs = search (few-books, few-floors)
+
+returns : tie.Need-returns
+returns c = search floors-said
+
+pub are-floors-spec : {M : Type 1} → statement M
+are-floors-spec = tie.close (tie.spec get-u32-requires wide-requires get-u32-requires-2 are-floors-requires returns)

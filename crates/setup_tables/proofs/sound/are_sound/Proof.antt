@@ -1,0 +1,33 @@
+-- `setup_tables::sound::are_sound` meets its contract. Assumes nothing.
+use Rattle.setup_tables.proofs.Laws.{sound-room, sound-counts, sound-front, sound-end, counts-known}
+use Rattle.setup_tables.proofs.Theorem.{one-content}
+use borrow.Author.Needs.{needs}
+use Rattle.setup_tables.proofs.sound.are_sound.Statement.{statement}
+use Rattle.setup_tables.proofs.sound.are_sound.Tie as tie
+
+have-room-requires : tie.Need-have-room-requires
+have-room-requires c κs = search needs
+
+returns : tie.Need-returns
+returns c = search (sound-room, one-content)
+
+are-counts-requires : tie.Need-are-counts-requires
+are-counts-requires c κs = search needs
+
+returns-2 : tie.Need-returns-2
+returns-2 c = search (sound-counts, one-content)
+
+are-front-requires : tie.Need-are-front-requires
+are-front-requires c κs = (search needs, counts-known _ (c .before .are-counts .ensures) (c .if2 .left))
+
+returns-3 : tie.Need-returns-3
+returns-3 c = search (sound-front, one-content)
+
+are-back-requires : tie.Need-are-back-requires
+are-back-requires c κs = (counts-known _ (c .before .before .before .are-counts .ensures) (c .before .before .if2 .left), search needs)
+
+returns-4 : tie.Need-returns-4
+returns-4 c = search (sound-end, one-content)
+
+pub are-sound-spec : {M : Type 1} → statement M
+are-sound-spec = tie.close (tie.spec have-room-requires returns are-counts-requires returns-2 are-front-requires returns-3 are-back-requires returns-4)

@@ -1,0 +1,54 @@
+// All ten tables (01, "What the reader takes and gives": a later call accepts tables exactly when they are the writing-out of some content that meets every rule).
+use crate::parts;
+use limits::Limits;
+ghost use mathlib.Core.Bool.{true};
+ghost use mathlib.Core.Logic.{_↔_};
+ghost use mathlib.Core.Path.{_≡_};
+ghost use Prim.Native.Nat.{_≤_};
+ghost use Rattle.setup.specs.Layout.{tables};
+ghost use Rattle.setup.specs.Parts.{Small};
+ghost use Rattle.setup.specs.Sound.{Sound};
+ghost use Rattle.setup_tables.specs.Stand.{OneContent};
+
+// Whether the tables are the writing-out of some setup that meets every rule for so many channels.
+pub fn are_sound(
+    limits: Limits,
+    channels: u32,
+    counts: &[u32],
+    books: &[u32],
+    lengths: &[u8],
+    words: &[u32],
+    multiplicands: &[u16],
+    floors: &[u16],
+    residues: &[u32],
+    plans: &[u16],
+    mappings: &[u8],
+    modes: &[u8],
+) -> bool
+    requires { ⌜ Small limits × (channels ≤ 255) ⌝ }
+    ensures { λ r. ⌜ (r ≡ true) ↔ Sound limits channels (tables (now (counts .entry)) (now (books .entry)) (now (lengths .entry)) (now (words .entry)) (now (multiplicands .entry)) (now (floors .entry)) (now (residues .entry)) (now (plans .entry)) (now (mappings .entry)) (now (modes .entry))) ⌝ }
+    ensures { λ _. ⌜ OneContent limits channels (tables (now (counts .entry)) (now (books .entry)) (now (lengths .entry)) (now (words .entry)) (now (multiplicands .entry)) (now (floors .entry)) (now (residues .entry)) (now (plans .entry)) (now (mappings .entry)) (now (modes .entry))) ⌝ }
+{
+    if !setup::tables::have_room(
+        limits,
+        counts,
+        books,
+        lengths,
+        words,
+        multiplicands,
+        floors,
+        residues,
+        plans,
+        mappings,
+        modes,
+    ) {
+        return false;
+    }
+    if !parts::are_counts(counts) {
+        return false;
+    }
+    if !parts::are_front(limits, counts, books, lengths, words, multiplicands, floors) {
+        return false;
+    }
+    parts::are_back(channels, counts, books, residues, plans, mappings, modes)
+}
