@@ -76,17 +76,15 @@ pub fn round(random: &mut Random, report: &mut Report) -> Result<(), String> {
     let written = write_setup(&content, identity.channels, random);
     let form = in_library_form(&identity);
     around(form, &written.bytes, random, rooms, report)?;
-    for spoilt in some(spoilt(&written, random), 40, random) {
+    for spoilt in some(spoilt(&written, random), 80, random) {
         packet(form, &spoilt, rooms, report)?;
     }
-    for _ in 0..10 {
+    for _ in 0..30 {
         packet(form, &with_faults(&written, random), rooms, report)?;
-    }
-    for _ in 0..10 {
         packet(form, &with_faults(&small(), random), rooms, report)?;
     }
-    setup_sound::around(form, &content, 20, random, report)?;
-    codeword::around(form, &content, 20, random, report)
+    setup_sound::around(form, &content, 40, random, report)?;
+    codeword::around(form, &content, 40, random, report)
 }
 
 /// So many of a list, picked at random, or all of a shorter one.
