@@ -125,6 +125,7 @@ pub fn place<'a>(content: &Setup, packet: &'a [u8], random: &mut Random) -> Plac
     };
     let bit = match random.below(12) {
         0 => random.below(256),
+        1 => random.between(8, 40),
         _ => random.below(8),
     };
     Place { book, packet, byte, bit: bit as u8 }
