@@ -50,7 +50,7 @@ pub fn run(input: &str, side: &str, times: &str) -> Result<(), Box<dyn Error>> {
         "second" => Side::Second,
         _ => return Err(format!("no side {side}").into()),
     };
-    let mut call = call(input, side)?.ok_or(format!("no input {input}"))?;
+    let mut call = call(input, side)?;
     let start = Instant::now();
     for _ in 0..times {
         call();
@@ -59,16 +59,16 @@ pub fn run(input: &str, side: &str, times: &str) -> Result<(), Box<dyn Error>> {
     Ok(())
 }
 
-fn call(input: &str, side: Side) -> Result<Option<Box<dyn FnMut()>>, Box<dyn Error>> {
+fn call(input: &str, side: Side) -> Result<Box<dyn FnMut()>, Box<dyn Error>> {
     Ok(match input {
-        "identification" => Some(identification_call(side)),
-        "codewords" => Some(codewords_call(side)),
-        "points" => Some(points_call(side)),
-        "curve1024" => Some(curve_call(side, 1_024)),
-        "curve4096" => Some(curve_call(side, 4_096)),
-        "setup" => Some(setup_call(side)?),
-        "setup_sound" => Some(setup_sound_call(side)?),
-        _ => None,
+        "identification" => identification_call(side),
+        "codewords" => codewords_call(side),
+        "points" => points_call(side),
+        "curve1024" => curve_call(side, 1_024),
+        "curve4096" => curve_call(side, 4_096),
+        "setup" => setup_call(side)?,
+        "setup_sound" => setup_sound_call(side)?,
+        _ => return Err(format!("no input {input}").into()),
     })
 }
 
