@@ -1,13 +1,12 @@
 -- WHAT A SETUP CALL ACCEPTS MEETS EVERY RULE: the content of an accepted packet is valid, and the tables as that call left them are sound.
 -- Assumes nothing.
-use Prim.Native.Nat.{ℕ, zero, suc, _+_, _≤_, _<_}
+use Prim.Native.Nat.{ℕ, zero, suc, _+_, _≤_}
 use native.Mathlib.Omega.{arith}
 use mathlib.Core.Bool.{true}
 use mathlib.Core.List.{List, [], _∷_}
 use mathlib.Core.Path.{_≡_, refl, sym, ap, subst, _∙_}
-use lib.Dec.{leb}
 use lib.ListN.{length, replicate}
-use Rattle.reading.specs.Outcome.{Outcome, ok, bad, then, need, refusal}
+use Rattle.reading.specs.Outcome.{ok, refusal}
 use Rattle.reading.specs.Reader.{Reader, many}
 use Rattle.reading.specs.Stand.{Each}
 use Rattle.reading.specs.Pad.{pad}
@@ -21,7 +20,7 @@ use Rattle.limits.specs.declared.Limits.{Limits}
 use Rattle.identification.specs.declared.Identity.{Identity}
 use Rattle.identification.specs.Sound.{isSound}
 use Rattle.book.specs.Content.{Book}
-use Rattle.books.specs.Reading.{Before, books}
+use Rattle.books.specs.Reading.{books}
 use Rattle.books.specs.Valid.{ValidBooks}
 use Rattle.books.proofs.Accepted.{books-valid}
 use Rattle.floors.specs.Content.{Floor}

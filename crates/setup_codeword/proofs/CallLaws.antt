@@ -1,14 +1,13 @@
 -- Laws of the call for one codeword, as the code asks them: one for each of its answers. Assumes nothing.
-use Prim.Native.Nat.{ℕ, _+_, _*_, _≤_, _<_}
+use Prim.Native.Nat.{ℕ, _≤_, _<_}
 use native.Mathlib.Omega.{arith}
-use borrow.Author.Needs.{needs}
 use borrow.Author.Tests.{not-true, not-false, ltb-true, ltb-false}
 use mathlib.Core.Bool.{Bool, true, false, not}
 use mathlib.Core.List.{List}
 use mathlib.Core.Logic.{_↔_}
 use mathlib.Core.Path.{_≡_, refl, sym, ap, _∙_}
 use lib.Dec.{ltb}
-use lib.ListN.{length, getD}
+use lib.ListN.{getD}
 use Rattle.reading.specs.Outcome.{refusal, Outcome, bad}
 use Rattle.reading.proofs.Least.{true-not-false}
 use Rattle.bits.specs.declared.Cursor.{Cursor}
@@ -23,7 +22,7 @@ use Rattle.book_codeword.specs.Lying.{entriesOf, BookLies}
 use Rattle.setup.specs.Layout.{Tables}
 use Rattle.setup.specs.Parts.{Small}
 use Rattle.setup.specs.Sound as T
-use Rattle.setup_codeword.specs.Call.{lengthsOf, SoundCall, CodewordCall}
+use Rattle.setup_codeword.specs.Call.{SoundCall, CodewordCall}
 use Rattle.setup_codeword.specs.Demand3.{Demand3}
 use Rattle.setup_codeword.proofs.DecodesLaws.{demand3}
 use Rattle.setup_codeword.proofs.LyingLaws.{book-count, book-lies, entries-of}

@@ -1,10 +1,10 @@
 -- A book of an accepted setup decodes as demand 3 has it, by any answer that the call's definition gives. Assumes nothing.
-use Prim.Native.Nat.{ℕ, zero, suc, _+_, _*_, _≤_, _<_}
+use Prim.Native.Nat.{ℕ, zero, suc, _<_}
 use native.Mathlib.Omega.{arith}
 use borrow.Author.Tests.{leb-true}
-use mathlib.Core.Bool.{true, _&&_}
+use mathlib.Core.Bool.{true}
 use mathlib.Core.List.{List, [], _∷_, map}
-use mathlib.Core.Path.{_≡_, refl, sym, ap, subst, _∙_}
+use mathlib.Core.Path.{_≡_, sym, subst, _∙_}
 use lib.Dec.{leb}
 use lib.ListN.{length, getD}
 use Rattle.reading.specs.Lists.{listed}
@@ -14,11 +14,11 @@ use Rattle.limits.specs.declared.Limits.{Limits}
 use Rattle.identification.specs.declared.Identity.{Identity}
 use Rattle.identification.specs.Sound.{allowedSizes, isSound}
 use Rattle.identification.specs.Sound as I
-use Rattle.codespace.specs.Book.{used, isLone, freeAfter, codewords, verdict, Begins}
+use Rattle.codespace.specs.Book.{used, codewords, verdict, Begins}
 use Rattle.codespace.specs.declared.book.Assigned.the-variants.{Accepted}
 use Rattle.codespace.proofs.Claimed.{balanced}
 use Rattle.codespace.proofs.Laws.{exactly-one-entry}
-use Rattle.codebook.specs.Codeword.{codeword, bitsAt, firstUsed}
+use Rattle.codebook.specs.Codeword.{codeword}
 use Rattle.codebook.proofs.Laws.{read-whole, read-lone}
 use Rattle.book.specs.Content.{Book}
 use Rattle.books.specs.Reading.{Before, andThis}

@@ -1,12 +1,12 @@
 -- When 7 or 8 is given for a book's lengths: exactly when the ledger does not take them; and by nothing else of a book. Assumes nothing.
-use Prim.Native.Nat.{ℕ, zero, suc, _+_, _-_, _*_, _≤_, _<_}
+use Prim.Native.Nat.{ℕ, zero, suc, _+_, _-_, _*_, _≤_}
 use native.Mathlib.Omega.{arith}
-use borrow.Author.Tests.{eq-eqb, ne-eqb, eqb-true, eqb-false}
+use borrow.Author.Tests.{eq-eqb, ne-eqb, eqb-true}
 use mathlib.Core.Bool.{Bool, true, false, cond, _||_}
 use mathlib.Core.List.{List, [], _∷_}
 use mathlib.Core.Logic.{_⊎_, inl, inr, ⊎-elim, _↔_}
 use mathlib.Core.Option.{Option, none, some}
-use mathlib.Core.Path.{_≡_, refl, sym, ap, subst, _∙_}
+use mathlib.Core.Path.{_≡_, refl, ap, subst}
 use lib.Dec.{eqb, leb}
 use lib.ListN.{length}
 use Rattle.reading.specs.Outcome.{Refusal, refusal, Outcome, ok, bad, then, need}
@@ -18,7 +18,7 @@ use Rattle.codespace.specs.Claims.{accepted, acceptedShare}
 use Rattle.codespace.specs.Book.{used, isLone, firstRefused, freeAfter, verdict, refusedOr}
 use Rattle.codespace.specs.Book as B
 use Rattle.codespace.specs.declared.book.Assigned.{Assigned}
-use Rattle.codespace.specs.declared.book.Assigned.the-variants.{Accepted, Overspecified, Underspecified, Mismatched}
+use Rattle.codespace.specs.declared.book.Assigned.the-variants.{Accepted, Underspecified}
 use Rattle.codespace.proofs.Whole.{balance}
 use Rattle.books.specs.Reading.{Before, Head, head, lengths, entered, values, lookup, book, valueCount}
 use Rattle.setup_codeword.specs.Demand3.{LedgerTakes, Judged, Neither}

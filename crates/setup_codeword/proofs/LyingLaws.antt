@@ -1,7 +1,7 @@
 -- In sound tables each book of the content lies whole, with its own entries: what the reading of one codeword asks for. Assumes nothing.
-use Prim.Native.Nat.{ℕ, zero, suc, _+_, _-_, _*_, _^_, _≤_, _<_}
+use Prim.Native.Nat.{ℕ, zero, suc, _+_, _-_, _*_, _≤_, _<_}
 use native.Mathlib.Omega.{arith}
-use mathlib.Core.List.{List, [], _∷_, _++_, map, append-assoc}
+use mathlib.Core.List.{List, [], _∷_, _++_, append-assoc}
 use mathlib.Core.Path.{_≡_, refl, sym, ap, subst, _∙_}
 use lib.ListN.{length, getD, take, drop, replicate, length-append, List·getD-map}
 use lib.Seq.{take-at, drop-at}
@@ -18,8 +18,7 @@ use Rattle.books.specs.Rows.{bookRows, allLengths, allCodewords, andThese}
 use Rattle.books.specs.Valid.{ValidBook, ValidBooks}
 use Rattle.books.proofs.Laid.{codewords-length, row-at, these-entries, pad-fits}
 use Rattle.book_codeword.specs.Lying.{entriesOf, BookLies}
-use Rattle.setup.specs.Content.{Setup}
-use Rattle.setup.specs.Layout.{Tables, layout, hasRoom, writtenOut}
+use Rattle.setup.specs.Layout.{Tables, layout, writtenOut}
 use Rattle.setup.specs.Sound.{Sound}
 use Rattle.setup.proofs.BookLinks.{noBook}
 use Rattle.setup.proofs.TableLaws.{room-parts}

@@ -1,6 +1,5 @@
 -- The table of counts: five numbers and zeros behind them, and the test of them as the code asks it. Assumes nothing.
 use Prim.Native.Nat.{ℕ, _+_, _-_, _≤_, _<_}
-use borrow.Author.Needs.{needs}
 use native.Mathlib.Omega.{arith}
 use mathlib.Core.Bool.{Bool, true, false, not}
 use mathlib.Core.List.{List, [], _∷_, _++_, append-nil}
@@ -62,33 +61,28 @@ module _ (cs : List ℕ) (place most : ℕ) {n : ℕ} (e : n ≡ getD cs place 0
   pub count-end : 1 ≤ n → n ≤ most → (true ≡ true) ↔ Counted most (getD cs place 0)
   count-end g h = iff-true (record { low = omega arith; high = omega arith })
 
-pub ruleset count-laws = (needs, count-none, count-over, count-end)
-
 -- all five
-module _ (cs : List ℕ) {b₀ : Bool} (p₀ : (b₀ ≡ true) ↔ Counted 256 (getD cs 0 0)) where
-  pub counts-books : not b₀ ≡ true → (false ≡ true) ↔ CountsStand cs
-  counts-books n = iff-false (λ s. refuted p₀ n (s .books))
+module _ (cs : List ℕ) {b : Bool} where
+  pub counts-books : (b ≡ true) ↔ Counted 256 (getD cs 0 0) → not b ≡ true → (false ≡ true) ↔ CountsStand cs
+  counts-books p n = iff-false (λ s. refuted p n (s .books))
 
-  module _ (y₀ : not b₀ ≡ false) {b₁ : Bool} (p₁ : (b₁ ≡ true) ↔ Counted 64 (getD cs 1 0)) where
-    pub counts-floors : not b₁ ≡ true → (false ≡ true) ↔ CountsStand cs
-    counts-floors n = iff-false (λ s. refuted p₁ n (s .floors))
+  pub counts-floors : (b ≡ true) ↔ Counted 64 (getD cs 1 0) → not b ≡ true → (false ≡ true) ↔ CountsStand cs
+  counts-floors p n = iff-false (λ s. refuted p n (s .floors))
 
-    module _ (y₁ : not b₁ ≡ false) {b₂ : Bool} (p₂ : (b₂ ≡ true) ↔ Counted 64 (getD cs 2 0)) where
-      pub counts-residues : not b₂ ≡ true → (false ≡ true) ↔ CountsStand cs
-      counts-residues n = iff-false (λ s. refuted p₂ n (s .residues))
+  pub counts-residues : (b ≡ true) ↔ Counted 64 (getD cs 2 0) → not b ≡ true → (false ≡ true) ↔ CountsStand cs
+  counts-residues p n = iff-false (λ s. refuted p n (s .residues))
 
-      module _ (y₂ : not b₂ ≡ false) {b₃ : Bool} (p₃ : (b₃ ≡ true) ↔ Counted 64 (getD cs 3 0)) where
-        pub counts-mappings : not b₃ ≡ true → (false ≡ true) ↔ CountsStand cs
-        counts-mappings n = iff-false (λ s. refuted p₃ n (s .mappings))
+  pub counts-mappings : (b ≡ true) ↔ Counted 64 (getD cs 3 0) → not b ≡ true → (false ≡ true) ↔ CountsStand cs
+  counts-mappings p n = iff-false (λ s. refuted p n (s .mappings))
 
-        module _ (y₃ : not b₃ ≡ false) {b₄ : Bool} (p₄ : (b₄ ≡ true) ↔ Counted 64 (getD cs 4 0)) where
-          pub counts-modes : not b₄ ≡ true → (false ≡ true) ↔ CountsStand cs
-          counts-modes n = iff-false (λ s. refuted p₄ n (s .modes))
+  pub counts-modes : (b ≡ true) ↔ Counted 64 (getD cs 4 0) → not b ≡ true → (false ≡ true) ↔ CountsStand cs
+  counts-modes p n = iff-false (λ s. refuted p n (s .modes))
 
-          pub counts-end : not b₄ ≡ false → {b₅ : Bool} → (b₅ ≡ true) ↔ Zeros (drop 5 cs) → (b₅ ≡ true) ↔ CountsStand cs
-          counts-end y₄ p₅ = (
-            (λ t. record { books = shown p₀ y₀; floors = shown p₁ y₁; residues = shown p₂ y₂; mappings = shown p₃ y₃; modes = shown p₄ y₄; zeros = p₅ .0 t }),
-            (λ s. p₅ .1 (s .zeros)),
-          )
-
-pub ruleset counts-laws = (needs, counts-books, counts-floors, counts-residues, counts-mappings, counts-modes, counts-end)
+pub counts-end : (cs : List ℕ) {b₀ b₁ b₂ b₃ b₄ b₅ : Bool} → (b₀ ≡ true) ↔ Counted 256 (getD cs 0 0) → not b₀ ≡ false
+    → (b₁ ≡ true) ↔ Counted 64 (getD cs 1 0) → not b₁ ≡ false → (b₂ ≡ true) ↔ Counted 64 (getD cs 2 0) → not b₂ ≡ false
+    → (b₃ ≡ true) ↔ Counted 64 (getD cs 3 0) → not b₃ ≡ false → (b₄ ≡ true) ↔ Counted 64 (getD cs 4 0) → not b₄ ≡ false
+    → (b₅ ≡ true) ↔ Zeros (drop 5 cs) → (b₅ ≡ true) ↔ CountsStand cs
+counts-end cs p₀ y₀ p₁ y₁ p₂ y₂ p₃ y₃ p₄ y₄ p₅ = (
+  (λ t. record { books = shown p₀ y₀; floors = shown p₁ y₁; residues = shown p₂ y₂; mappings = shown p₃ y₃; modes = shown p₄ y₄; zeros = p₅ .0 t }),
+  (λ s. p₅ .1 (s .zeros)),
+)

@@ -21,7 +21,7 @@ use Rattle.setup.specs.Sound.{Sound}
 use Rattle.setup_tables.specs.Stand.{CountsStand, knownBy, FrontStand, BackStand}
 use Rattle.setup_tables.proofs.Theorem.{parts-sound, sound-parts}
 
--- what a part asks for, and what it says, with a count that was read from its place
+-- what a part asks for, of a count that was read from its place
 module _ (cs : List ℕ) (stand : CountsStand cs) where
   pub few-books : {n : ℕ} → n ≡ getD cs 0 0 → n ≤ 256
   few-books e = let h = stand .books .high in omega arith
@@ -41,26 +41,25 @@ module _ (cs : List ℕ) (stand : CountsStand cs) where
   pub books-asked : (limits : Limits) → Small limits → {n : ℕ} → n ≡ getD cs 0 0 → Asked limits n
   books-asked limits small e = let h = stand .books .high in record { few-books = omega arith; few-entries = small .few-entries; few-values = small .few-values }
 
-module _ (cs : List ℕ) {r : Bool} where
-  pub books-said : (limits : Limits) (bs ls ws vs : List ℕ) {n : ℕ} → n ≡ getD cs 0 0 → (r ≡ true) ↔ BooksStand limits n bs ls ws vs
-      → (r ≡ true) ↔ BooksStand limits (getD cs 0 0) bs ls ws vs
+-- what a part says with the counts that were read, it says with those of the table
+module _ {r : Bool} where
+  pub books-said : (limits : Limits) (bs ls ws vs : List ℕ) {k k′ : ℕ} → k′ ≡ k → (r ≡ true) ↔ BooksStand limits k′ bs ls ws vs → (r ≡ true) ↔ BooksStand limits k bs ls ws vs
   books-said limits bs ls ws vs e p = rw e at p
 
-  pub floors-said : (fs : List ℕ) {k n m : ℕ} → k ≡ getD cs 0 0 → n ≡ getD cs 1 0 → m ≡ n → (r ≡ true) ↔ FloorsStand k m fs
-      → (r ≡ true) ↔ FloorsStand (getD cs 0 0) (getD cs 1 0) fs
+  pub floors-said : (fs : List ℕ) {k k′ n n′ m : ℕ} → k′ ≡ k → n′ ≡ n → m ≡ n′ → (r ≡ true) ↔ FloorsStand k′ m fs → (r ≡ true) ↔ FloorsStand k n fs
   floors-said fs d e f p = rw (d, f, e) at p
 
-  pub residues-said : (bs rs ps : List ℕ) {k n : ℕ} → k ≡ getD cs 0 0 → n ≡ getD cs 2 0 → (r ≡ true) ↔ ResiduesStand (booksOf k bs) n rs ps
-      → (r ≡ true) ↔ ResiduesStand (booksOf (getD cs 0 0) bs) (getD cs 2 0) rs ps
-  residues-said bs rs ps d e p = rw (d, e) at p
+  pub residues-said : (d e l : ℕ → ℕ) (rs ps : List ℕ) {k k′ n n′ : ℕ} → k′ ≡ k → n′ ≡ n
+      → (r ≡ true) ↔ ResiduesStand (record { count = k′; dimensions = d; entries = e; lookup = l }) n′ rs ps
+      → (r ≡ true) ↔ ResiduesStand (record { count = k; dimensions = d; entries = e; lookup = l }) n rs ps
+  residues-said d e l rs ps f g p = rw (f, g) at p
 
-  pub mappings-said : (channels : ℕ) (ms : List ℕ) {f q n m : ℕ} → f ≡ getD cs 1 0 → q ≡ getD cs 2 0 → n ≡ getD cs 3 0 → m ≡ n
-      → (r ≡ true) ↔ MappingsStand (record { channels = channels; floors = f; residues = q }) m ms
-      → (r ≡ true) ↔ MappingsStand (knownBy channels cs) (getD cs 3 0) ms
+  pub mappings-said : (channels : ℕ) (ms : List ℕ) {f f′ q q′ n n′ m : ℕ} → f′ ≡ f → q′ ≡ q → n′ ≡ n → m ≡ n′
+      → (r ≡ true) ↔ MappingsStand (record { channels = channels; floors = f′; residues = q′ }) m ms
+      → (r ≡ true) ↔ MappingsStand (record { channels = channels; floors = f; residues = q }) n ms
   mappings-said channels ms a b d e p = rw (a, b, e, d) at p
 
-  pub modes-said : (os : List ℕ) {k n m : ℕ} → k ≡ getD cs 3 0 → n ≡ getD cs 4 0 → m ≡ n → (r ≡ true) ↔ ModesStand k m os
-      → (r ≡ true) ↔ ModesStand (getD cs 3 0) (getD cs 4 0) os
+  pub modes-said : (os : List ℕ) {k k′ n n′ m : ℕ} → k′ ≡ k → n′ ≡ n → m ≡ n′ → (r ≡ true) ↔ ModesStand k′ m os → (r ≡ true) ↔ ModesStand k n os
   modes-said os d e f p = rw (d, f, e) at p
 
 -- books and floors
@@ -72,39 +71,44 @@ module _ (limits : Limits) (cs bs ls ws vs fs : List ℕ) {b₁ : Bool} (p₁ : 
   front-end y₁ p₂ = ((λ t. record { book-tables = shown p₁ y₁; floor-table = p₂ .0 t }), (λ s. p₂ .1 (s .floor-table)))
 
 -- residues, mappings, modes
-module _ (channels : ℕ) (cs bs rs ps ms os : List ℕ) {b₁ : Bool} (p₁ : (b₁ ≡ true) ↔ ResiduesStand (booksOf (getD cs 0 0) bs) (getD cs 2 0) rs ps) where
-  pub back-residues : not b₁ ≡ true → (false ≡ true) ↔ BackStand channels cs bs rs ps ms os
-  back-residues n = iff-false (λ s. refuted p₁ n (s .residue-tables))
+module _ (channels : ℕ) (cs bs rs ps ms os : List ℕ) where
+  pub back-residues : {b : Bool} → (b ≡ true) ↔ ResiduesStand (booksOf (getD cs 0 0) bs) (getD cs 2 0) rs ps → not b ≡ true
+      → (false ≡ true) ↔ BackStand channels cs bs rs ps ms os
+  back-residues p n = iff-false (λ s. refuted p n (s .residue-tables))
 
-  module _ (y₁ : not b₁ ≡ false) {b₂ : Bool} (p₂ : (b₂ ≡ true) ↔ MappingsStand (knownBy channels cs) (getD cs 3 0) ms) where
-    pub back-mappings : not b₂ ≡ true → (false ≡ true) ↔ BackStand channels cs bs rs ps ms os
-    back-mappings n = iff-false (λ s. refuted p₂ n (s .mapping-table))
+  pub back-mappings : {b : Bool} → (b ≡ true) ↔ MappingsStand (knownBy channels cs) (getD cs 3 0) ms → not b ≡ true
+      → (false ≡ true) ↔ BackStand channels cs bs rs ps ms os
+  back-mappings p n = iff-false (λ s. refuted p n (s .mapping-table))
 
-    pub back-end : not b₂ ≡ false → {b₃ : Bool} → (b₃ ≡ true) ↔ ModesStand (getD cs 3 0) (getD cs 4 0) os → (b₃ ≡ true) ↔ BackStand channels cs bs rs ps ms os
-    back-end y₂ p₃ = ((λ t. record { residue-tables = shown p₁ y₁; mapping-table = shown p₂ y₂; mode-table = p₃ .0 t }), (λ s. p₃ .1 (s .mode-table)))
+  pub back-end : {b₁ b₂ b₃ : Bool} → (b₁ ≡ true) ↔ ResiduesStand (booksOf (getD cs 0 0) bs) (getD cs 2 0) rs ps → not b₁ ≡ false
+      → (b₂ ≡ true) ↔ MappingsStand (knownBy channels cs) (getD cs 3 0) ms → not b₂ ≡ false
+      → (b₃ ≡ true) ↔ ModesStand (getD cs 3 0) (getD cs 4 0) os → (b₃ ≡ true) ↔ BackStand channels cs bs rs ps ms os
+  back-end p₁ y₁ p₂ y₂ p₃ = ((λ t. record { residue-tables = shown p₁ y₁; mapping-table = shown p₂ y₂; mode-table = p₃ .0 t }), (λ s. p₃ .1 (s .mode-table)))
 
 -- the counts behind their test
 pub counts-known : (cs : List ℕ) {b : Bool} → (b ≡ true) ↔ CountsStand cs → not b ≡ false → CountsStand cs
 counts-known cs p y = shown p y
 
 -- all ten tables
-module _ (limits : Limits) (channels : ℕ) (cs bs ls ws vs fs rs ps ms os : List ℕ) {b₀ : Bool} (e₀ : b₀ ≡ hasRoom limits (tables cs bs ls ws vs fs rs ps ms os)) where
-  room-said : (b₀ ≡ true) ↔ (hasRoom limits (tables cs bs ls ws vs fs rs ps ms os) ≡ true)
-  room-said = ((λ t. sym e₀ ∙ t), (λ t. e₀ ∙ t))
+module _ (limits : Limits) (channels : ℕ) (cs bs ls ws vs fs rs ps ms os : List ℕ) where
+  room-said : {b : Bool} → b ≡ hasRoom limits (tables cs bs ls ws vs fs rs ps ms os) → (b ≡ true) ↔ (hasRoom limits (tables cs bs ls ws vs fs rs ps ms os) ≡ true)
+  room-said e = ((λ t. sym e ∙ t), (λ t. e ∙ t))
 
-  pub sound-room : not b₀ ≡ true → (false ≡ true) ↔ Sound limits channels (tables cs bs ls ws vs fs rs ps ms os)
-  sound-room n = iff-false (λ s. refuted room-said n (s .room))
+  pub sound-room : {b : Bool} → b ≡ hasRoom limits (tables cs bs ls ws vs fs rs ps ms os) → not b ≡ true
+      → (false ≡ true) ↔ Sound limits channels (tables cs bs ls ws vs fs rs ps ms os)
+  sound-room e n = iff-false (λ s. refuted (room-said e) n (s .room))
 
-  module _ (y₀ : not b₀ ≡ false) {b₁ : Bool} (p₁ : (b₁ ≡ true) ↔ CountsStand cs) where
-    pub sound-counts : not b₁ ≡ true → (false ≡ true) ↔ Sound limits channels (tables cs bs ls ws vs fs rs ps ms os)
-    sound-counts n = iff-false (λ s. refuted p₁ n (sound-parts limits channels _ s .numbers))
+  pub sound-counts : {b : Bool} → (b ≡ true) ↔ CountsStand cs → not b ≡ true → (false ≡ true) ↔ Sound limits channels (tables cs bs ls ws vs fs rs ps ms os)
+  sound-counts p n = iff-false (λ s. refuted p n (sound-parts limits channels _ s .numbers))
 
-    module _ (y₁ : not b₁ ≡ false) {b₂ : Bool} (p₂ : (b₂ ≡ true) ↔ FrontStand limits cs bs ls ws vs fs) where
-      pub sound-front : not b₂ ≡ true → (false ≡ true) ↔ Sound limits channels (tables cs bs ls ws vs fs rs ps ms os)
-      sound-front n = iff-false (λ s. refuted p₂ n (sound-parts limits channels _ s .front))
+  pub sound-front : {b : Bool} → (b ≡ true) ↔ FrontStand limits cs bs ls ws vs fs → not b ≡ true
+      → (false ≡ true) ↔ Sound limits channels (tables cs bs ls ws vs fs rs ps ms os)
+  sound-front p n = iff-false (λ s. refuted p n (sound-parts limits channels _ s .front))
 
-      pub sound-end : not b₂ ≡ false → {b₃ : Bool} → (b₃ ≡ true) ↔ BackStand channels cs bs rs ps ms os → (b₃ ≡ true) ↔ Sound limits channels (tables cs bs ls ws vs fs rs ps ms os)
-      sound-end y₂ p₃ = (
-        (λ t. parts-sound limits channels _ (record { room = shown room-said y₀; numbers = shown p₁ y₁; front = shown p₂ y₂; back = p₃ .0 t })),
-        (λ s. p₃ .1 (sound-parts limits channels _ s .back)),
-      )
+  pub sound-end : {b₀ b₁ b₂ b₃ : Bool} → b₀ ≡ hasRoom limits (tables cs bs ls ws vs fs rs ps ms os) → not b₀ ≡ false
+      → (b₁ ≡ true) ↔ CountsStand cs → not b₁ ≡ false → (b₂ ≡ true) ↔ FrontStand limits cs bs ls ws vs fs → not b₂ ≡ false
+      → (b₃ ≡ true) ↔ BackStand channels cs bs rs ps ms os → (b₃ ≡ true) ↔ Sound limits channels (tables cs bs ls ws vs fs rs ps ms os)
+  sound-end e₀ y₀ p₁ y₁ p₂ y₂ p₃ = (
+    (λ t. parts-sound limits channels _ (record { room = shown (room-said e₀) y₀; numbers = shown p₁ y₁; front = shown p₂ y₂; back = p₃ .0 t })),
+    (λ s. p₃ .1 (sound-parts limits channels _ s .back)),
+  )

@@ -89,48 +89,48 @@ module _ (limits : Limits) (channels : ℕ) (t : Tables) where
           modes = p .back .mode-table .items;
         }
 
-    b : length (p .front .book-tables .content) ≡ getD (t .counts) 0 0
-    b = p .front .book-tables .counted
+    book-number : length (p .front .book-tables .content) ≡ getD (t .counts) 0 0
+    book-number = p .front .book-tables .counted
 
-    f : length (p .front .floor-table .content) ≡ getD (t .counts) 1 0
-    f = p .front .floor-table .counted
+    floor-number : length (p .front .floor-table .content) ≡ getD (t .counts) 1 0
+    floor-number = p .front .floor-table .counted
 
-    r : length (p .back .residue-tables .content) ≡ getD (t .counts) 2 0
-    r = p .back .residue-tables .holds .count
+    residue-number : length (p .back .residue-tables .content) ≡ getD (t .counts) 2 0
+    residue-number = p .back .residue-tables .holds .count
 
-    m : length (p .back .mapping-table .items) ≡ getD (t .counts) 3 0
-    m = p .back .mapping-table .number
+    mapping-number : length (p .back .mapping-table .items) ≡ getD (t .counts) 3 0
+    mapping-number = p .back .mapping-table .number
 
-    o : length (p .back .mode-table .items) ≡ getD (t .counts) 4 0
-    o = p .back .mode-table .number
+    mode-number : length (p .back .mode-table .items) ≡ getD (t .counts) 4 0
+    mode-number = p .back .mode-table .number
 
     books-same : booksOf (getD (t .counts) 0 0) (t .books) ≡ booksKnown (p .front .book-tables .content)
-    books-same = books-are (getD (t .counts) 0 0) (t .books) (p .front .book-tables .content) (sym b) (p .numbers .books .high) (p .front .book-tables .books-room) (p .front .book-tables .book-rows)
+    books-same = books-are (getD (t .counts) 0 0) (t .books) (p .front .book-tables .content) (sym book-number) (p .numbers .books .high) (p .front .book-tables .books-room) (p .front .book-tables .book-rows)
 
     whole-valid : ValidSetup limits channels whole
     whole-valid =
         record {
-          book-count = subst (Counted 256) (sym b) (p .numbers .books);
+          book-count = subst (Counted 256) (sym book-number) (p .numbers .books);
           books = p .front .book-tables .valid;
-          floor-count = subst (Counted 64) (sym f) (p .numbers .floors);
-          floors = subst (λ (n : ℕ). Each (ValidFloor n) (p .front .floor-table .content)) (sym b) (floors-each _ _ (p .front .floor-table .valid));
-          residue-count = subst (Counted 64) (sym r) (p .numbers .residues);
+          floor-count = subst (Counted 64) (sym floor-number) (p .numbers .floors);
+          floors = subst (λ (n : ℕ). Each (ValidFloor n) (p .front .floor-table .content)) (sym book-number) (floors-each _ _ (p .front .floor-table .valid));
+          residue-count = subst (Counted 64) (sym residue-number) (p .numbers .residues);
           residues = subst (λ (k : Books). Each (ValidResidue k) (p .back .residue-tables .content)) books-same (residues-each _ _ (p .back .residue-tables .holds .valid));
-          mapping-count = subst (Counted 64) (sym m) (p .numbers .mappings);
+          mapping-count = subst (Counted 64) (sym mapping-number) (p .numbers .mappings);
           mappings =
               subst (λ (k : Known). Each (ValidMapping k) (p .back .mapping-table .items))
-              (known-is channels (t .counts) (p .front .floor-table .content) (p .back .residue-tables .content) (sym f) (sym r))
+              (known-is channels (t .counts) (p .front .floor-table .content) (p .back .residue-tables .content) (sym floor-number) (sym residue-number))
               (p .back .mapping-table .valid);
-          mode-count = subst (Counted 64) (sym o) (p .numbers .modes);
-          modes = subst (λ (n : ℕ). Each (ValidMode n) (p .back .mode-table .items)) (sym m) (p .back .mode-table .valid);
+          mode-count = subst (Counted 64) (sym mode-number) (p .numbers .modes);
+          modes = subst (λ (n : ℕ). Each (ValidMode n) (p .back .mode-table .items)) (sym mapping-number) (p .back .mode-table .valid);
         }
 
     whole-written : t ≡ writtenOut whole t
     unfolding writtenOut layout
     whole-written =
         let room = room-parts limits t (p .room) in
-        let c : t .counts ≡ pad (length (t .counts)) (five (length (p .front .book-tables .content)) (length (p .front .floor-table .content)) (length (p .back .residue-tables .content)) (length (p .back .mapping-table .items)) (length (p .back .mode-table .items))) =
-        five-written (t .counts) (room .counts) (p .numbers .zeros) ∙ (λ j. pad (length (t .counts)) (five (sym b j) (sym f j) (sym r j) (sym m j) (sym o j))) in
+        let c : t .counts ≡ pad (length (t .counts)) (five (length (whole .books)) (length (whole .floors)) (length (whole .residues)) (length (whole .mappings)) (length (whole .modes))) =
+        five-written (t .counts) (room .counts) (p .numbers .zeros) ∙ (λ j. pad (length (t .counts)) (five (sym book-number j) (sym floor-number j) (sym residue-number j) (sym mapping-number j) (sym mode-number j))) in
         λ j.
         tables
         (c j)

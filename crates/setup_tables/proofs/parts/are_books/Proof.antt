@@ -11,7 +11,7 @@ are-books-requires : tie.Need-are-books-requires
 are-books-requires c κs = search books-asked
 
 returns : tie.Need-returns
-returns c = search books-said
+returns c = books-said _ _ _ _ _ (c .before .get-u32 .ensures) (c .are-books .ensures .0)
 
 pub are-books-spec : {M : Type 1} → statement M
 are-books-spec = tie.close (tie.spec get-u32-requires are-books-requires returns)

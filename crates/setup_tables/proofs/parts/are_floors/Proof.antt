@@ -17,7 +17,7 @@ are-floors-requires : tie.Need-are-floors-requires
 are-floors-requires c κs = search (few-books, few-floors)
 
 returns : tie.Need-returns
-returns c = search floors-said
+returns c = floors-said _ (c .before .get-u322 .ensures) (c .before .before .before .get-u32 .ensures) (c .before .before .wide .ensures) (c .are-floors .ensures)
 
 pub are-floors-spec : {M : Type 1} → statement M
 are-floors-spec = tie.close (tie.spec get-u32-requires wide-requires get-u32-requires-2 are-floors-requires returns)

@@ -8,13 +8,13 @@ are-books-requires : tie.Need-are-books-requires
 are-books-requires c κs = search needs
 
 returns : tie.Need-returns
-returns c = search front-books
+returns c = front-books _ _ _ _ _ _ _ (c .before .are-books .ensures) (c .if1 .taken)
 
 are-floors-requires : tie.Need-are-floors-requires
 are-floors-requires c κs = search needs
 
 returns-2 : tie.Need-returns-2
-returns-2 c = search front-end
+returns-2 c = front-end _ _ _ _ _ _ _ (c .before .before .are-books .ensures) (c .before .if1 .left) (c .are-floors .ensures)
 
 pub are-front-spec : {M : Type 1} → statement M
 are-front-spec = tie.close (tie.spec are-books-requires returns are-floors-requires returns-2)

@@ -20,7 +20,7 @@ are-mappings-requires : tie.Need-are-mappings-requires
 are-mappings-requires c κs = search few-mappings
 
 returns : tie.Need-returns
-returns c = search mappings-said
+returns c = mappings-said _ _ (c .before .before .before .before .get-u32 .ensures) (c .before .before .before .get-u322 .ensures) (c .before .before .get-u323 .ensures) (c .before .wide .ensures) (c .are-mappings .ensures)
 
 pub are-mappings-spec : {M : Type 1} → statement M
 are-mappings-spec = tie.close (tie.spec get-u32-requires get-u32-requires-2 get-u32-requires-3 wide-requires are-mappings-requires returns)

@@ -17,7 +17,7 @@ are-modes-requires : tie.Need-are-modes-requires
 are-modes-requires c κs = search few-modes
 
 returns : tie.Need-returns
-returns c = search modes-said
+returns c = modes-said _ (c .before .get-u322 .ensures) (c .before .before .before .get-u32 .ensures) (c .before .before .wide .ensures) (c .are-modes .ensures)
 
 pub are-modes-spec : {M : Type 1} → statement M
 are-modes-spec = tie.close (tie.spec get-u32-requires wide-requires get-u32-requires-2 are-modes-requires returns)

@@ -14,7 +14,7 @@ are-residues-requires : tie.Need-are-residues-requires
 are-residues-requires c κs = search few-residues
 
 returns : tie.Need-returns
-returns c = search residues-said
+returns c = residues-said _ _ _ _ _ (c .before .before .get-u32 .ensures) (c .before .get-u322 .ensures) (c .are-residues .ensures .0)
 
 pub are-residues-spec : {M : Type 1} → statement M
 are-residues-spec = tie.close (tie.spec get-u32-requires get-u32-requires-2 are-residues-requires returns)
