@@ -19,6 +19,7 @@
 //! | residues | [`residue`] |
 //! | mappings and modes | [`mapping`] |
 //! | setup packet, its content's rules | [`setup`], [`rules`] |
+//! | content as tables, and content from them | [`tables`], [`recognise`] |
 //! | audio packet, tally | [`audio`] |
 //! | record files, the tool's lines | [`records`], [`lines`] |
 //! | Ogg pages | [`ogg`] |
@@ -39,10 +40,12 @@ pub mod limits;
 pub mod lines;
 pub mod mapping;
 pub mod ogg;
+pub mod recognise;
 pub mod records;
 pub mod refusal;
 pub mod residue;
 pub mod rules;
 pub mod setup;
 pub mod space;
+pub mod tables;
 pub mod write;

@@ -1,12 +1,10 @@
 //! Audio packets: refusals, floors, residues and the tally (01, "Audio order").
 
-mod support;
-
 use second::audio::{audio, live_channels, Answer, Tally, Window};
+use second::generate::fields::{base, pack, Field, Fields, IDENTITY};
 use second::identification::Identity;
 use second::limits::Limits;
 use second::setup::{setup, Setup};
-use support::{base, pack, Field, Fields, IDENTITY};
 
 const MONO: Identity = Identity { channels: 1, ..IDENTITY };
 

@@ -1,17 +1,15 @@
 //! The figures of 01, "Figures to check against", and those in its rules.
 
-mod support;
-
 use second::audio::{audio, Tally, Window};
 use second::bits::{ilog, read_field, Cursor};
 use second::book::{lookup1_values, read_codeword, verdict, Verdict};
 use second::floor::{curve, final_y, point_on_line, range, unwrap_value};
+use second::generate::fields::{base, pack, Field, Fields, IDENTITY};
 use second::identification::Identity;
 use second::ledger::{self, Codeword, Ledger};
 use second::limits::Limits;
 use second::setup::setup;
 use second::space::CodeSpace;
-use support::{base, pack, Field, IDENTITY};
 
 /// The example of 002.
 const EXAMPLE: [u8; 8] = [2, 4, 4, 4, 4, 2, 3, 3];
@@ -246,7 +244,7 @@ fn both_sides_of_16384_entries_in_all() {
             &run,
         )
     };
-    let cut = |fields: support::Fields| fields.replacing("minimum 1", "multiplicand 1 1", &[]);
+    let cut = |fields: Fields| fields.replacing("minimum 1", "multiplicand 1 1", &[]);
     assert_eq!(cut(second(8_192)).number(), 13, "the plan's book has no values");
     let third = [("pattern 2", second::book::PATTERN, 24), ("dimensions 2", 1, 16), ("entries 2", 1, 24)];
     let three = second(8_192).with(&[("books", 2)]).replacing("minimum 1", "times", &third);
@@ -269,7 +267,7 @@ fn both_sides_of_16384_multiplicands() {
 }
 
 /// So many explicit X values in partitions of one class.
-fn floor_with(dimensions: u32, partitions: usize, x_values: &[u32]) -> support::Fields {
+fn floor_with(dimensions: u32, partitions: usize, x_values: &[u32]) -> Fields {
     let classes = std::iter::repeat_n(("partition class", 0, 4), partitions).collect::<Vec<Field>>();
     let x_values = x_values.iter().map(|&x| ("x", x, 15)).collect::<Vec<Field>>();
     base()

@@ -1,11 +1,9 @@
 //! Refusals of identification packets (01, rows 1 to 5 and 14).
 
-mod support;
-
+use second::generate::fields::IDENTITY;
 use second::identification::{identification, Identity};
 use second::limits::Limits;
 use second::write::write_identification;
-use support::IDENTITY;
 
 fn packet(change: impl Fn(&mut Vec<u8>)) -> Vec<u8> {
     let mut bytes = write_identification(&IDENTITY).bytes;

@@ -1,11 +1,9 @@
 //! Refusals of setup packets (01, "When the packet is sent back") and their order.
 
-mod support;
-
+use second::generate::fields::{base, Field, Fields, IDENTITY};
 use second::identification::Identity;
 use second::limits::Limits;
 use second::setup::setup;
-use support::{base, Field, Fields, IDENTITY};
 
 /// The number and place of the refusal, place given as a field's name.
 fn assert_refused(fields: &Fields, number: u8, place: &str) {

@@ -1,11 +1,9 @@
 //! The tool's lines (01, "The tool reads standard input as records").
 
-mod support;
-
+use second::generate::fields::{base, IDENTITY};
 use second::lines::write_lines;
 use second::records::{write_record, Kind};
 use second::write::write_identification;
-use support::{base, IDENTITY};
 
 fn lines(input: &[u8]) -> String {
     let mut output = Vec::new();

@@ -9,13 +9,15 @@ use crate::floor::{curve, final_y, range};
 use crate::generate::packet::AudioPacket;
 use crate::generate::random::Random;
 use crate::generate::{spoilt, Stream};
-use crate::identification::identification;
+use crate::identification::{identification, Identity};
 use crate::ledger;
 use crate::limits::Limits;
 use crate::lines::{CURVE_BYTES, WORD_PLACES};
+use crate::recognise::recognise;
 use crate::refusal::Refusal;
 use crate::rules::meets_every_rule;
 use crate::setup::{setup, Setup};
+use crate::tables::tables;
 use crate::write::{write_setup, BitWriter};
 
 /// Books above this size are compared with the plain ledger only now and then.
@@ -101,11 +103,13 @@ impl Check {
             let answer = read.as_ref().map(|_| "other content");
             format!("setup read as {answer:?}: {}", hex(whole))
         })?;
+        check_tables(&stream.identity, &stream.content)?;
         for packet in spoilt(&stream.setup, random) {
             let read = setup(&stream.identity, &packet, limits);
             self.seen.packets.add(&read);
             check_place(&packet, &read)?;
             if let Ok(content) = &read {
+                check_tables(&stream.identity, content)?;
                 let good = meets_every_rule(content, &stream.identity, limits);
                 claim(good, || format!("setup accepted against the rules: {}", hex(&packet)))?;
                 let rewritten = write_setup(content, stream.identity.channels, random);
@@ -292,6 +296,12 @@ impl Check {
         }
         Ok(())
     }
+}
+
+/// A setup's tables are recognised as those of its content.
+fn check_tables(identity: &Identity, content: &Setup) -> Result<(), String> {
+    let recognised = recognise(identity, &tables(content));
+    claim(recognised.as_ref() == Some(content), || format!("tables hold {recognised:?}, not {content:?}"))
 }
 
 /// What a whole packet gave.

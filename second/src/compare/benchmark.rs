@@ -5,13 +5,22 @@
 //! The second program makes new lists where it gives any.
 
 use crate::floor::{random_floor, Points};
+use crate::identification::in_library_form;
+use crate::lent::TablesMut;
 use crate::{codewords, library};
 use second::book::verdict;
 use second::floor::{curve, final_y, range};
 use second::generate::content::complete_lengths;
 use second::generate::random::Random;
-use second::identification::identification;
+use second::identification::{identification, Identity};
+use second::limits::Limits;
+use second::ogg;
+use second::recognise::recognise;
+use second::records::Kind;
+use second::setup::setup;
+use second::tables::tables;
 use std::error::Error;
+use std::fs;
 use std::hint::black_box;
 use std::time::Instant;
 
@@ -20,6 +29,9 @@ const PACKET: [u8; 30] = [
     1, 0x76, 0x6F, 0x72, 0x62, 0x69, 0x73, 0, 0, 0, 0, 1, 0x40, 0x1F, 0, 0, 0, 0, 0, 0, 0, 0, 0, 0, 0, 0, 0,
     0, 0xB8, 1,
 ];
+
+/// A common stereo stream, which `run` has made.
+const STREAM: &str = "streams/build/made/channels-2-q4.ogg";
 
 /// Settles every random input.
 const SEED: u64 = 20;
@@ -38,7 +50,7 @@ pub fn run(input: &str, side: &str, times: &str) -> Result<(), Box<dyn Error>> {
         "second" => Side::Second,
         _ => return Err(format!("no side {side}").into()),
     };
-    let mut call = call(input, side).ok_or(format!("no input {input}"))?;
+    let mut call = call(input, side)?;
     let start = Instant::now();
     for _ in 0..times {
         call();
@@ -47,15 +59,17 @@ pub fn run(input: &str, side: &str, times: &str) -> Result<(), Box<dyn Error>> {
     Ok(())
 }
 
-fn call(input: &str, side: Side) -> Option<Box<dyn FnMut()>> {
-    match input {
-        "identification" => Some(identification_call(side)),
-        "codewords" => Some(codewords_call(side)),
-        "points" => Some(points_call(side)),
-        "curve1024" => Some(curve_call(side, 1_024)),
-        "curve4096" => Some(curve_call(side, 4_096)),
-        _ => None,
-    }
+fn call(input: &str, side: Side) -> Result<Box<dyn FnMut()>, Box<dyn Error>> {
+    Ok(match input {
+        "identification" => identification_call(side),
+        "codewords" => codewords_call(side),
+        "points" => points_call(side),
+        "curve1024" => curve_call(side, 1_024),
+        "curve4096" => curve_call(side, 4_096),
+        "setup" => setup_call(side)?,
+        "setup_sound" => setup_sound_call(side)?,
+        _ => return Err(format!("no input {input}").into()),
+    })
 }
 
 fn identification_call(side: Side) -> Box<dyn FnMut()> {
@@ -133,4 +147,50 @@ fn curve_call(side: Side, half: usize) -> Box<dyn FnMut()> {
             black_box(curve(black_box(&wide_x), &wide_y, &set, multiplier.into(), half));
         }),
     }
+}
+
+/// Identity and setup packet of the stereo stream.
+fn stereo() -> Result<(Identity, Vec<u8>), Box<dyn Error>> {
+    let file = fs::read(STREAM).map_err(|fault| format!("{STREAM}: {fault}"))?;
+    let packets = ogg::packets(&file)?;
+    let mut identity = None;
+    for (kind, packet) in ogg::kinds(&packets)? {
+        match (kind, identity) {
+            (Kind::Identification, _) => {
+                identity = Some(identification(&packet.body).map_err(|fault| format!("{fault:?}"))?);
+            }
+            (Kind::Setup, Some(identity)) => return Ok((identity, packet.body.clone())),
+            _ => {}
+        }
+    }
+    Err(format!("{STREAM} has no setup").into())
+}
+
+/// The library clears and fills tables of the fixed need; the second program makes content.
+fn setup_call(side: Side) -> Result<Box<dyn FnMut()>, Box<dyn Error>> {
+    let (identity, packet) = stereo()?;
+    let form = in_library_form(&identity);
+    let mut lent = tables(&setup(&identity, &packet, &Limits::BASE).map_err(|fault| format!("{fault:?}"))?);
+    Ok(match side {
+        Side::Library => Box::new(move || {
+            black_box(library::setup(form, black_box(&packet), TablesMut::from(black_box(&mut lent))));
+        }),
+        Side::Second => Box::new(move || {
+            black_box(setup(&identity, black_box(&packet), &Limits::BASE)).ok();
+        }),
+    })
+}
+
+fn setup_sound_call(side: Side) -> Result<Box<dyn FnMut()>, Box<dyn Error>> {
+    let (identity, packet) = stereo()?;
+    let form = in_library_form(&identity);
+    let tables = tables(&setup(&identity, &packet, &Limits::BASE).map_err(|fault| format!("{fault:?}"))?);
+    Ok(match side {
+        Side::Library => Box::new(move || {
+            black_box(library::setup_sound(form, black_box(&tables)));
+        }),
+        Side::Second => Box::new(move || {
+            black_box(recognise(&identity, black_box(&tables)));
+        }),
+    })
 }

@@ -5,6 +5,9 @@
 
 #![allow(unsafe_code)]
 
+use crate::lent::TablesMut;
+use second::tables::Tables;
+
 /// As the library has it: block sizes apart, channels of 32 bits.
 #[repr(C)]
 #[derive(Clone, Copy, Debug, PartialEq, Eq)]
@@ -23,6 +26,16 @@ pub struct Identity {
 pub struct IdentityAnswer {
     pub refusal: u32,
     pub identity: Identity,
+}
+
+/// An entry, and the place behind its codeword; all zero beside a refusal.
+#[repr(C)]
+#[derive(Clone, Copy, Debug, PartialEq, Eq)]
+pub struct CodewordAnswer {
+    pub refusal: u32,
+    pub entry: u32,
+    pub byte: usize,
+    pub bit: u8,
 }
 
 #[link(name = "reader", kind = "static")]
@@ -52,6 +65,82 @@ extern "C" {
         out: *mut u8,
         out_count: usize,
     ) -> bool;
+    fn torchvalley_setup(
+        identity: Identity,
+        packet: *const u8,
+        packet_length: usize,
+        counts: *mut u32,
+        counts_length: usize,
+        books: *mut u32,
+        books_length: usize,
+        lengths: *mut u8,
+        lengths_length: usize,
+        codewords: *mut u32,
+        codewords_length: usize,
+        multiplicands: *mut u16,
+        multiplicands_length: usize,
+        floors: *mut u16,
+        floors_length: usize,
+        residues: *mut u32,
+        residues_length: usize,
+        plans: *mut u16,
+        plans_length: usize,
+        mappings: *mut u8,
+        mappings_length: usize,
+        modes: *mut u8,
+        modes_length: usize,
+    ) -> u32;
+    fn torchvalley_setup_sound(
+        identity: Identity,
+        counts: *const u32,
+        counts_length: usize,
+        books: *const u32,
+        books_length: usize,
+        lengths: *const u8,
+        lengths_length: usize,
+        codewords: *const u32,
+        codewords_length: usize,
+        multiplicands: *const u16,
+        multiplicands_length: usize,
+        floors: *const u16,
+        floors_length: usize,
+        residues: *const u32,
+        residues_length: usize,
+        plans: *const u16,
+        plans_length: usize,
+        mappings: *const u8,
+        mappings_length: usize,
+        modes: *const u8,
+        modes_length: usize,
+    ) -> bool;
+    fn torchvalley_codeword(
+        identity: Identity,
+        counts: *const u32,
+        counts_length: usize,
+        books: *const u32,
+        books_length: usize,
+        lengths: *const u8,
+        lengths_length: usize,
+        codewords: *const u32,
+        codewords_length: usize,
+        multiplicands: *const u16,
+        multiplicands_length: usize,
+        floors: *const u16,
+        floors_length: usize,
+        residues: *const u32,
+        residues_length: usize,
+        plans: *const u16,
+        plans_length: usize,
+        mappings: *const u8,
+        mappings_length: usize,
+        modes: *const u8,
+        modes_length: usize,
+        book: u32,
+        packet: *const u8,
+        packet_length: usize,
+        byte: usize,
+        bit: u8,
+    ) -> CodewordAnswer;
 }
 
 pub fn identification(packet: &[u8]) -> IdentityAnswer {
@@ -99,6 +188,107 @@ pub fn floor_curve(x: &[u16], y: &[u8], flags: &[u8], multiplier: u8, out: &mut 
             multiplier,
             out.as_mut_ptr(),
             out.len(),
+        )
+    }
+}
+
+pub fn setup(identity: Identity, packet: &[u8], tables: TablesMut) -> u32 {
+    // SAFETY: as above; the tables are ten slices.
+    unsafe {
+        torchvalley_setup(
+            identity,
+            packet.as_ptr(),
+            packet.len(),
+            tables.counts.as_mut_ptr(),
+            tables.counts.len(),
+            tables.books.as_mut_ptr(),
+            tables.books.len(),
+            tables.lengths.as_mut_ptr(),
+            tables.lengths.len(),
+            tables.codewords.as_mut_ptr(),
+            tables.codewords.len(),
+            tables.multiplicands.as_mut_ptr(),
+            tables.multiplicands.len(),
+            tables.floors.as_mut_ptr(),
+            tables.floors.len(),
+            tables.residues.as_mut_ptr(),
+            tables.residues.len(),
+            tables.plans.as_mut_ptr(),
+            tables.plans.len(),
+            tables.mappings.as_mut_ptr(),
+            tables.mappings.len(),
+            tables.modes.as_mut_ptr(),
+            tables.modes.len(),
+        )
+    }
+}
+
+pub fn setup_sound(identity: Identity, tables: &Tables) -> bool {
+    // SAFETY: as above; nothing is written.
+    unsafe {
+        torchvalley_setup_sound(
+            identity,
+            tables.counts.as_ptr(),
+            tables.counts.len(),
+            tables.books.as_ptr(),
+            tables.books.len(),
+            tables.lengths.as_ptr(),
+            tables.lengths.len(),
+            tables.codewords.as_ptr(),
+            tables.codewords.len(),
+            tables.multiplicands.as_ptr(),
+            tables.multiplicands.len(),
+            tables.floors.as_ptr(),
+            tables.floors.len(),
+            tables.residues.as_ptr(),
+            tables.residues.len(),
+            tables.plans.as_ptr(),
+            tables.plans.len(),
+            tables.mappings.as_ptr(),
+            tables.mappings.len(),
+            tables.modes.as_ptr(),
+            tables.modes.len(),
+        )
+    }
+}
+
+pub fn codeword(
+    identity: Identity,
+    tables: &Tables,
+    book: u32,
+    packet: &[u8],
+    byte: usize,
+    bit: u8,
+) -> CodewordAnswer {
+    // SAFETY: as above; nothing is written.
+    unsafe {
+        torchvalley_codeword(
+            identity,
+            tables.counts.as_ptr(),
+            tables.counts.len(),
+            tables.books.as_ptr(),
+            tables.books.len(),
+            tables.lengths.as_ptr(),
+            tables.lengths.len(),
+            tables.codewords.as_ptr(),
+            tables.codewords.len(),
+            tables.multiplicands.as_ptr(),
+            tables.multiplicands.len(),
+            tables.floors.as_ptr(),
+            tables.floors.len(),
+            tables.residues.as_ptr(),
+            tables.residues.len(),
+            tables.plans.as_ptr(),
+            tables.plans.len(),
+            tables.mappings.as_ptr(),
+            tables.mappings.len(),
+            tables.modes.as_ptr(),
+            tables.modes.len(),
+            book,
+            packet.as_ptr(),
+            packet.len(),
+            byte,
+            bit,
         )
     }
 }

@@ -6,21 +6,26 @@
 //! | `torchvalley_identity_sound` | [`sound`] |
 //! | `torchvalley_codewords` | [`codewords`] |
 //! | `torchvalley_floor_points`, `torchvalley_floor_curve` | [`floor`] |
+//! | `torchvalley_setup` | [`setup`] |
+//! | `torchvalley_setup_sound` | [`setup_sound`] |
+//! | `torchvalley_codeword` | [`codeword`] |
 //!
 //! A call that joins the library is declared in [`library`], gets a case in
 //! [`report::Call`] with its answers, a module with `round`, and its place in [`rounds`]
-//! and in [`streams`]: the setup call where a stream's books are taken from its content,
-//! the audio call where floors are taken from its packets.
+//! and in [`streams`]: the audio call where floors are taken from its packets.
 
 #![deny(unsafe_code)]
 
 mod benchmark;
+mod codeword;
 mod codewords;
 mod floor;
 mod identification;
 mod lent;
 mod library;
 mod report;
+mod setup;
+mod setup_sound;
 mod sound;
 mod streams;
 
@@ -66,7 +71,7 @@ fn calls(seed: &str, count: &str) -> Outcome {
     println!("{report}");
     match &report.missing()[..] {
         [] => Ok(()),
-        missing => Err(format!("never given on both sides: {}", missing.join(", ")).into()),
+        missing => Err(format!("not given twice on both sides: {}", missing.join(", ")).into()),
     }
 }
 
@@ -76,6 +81,7 @@ fn rounds(seed: u64, count: u64, report: &mut Report) -> Result<u64, String> {
     let with_seed = |seed: u64| move |fault: String| format!("seed {seed}: {fault}");
     sound::boundaries(&mut Random::new(seed), report).map_err(with_seed(seed))?;
     codewords::boundaries(report).map_err(with_seed(seed))?;
+    setup::boundaries(&mut Random::new(seed), report).map_err(with_seed(seed))?;
     let mut rounds = 0;
     while rounds == 0 || report.calls() < count {
         let seed = seed.wrapping_add(rounds);
@@ -89,7 +95,8 @@ fn round(random: &mut Random, report: &mut Report) -> Result<(), String> {
     identification::round(random, report)?;
     sound::round(random, report)?;
     codewords::round(random, report)?;
-    floor::round(random, report)
+    floor::round(random, report)?;
+    setup::round(random, report)
 }
 
 fn streams_of(lists: &[&str]) -> Outcome {
@@ -98,9 +105,10 @@ fn streams_of(lists: &[&str]) -> Outcome {
     for pair in lists.chunks_exact(2) {
         streams::list(&fs::read_to_string(pair[0])?, Path::new(pair[1]), report, &mut seen)?;
     }
-    let streams::Seen { streams, absent, books, floors } = seen;
+    let streams::Seen { streams, absent, setups, setups_accepted, books, floors } = seen;
     println!(
-        "compare: streams {streams}, not at hand {absent}, books {books}, floors {floors}, no difference"
+        "compare: streams {streams}, not at hand {absent}, setups {setups} ({setups_accepted} accepted), \
+         books {books}, floors {floors}, no difference"
     );
     println!("{report}");
     Ok(())

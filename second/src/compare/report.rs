@@ -28,11 +28,22 @@ pub enum Call {
     Codewords,
     FloorPoints,
     FloorCurve,
+    Setup,
+    SetupSound,
+    Codeword,
 }
 
 impl Call {
-    pub const ALL: [Call; 5] =
-        [Call::Identification, Call::IdentitySound, Call::Codewords, Call::FloorPoints, Call::FloorCurve];
+    pub const ALL: [Call; 8] = [
+        Call::Identification,
+        Call::IdentitySound,
+        Call::Codewords,
+        Call::FloorPoints,
+        Call::FloorCurve,
+        Call::Setup,
+        Call::SetupSound,
+        Call::Codeword,
+    ];
 
     pub fn name(self) -> &'static str {
         match self {
@@ -41,15 +52,20 @@ impl Call {
             Call::Codewords => "codewords",
             Call::FloorPoints => "floor_points",
             Call::FloorCurve => "floor_curve",
+            Call::Setup => "setup",
+            Call::SetupSound => "setup_sound",
+            Call::Codeword => "codeword",
         }
     }
 
-    /// Every answer the call can give; a run has to see each.
+    /// Every answer the call can give; a run has to see each twice.
     fn answers(self) -> Vec<Answer> {
         match self {
             Call::Identification => [0, 1, 2, 3, 4, 5, 14].map(Answer::Number).to_vec(),
             Call::Codewords => [0, 7, 8, 17].map(Answer::Number).to_vec(),
-            Call::IdentitySound | Call::FloorPoints | Call::FloorCurve => {
+            Call::Setup => [0, 1, 2, 5, 6, 7, 8, 9, 10, 11, 12, 13, 14, 17, 18].map(Answer::Number).to_vec(),
+            Call::Codeword => [0, 1, 11, 18].map(Answer::Number).to_vec(),
+            Call::IdentitySound | Call::FloorPoints | Call::FloorCurve | Call::SetupSound => {
                 [true, false].map(Answer::Holds).to_vec()
             }
         }
@@ -95,10 +111,10 @@ impl Report {
         Err(format!("{} of {}\n  library {library:?}\n  second  {second:?}", call.name(), input()))
     }
 
-    /// Answers that a side has never given.
+    /// Answers that a side has not given twice.
     pub fn missing(&self) -> Vec<String> {
         let pairs = Call::ALL.into_iter().flat_map(|call| call.answers().into_iter().map(move |a| (call, a)));
-        let seen = |pair| self.given.get(&pair).is_some_and(|sides| !sides.contains(&0));
+        let seen = |pair| self.given.get(&pair).is_some_and(|sides| sides.iter().all(|&times| times >= 2));
         pairs.filter(|&pair| !seen(pair)).map(|(call, answer)| format!("{} {answer}", call.name())).collect()
     }
 }

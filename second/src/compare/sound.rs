@@ -11,27 +11,25 @@ const CHANNELS: [u32; 17] =
 const RATES: [u32; 7] = [0, 1, 2, 8_000, 1 << 16, 1 << 31, u32::MAX];
 const BITRATES: [i32; 6] = [i32::MIN, -1, 0, 1, 64_000, i32::MAX];
 
-/// The second program's answer. Its channels are a byte, as the packet has them; a
-/// greater number is above 8 all the same.
-fn second_answer(identity: &Identity) -> bool {
-    u8::try_from(identity.channels).is_ok_and(|channels| {
-        let identity = identification::Identity {
-            channels,
-            rate: identity.rate,
-            bitrate_maximum: identity.bitrate_maximum,
-            bitrate_nominal: identity.bitrate_nominal,
-            bitrate_minimum: identity.bitrate_minimum,
-            block_sizes: [identity.blocksize0, identity.blocksize1],
-        };
-        identity.is_sound(&Limits::BASE)
-    })
+/// The identity in the second program's form, where that finds it sound. Its channels are
+/// a byte, as the packet has them; a greater number is above 8 all the same.
+pub fn if_sound(identity: &Identity) -> Option<identification::Identity> {
+    let identity = identification::Identity {
+        channels: identity.channels.try_into().ok()?,
+        rate: identity.rate,
+        bitrate_maximum: identity.bitrate_maximum,
+        bitrate_nominal: identity.bitrate_nominal,
+        bitrate_minimum: identity.bitrate_minimum,
+        block_sizes: [identity.blocksize0, identity.blocksize1],
+    };
+    identity.is_sound(&Limits::BASE).then_some(identity)
 }
 
 /// Hands one identity to both.
 pub fn identity(identity: Identity, report: &mut Report) -> Result<(), String> {
     let given = |sound| Given { answer: Answer::Holds(sound), left: () };
     let library = given(library::identity_sound(identity));
-    let second = given(second_answer(&identity));
+    let second = given(if_sound(&identity).is_some());
     report.compare(Call::IdentitySound, &library, &second, || format!("{identity:x?}"))
 }
 
@@ -61,21 +59,25 @@ pub fn boundaries(random: &mut Random, report: &mut Report) -> Result<(), String
 
 /// One round: identities of which one, two or no numbers may be unsound.
 pub fn round(random: &mut Random, report: &mut Report) -> Result<(), String> {
-    let sizes = block_sizes();
     for _ in 0..200 {
         let mut tried = sound(random);
         for _ in 0..random.below(3) {
-            match random.below(5) {
-                0 => tried.channels = *random.pick(&CHANNELS),
-                1 => tried.rate = *random.pick(&RATES),
-                2 => tried.blocksize0 = *random.pick(&sizes),
-                3 => tried.blocksize1 = *random.pick(&sizes),
-                _ => (tried.blocksize0, tried.blocksize1) = (tried.blocksize1, tried.blocksize0),
-            }
+            change(&mut tried, random);
         }
         identity(tried, report)?;
     }
     Ok(())
+}
+
+/// Puts another number into one place, or swaps the block sizes.
+pub fn change(identity: &mut Identity, random: &mut Random) {
+    match random.below(5) {
+        0 => identity.channels = *random.pick(&CHANNELS),
+        1 => identity.rate = *random.pick(&RATES),
+        2 => identity.blocksize0 = *random.pick(&block_sizes()),
+        3 => identity.blocksize1 = *random.pick(&block_sizes()),
+        _ => (identity.blocksize0, identity.blocksize1) = (identity.blocksize1, identity.blocksize0),
+    }
 }
 
 fn sound(random: &mut Random) -> Identity {

@@ -1,18 +1,20 @@
-//! Published streams: their identification packets, the lengths of their books, and the
-//! floors of their audio packets, read by the second program.
+//! Published streams: their identification and setup packets, the tables and the books of
+//! their setups, and codewords and floors of their audio packets.
 //!
 //! A list is that of `second check streams`. What is not at hand is counted.
 
 use crate::floor::Points;
+use crate::identification::in_library_form;
+use crate::lent::Rooms;
 use crate::report::Report;
-use crate::{codewords, floor, identification, sound};
+use crate::{codeword, codewords, floor, identification, setup, setup_sound, sound};
 use second::audio::floor_values;
 use second::generate::random::Random;
 use second::identification::Identity;
-use second::limits::Limits;
 use second::ogg;
 use second::records::Kind;
-use second::setup::{setup, Setup};
+use second::setup::Setup;
+use second::tables::{tables, Tables};
 use std::fs;
 use std::path::Path;
 
@@ -23,6 +25,14 @@ pub struct Seen {
     pub absent: u64,
     pub books: u64,
     pub floors: u64,
+    pub setups: u64,
+    pub setups_accepted: u64,
+}
+
+/// A setup's content and its tables.
+struct Held {
+    content: Setup,
+    tables: Tables,
 }
 
 /// Compares on all streams of a list that are at hand.
@@ -40,20 +50,22 @@ pub fn list(list: &str, folder: &Path, report: &mut Report, seen: &mut Seen) -> 
 fn stream(file: &[u8], report: &mut Report, seen: &mut Seen) -> Result<(), String> {
     let packets = ogg::packets(file)?;
     let mut identity = None;
-    let mut content = None;
+    let mut held = None;
+    let random = &mut Random::new(file.len() as u64);
+    let rooms = &mut Rooms::default();
     seen.streams += 1;
     for (kind, packet) in ogg::kinds(&packets)? {
-        match (kind, &identity, &content) {
+        match (kind, &identity, &held) {
             (Kind::Identification, ..) => identity = Some(identification_packet(&packet.body, report)?),
             (Kind::Setup, Some(identity), _) => {
-                content = setup(identity, &packet.body, &Limits::BASE).ok();
-                for book in content.iter().flat_map(|content| &content.books) {
-                    codewords::lengths(book.lengths(), report)?;
-                    seen.books += 1;
-                }
+                held = setup_packet(identity, &packet.body, random, rooms, report, seen)?;
             }
-            (Kind::Audio, Some(identity), Some(content)) => {
+            (Kind::Audio, Some(identity), Some(Held { content, tables })) => {
                 audio_packet(identity, content, &packet.body, report, seen)?;
+                if random.one_in(16) {
+                    let place = &codeword::place(content, &packet.body, random);
+                    codeword::read(in_library_form(identity), tables, Some(content), place, report)?;
+                }
             }
             _ => {}
         }
@@ -66,6 +78,31 @@ fn identification_packet(packet: &[u8], report: &mut Report) -> Result<Identity,
     let identity = second::identification::identification(packet).map_err(|fault| format!("{fault:?}"))?;
     sound::identity(identification::in_library_form(&identity), report)?;
     Ok(identity)
+}
+
+/// The packet, what can be made of it, its tables and its books.
+fn setup_packet(
+    identity: &Identity,
+    packet: &[u8],
+    random: &mut Random,
+    rooms: &mut Rooms,
+    report: &mut Report,
+    seen: &mut Seen,
+) -> Result<Option<Held>, String> {
+    let form = in_library_form(identity);
+    seen.setups += 1;
+    let Some(content) = setup::around(form, packet, random, rooms, report)? else {
+        return Ok(None);
+    };
+    seen.setups_accepted += 1;
+    for book in &content.books {
+        codewords::lengths(book.lengths(), report)?;
+        seen.books += 1;
+    }
+    setup_sound::around(form, &content, 4, random, report)?;
+    codeword::around(form, &content, 4, random, report)?;
+    let tables = tables(&content);
+    Ok(Some(Held { content, tables }))
 }
 
 fn audio_packet(

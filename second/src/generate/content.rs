@@ -45,6 +45,51 @@ pub fn setup(random: &mut Random, identity: &Identity) -> Setup {
     Setup { books, floors, residues, mappings, modes }
 }
 
+/// A setup with as many of everything as there may be: 256 books, 64 floors, residues,
+/// mappings and modes, plans without an empty place, 256 coupling steps, 16 submaps.
+pub fn largest_setup(random: &mut Random, identity: &Identity) -> Setup {
+    let channels = identity.channels;
+    let mut books: Vec<Book> = (0..255).map(|_| make_book(random, 1, vec![0, 1], 1)).collect();
+    books.push(make_book(random, 1, vec![6; 64], 2));
+    let numbers: Vec<u8> = (0..=u8::MAX).collect();
+    let mut residue = || Residue {
+        residue_type: random.below(3),
+        begin: random.below(1 << 23),
+        end: 0xFF_FFFF,
+        partition_size: 1 << random.below(25),
+        class_book: 255,
+        plan: (0..64).map(|_| std::array::from_fn(|_| Some(*random.pick(&numbers)))).collect(),
+    };
+    let residues = (0..64).map(|_| residue()).collect();
+    let steps = if channels > 1 { 256 } else { 0 };
+    let mut mapping = || Mapping {
+        couplings: (0..steps).map(|_| coupling(random, channels)).collect(),
+        multiplex: (0..channels).map(|_| random.below(16) as u8).collect(),
+        submaps: (0..16)
+            .map(|_| Submap { floor: random.below(64) as u8, residue: random.below(64) as u8 })
+            .collect(),
+    };
+    let mappings = (0..64).map(|_| mapping()).collect();
+    Setup {
+        floors: (0..64).map(|_| largest_floor(random, books.len())).collect(),
+        books,
+        residues,
+        mappings,
+        modes: (0..64).map(|mapping| Mode { long_block: random.one_in(2), mapping }).collect(),
+    }
+}
+
+/// 31 partitions, 16 classes, 65 X values up to 2^15.
+fn largest_floor(random: &mut Random, books: usize) -> Floor {
+    let classes = (0..16).map(|number| Class { dimensions: 2 + number / 15, ..class(random, books) });
+    let classes: Vec<Class> = classes.collect();
+    let mut partition_classes: Vec<u8> = (0..30).map(|_| random.below(15) as u8).collect();
+    partition_classes.push(15);
+    let multiplier = random.between(1, 4);
+    let x_list = x_list(random, 15, GREATEST_X_COUNT - 2);
+    Floor::new(partition_classes, classes, multiplier, 15, x_list).expect("different X between the first two")
+}
+
 /// Mostly one to three, now and then up to `most`.
 fn few(random: &mut Random, most: u32) -> std::ops::Range<u32> {
     let most = if random.one_in(10) { most } else { most.min(3) };

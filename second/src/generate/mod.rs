@@ -1,6 +1,7 @@
 //! Random streams: sound ones of great variety, and spoilt packets of each kind.
 
 pub mod content;
+pub mod fields;
 pub mod packet;
 pub mod random;
 

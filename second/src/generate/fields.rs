@@ -1,13 +1,12 @@
-//! A small setup packet as a list of named fields, to be changed field by field.
+//! A small setup packet as a list of named fields, to be changed field by field: the rules'
+//! tests and the comparisons spoil it.
 
-#![allow(dead_code)]
-
-use second::book::PATTERN;
-use second::identification::Identity;
-use second::limits::Limits;
-use second::refusal::Refusal;
-use second::setup::{setup, Setup};
-use second::write::BitWriter;
+use crate::book::PATTERN;
+use crate::identification::Identity;
+use crate::limits::Limits;
+use crate::refusal::Refusal;
+use crate::setup::{setup, Setup};
+use crate::write::BitWriter;
 
 /// Three channels, blocks of 64 and 128.
 pub const IDENTITY: Identity = Identity {
