@@ -107,8 +107,6 @@ module _ (limits : Limits) (i : Identity) (s : List ℕ) (t : Tables) {x : Bool}
           rw (sound-test (limits .channels) i .1 is-sound, has-room)
           (record { step = l .step; lies = λ x g. l .lies x g ∙ ap (writtenOut (x .0)) q ∙ same-written (x .0) (cleared-same t) })
 
-pub ruleset checked-laws = (needs, identity-unsound, no-room, ready-now, checked-read)
-
 -- what a call comes to
 call-whole : (limits : Limits) (i : Identity) (s : List ℕ) (t : Tables) → setupOf limits i s t ≡ then (checkedPart limits i s t) (λ x. ok (x .0))
 unfolding setupOf checkedPart

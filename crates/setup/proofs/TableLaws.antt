@@ -75,8 +75,6 @@ module _ (limits : Limits) (c b l w m f r p a o : List ℕ) where
                       unfolding hasRoom
                       roomy = rw (le-leb _ _ h0, le-leb _ _ h1, le-leb _ _ h2, le-leb _ _ h3, le-leb _ _ h4, le-leb _ _ h5, le-leb _ _ h6, le-leb _ _ h7, le-leb _ _ h8, le-leb _ _ h9) refl
 
-pub ruleset room-laws = (needs, small0, small1, small2, small3, small4, small5, small6, small7, small8, small9, roomy)
-
 -- each table cleared is all of them cleared
 module _ (c b l w m f r p a o : List ℕ) {c′ b′ l′ w′ m′ f′ r′ p′ a′ o′ : List ℕ} where
   pub all-cleared : c′ ≡ replicate (length c) 0 → b′ ≡ replicate (length b) 0 → l′ ≡ replicate (length l) 0 → w′ ≡ replicate (length w) 0 → m′ ≡ replicate (length m) 0 → f′ ≡ replicate (length f) 0 → r′ ≡ replicate (length r) 0 → p′ ≡ replicate (length p) 0 → a′ ≡ replicate (length a) 0 → o′ ≡ replicate (length o) 0

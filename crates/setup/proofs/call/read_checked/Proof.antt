@@ -1,5 +1,5 @@
 use mathlib.Core.Path.{_∙_}
-use Rattle.setup.proofs.CallLaws.{checked-laws, ready-now, checked-read}
+use Rattle.setup.proofs.CallLaws.{identity-unsound, no-room, ready-now, checked-read}
 use borrow.Author.Needs.{needs}
 use Rattle.setup.proofs.call.read_checked.Statement.{statement}
 use Rattle.setup.proofs.call.read_checked.Tie as tie
@@ -21,7 +21,7 @@ beside-requires c κs = search needs
 
 -- src/call.rt:47:9
 returns : tie.Need-returns
-returns c = search checked-laws
+returns c = search identity-unsound
 
 -- src/call.rt:49:9
 have-room-requires : tie.Need-have-room-requires
@@ -73,7 +73,7 @@ same-length-10 c = search needs
 
 -- src/call.rt:62:9
 returns-2 : tie.Need-returns-2
-returns-2 c = search checked-laws
+returns-2 c = search no-room
 
 -- src/call.rt:64:5
 clear-requires : tie.Need-clear-requires

@@ -1,4 +1,4 @@
-use Rattle.setup.proofs.SectionLaws.{time-laws}
+use Rattle.setup.proofs.SectionLaws.{time-wrong, time-cut, time-read}
 use borrow.Author.Needs.{needs}
 use Rattle.setup.proofs.sections.read_time_value.Statement.{statement}
 use Rattle.setup.proofs.sections.read_time_value.Tie as tie
@@ -20,15 +20,15 @@ enum-known-value c = search needs
 
 -- src/sections.rt:81:17
 returns : tie.Need-returns
-returns c = search time-laws
+returns c = search time-wrong
 
 -- src/sections.rt:74:1
 returns-2 : tie.Need-returns-2
-returns-2 c = search time-laws
+returns-2 c = search time-cut
 
 -- src/sections.rt:74:1
 returns-3 : tie.Need-returns-3
-returns-3 c = search time-laws
+returns-3 c = search time-read
 
 pub read-time-value-spec : {M : Type 1} → statement M
 read-time-value-spec =

@@ -90,7 +90,7 @@ same-length-10 c = search needs
 
 -- src/tables.rt:59:1
 returns : tie.Need-returns
-returns c = search (needs, all-cleared)
+returns c = search all-cleared
 
 pub clear-spec : {M : Type 1} → statement M
 clear-spec =
