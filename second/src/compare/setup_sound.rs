@@ -354,12 +354,11 @@ pub fn boundaries(random: &mut Random, report: &mut Report) -> Result<(), String
             }
             tables.set(table, place, old);
         }
-        for place in [filled(&content)[table], NEEDS[table] - 1] {
-            if place >= filled(&content)[table] && place < NEEDS[table] {
-                tables.set(table, place, random.below(255) + 1);
-                ask(identity, tables, report, || format!("{} behind the content", NAMES[table]))?;
-                tables.set(table, place, 0);
-            }
+        let behind = filled(&content)[table]..NEEDS[table];
+        for place in [behind.start, behind.end - 1].into_iter().filter(|place| behind.contains(place)) {
+            tables.set(table, place, random.below(255) + 1);
+            ask(identity, tables, report, || format!("{} behind the content", NAMES[table]))?;
+            tables.set(table, place, 0);
         }
     }
     Ok(())
