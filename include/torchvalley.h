@@ -49,6 +49,75 @@ struct torchvalley_identity_answer torchvalley_identification(const uint8_t *pac
 /* Whether an identity is sound: refusals 4 and 14 would not refuse it. Every accepted identity is. */
 bool torchvalley_identity_sound(struct torchvalley_identity identity);
 
+/* The tables of a setup are ten lists, which docs/TABLES.md draws. Each has a fixed need of so many numbers; a longer one is as good, and has zeros
+ * behind what is written:
+ *
+ *   counts              5  how many books, floors, residues, mappings and modes there are
+ *   books           2,560  10 for each book
+ *   lengths        16,384  one for each entry of all books
+ *   codewords      16,384  one for each entry of all books
+ *   multiplicands  16,384
+ *   floors         17,728  277 for each floor
+ *   residues          384  6 for each residue
+ *   plans          32,768  512 for each residue
+ *   mappings       51,456  804 for each mapping
+ *   modes             128  2 for each mode */
+
+/* Reads the setup packet of a stream whose identification packet gave `identity`. The answer is 0, and then the tables hold the packet's content and
+ * are sound with the identity; or the number of a refusal, and then every table is all zero:
+ *    1  the packet ends before a bit that is needed
+ *    2  the type byte is not 5, or the name not "vorbis"
+ *    5  the framing bit is 0
+ *    6  a codebook has a wrong pattern, no dimension, no entry, a run past its entries, an ordered length above 32 or an unknown lookup type
+ *    7  a codeword's length asks for more code space than is free
+ *    8  a codebook leaves code space over; but a sole used entry of length 1 is accepted
+ *    9  a time value, mapping type, reserved field, window type or transform type is not 0
+ *   10  the type of a floor is above 1, or that of a residue above 2
+ *   11  a codebook, channel, submap, floor, residue or mapping is named that is not there, or a channel is coupled with itself
+ *   12  a floor has more than 65 X values, or two equal ones
+ *   13  a residue begins after its end, has more classifications than its class book can name, a vector book without values, or a partition that its
+ *       vectors do not fill
+ *   14  more than 8,192 entries in a codebook, 16,384 entries or 16,384 multiplicands in all; or a floor of type 0
+ *   17  a table is shorter than its fixed need
+ *   18  the identity is not sound
+ * 18 goes before 17, and 17 before all others, of which the first in reading order is given. Bits after the framing bit are ignored. */
+uint32_t torchvalley_setup(struct torchvalley_identity identity, const uint8_t *packet, size_t packet_length, uint32_t *counts, size_t counts_length,
+                           uint32_t *books, size_t books_length, uint8_t *lengths, size_t lengths_length, uint32_t *codewords,
+                           size_t codewords_length, uint16_t *multiplicands, size_t multiplicands_length, uint16_t *floors, size_t floors_length,
+                           uint32_t *residues, size_t residues_length, uint16_t *plans, size_t plans_length, uint8_t *mappings,
+                           size_t mappings_length, uint8_t *modes, size_t modes_length);
+
+/* Whether identity and tables are sound: the identity is, and the tables are the writing-out of some content that meets every rule for its channels.
+ * Tables as an accepted packet left them are, with the identity of that call; tables that are too short or all zero are not. */
+bool torchvalley_setup_sound(struct torchvalley_identity identity, const uint32_t *counts, size_t counts_length, const uint32_t *books,
+                             size_t books_length, const uint8_t *lengths, size_t lengths_length, const uint32_t *codewords,
+                             size_t codewords_length, const uint16_t *multiplicands, size_t multiplicands_length, const uint16_t *floors,
+                             size_t floors_length, const uint32_t *residues, size_t residues_length, const uint16_t *plans,
+                             size_t plans_length, const uint8_t *mappings, size_t mappings_length, const uint8_t *modes, size_t modes_length);
+
+struct torchvalley_codeword {
+    /* 0 where a codeword was read. Else why none was, and all below is zero:
+     *    1  the packet ends before a bit that is needed, or the place asked for lies past its end
+     *   11  there is no such book
+     *   18  identity or tables are not sound, a table shorter than its fixed need among them
+     * 18 goes before 11, and 11 before 1. */
+    uint32_t refusal;
+    /* The number of the entry that was read, and the place behind its codeword: bit 8 * byte + bit of the packet. */
+    uint32_t entry;
+    size_t byte;
+    uint8_t bit;
+};
+
+/* Reads one codeword of book number `book` of the tables, in any packet, from bit 8 * byte + bit of it on. Bit 0 is the lowest of its byte, and a bit
+ * above 7 counts on into the next bytes. A sole used entry takes no bit, and is there at the packet's end too. */
+struct torchvalley_codeword torchvalley_codeword(struct torchvalley_identity identity, const uint32_t *counts, size_t counts_length,
+                                                 const uint32_t *books, size_t books_length, const uint8_t *lengths, size_t lengths_length,
+                                                 const uint32_t *codewords, size_t codewords_length, const uint16_t *multiplicands,
+                                                 size_t multiplicands_length, const uint16_t *floors, size_t floors_length,
+                                                 const uint32_t *residues, size_t residues_length, const uint16_t *plans, size_t plans_length,
+                                                 const uint8_t *mappings, size_t mappings_length, const uint8_t *modes, size_t modes_length,
+                                                 uint32_t book, const uint8_t *packet, size_t packet_length, size_t byte, uint8_t bit);
+
 /* Hands out the codewords of a book. `lengths` has the length of each of its entries, 1 to 32, or 0 for an unused one; `words` gets a number for
  * each entry: its codeword, whose leftmost bit is the highest of as many bits as the length says, or 0 for an unused one. In entry order each is
  * the lowest that is free. The answer is 0, or the number of a refusal, and then `words` is all zero:
