@@ -35,7 +35,7 @@ pub extern "C" fn torchvalley_setup(
     ensures { λ r. ⌜ left r (tables (now (counts .exit)) (now (books .exit)) (now (lengths .exit)) (now (codewords .exit)) (now (multiplicands .exit)) (now (floors .exit)) (now (residues .exit)) (now (plans .exit)) (now (mappings .exit)) (now (modes .exit))) ≡ setupCall standard identity (now (packet .entry)) (tables (now (counts .entry)) (now (books .entry)) (now (lengths .entry)) (now (codewords .entry)) (now (multiplicands .entry)) (now (floors .entry)) (now (residues .entry)) (now (plans .entry)) (now (mappings .entry)) (now (modes .entry))) ⌝ }
     ensures { λ _. ⌜ AcceptedSound standard identity (now (packet .entry)) (tables (now (counts .entry)) (now (books .entry)) (now (lengths .entry)) (now (codewords .entry)) (now (multiplicands .entry)) (now (floors .entry)) (now (residues .entry)) (now (plans .entry)) (now (mappings .entry)) (now (modes .entry))) ⌝ }
 {
-    setup::call::read_setup(
+    setup_call::read_setup(
         packet,
         identity,
         Limits::standard(),

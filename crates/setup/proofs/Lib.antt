@@ -3,7 +3,5 @@ pub mod SectionLaws
 pub mod PartLaws
 pub mod TableLaws
 pub mod BookLinks
-pub mod ContentLaws
 pub mod Whole
-pub mod CallLaws
 pub mod ValidLaws

@@ -29,7 +29,7 @@ pub fn are_sound(
     ensures { λ r. ⌜ (r ≡ true) ↔ Sound limits channels (tables (now (counts .entry)) (now (books .entry)) (now (lengths .entry)) (now (words .entry)) (now (multiplicands .entry)) (now (floors .entry)) (now (residues .entry)) (now (plans .entry)) (now (mappings .entry)) (now (modes .entry))) ⌝ }
     ensures { λ _. ⌜ OneContent limits channels (tables (now (counts .entry)) (now (books .entry)) (now (lengths .entry)) (now (words .entry)) (now (multiplicands .entry)) (now (floors .entry)) (now (residues .entry)) (now (plans .entry)) (now (mappings .entry)) (now (modes .entry))) ⌝ }
 {
-    if !setup::tables::have_room(
+    if !setup_lent::have_room(
         limits,
         counts,
         books,

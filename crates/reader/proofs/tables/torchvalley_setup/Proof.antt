@@ -5,7 +5,7 @@ use Rattle.reader.proofs.tables.torchvalley_setup.Tie as tie
 use Rattle.reader.proofs.tables.torchvalley_setup.Reads as reads
 use Rattle.reader.proofs.tables.torchvalley_setup.Lts as lts
 use Rattle.limits.proofs.Limits.standard.Reads as standard-reads
-use Rattle.setup.proofs.call.read_setup.Reads as read-setup-reads
+use Rattle.setup_call.proofs.read_setup.Reads as read-setup-reads
 
 -- src/tables.rt:41:9
 standard-requires : tie.Need-standard-requires
