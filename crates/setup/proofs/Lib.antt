@@ -4,4 +4,5 @@ pub mod PartLaws
 pub mod TableLaws
 pub mod BookLinks
 pub mod Whole
+pub mod Numbers
 pub mod ValidLaws

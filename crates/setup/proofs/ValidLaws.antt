@@ -42,6 +42,7 @@ use Rattle.setup.specs.Sound.{Counted, ValidSetup, Sound}
 use Rattle.setup.specs.Call.{setupOf}
 use Rattle.setup.specs.Accepted.{AcceptedSound}
 use Rattle.setup.proofs.TableLaws.{room-parts}
+use Rattle.setup.proofs.Numbers.{call-numbered, not-zero}
 
 -- a fact of all, as each crate states it, is one of each
 floors-each : (books : ℕ) (fs : List Floor) → ValidFloors books fs → Each (ValidFloor books) fs
@@ -189,4 +190,4 @@ unsound-zeros limits channels t x = go (length (t .counts)) (ap (λ (u : Tables)
 
 pub accepts : (limits : Limits) (i : Identity) (s : List ℕ) (t : Tables) → AcceptedSound limits i s t
 unfolding accepted-sound
-accepts limits i s t = record { sound = λ c e. (accepted-sound limits i s t e, refl); cleared-unsound = unsound-zeros limits (i .channels) t }
+accepts limits i s t = record { sound = λ c e. (accepted-sound limits i s t e, refl); cleared-unsound = unsound-zeros limits (i .channels) t; numbered = λ z e. not-zero (call-numbered limits i s t) e }

@@ -1,8 +1,8 @@
 -- What an accepted setup comes to (01, "What the reader takes and gives": which tables a later call accepts).
-use Prim.Native.Nat.{ℕ}
+use Prim.Native.Nat.{ℕ, _≤_}
 use mathlib.Core.List.{List}
 use mathlib.Core.Path.{_≡_}
-use Rattle.reading.specs.Outcome.{ok}
+use Rattle.reading.specs.Outcome.{Refusal, ok, bad}
 use Rattle.limits.specs.declared.Limits.{Limits}
 use Rattle.identification.specs.declared.Identity.{Identity}
 use Rattle.setup.specs.Content.{Setup}
@@ -15,3 +15,5 @@ pub record AcceptedSound (limits : Limits) (i : Identity) (s : List ℕ) (t : Ta
   pub sound : (c : Setup) → setupOf limits i s t ≡ ok c → (x : Sound limits (i .channels) (writtenOut c t)) × (x .content ≡ c)
   -- tables as a refusal leaves them are not
   pub cleared-unsound : Sound limits (i .channels) (cleared t) → ⊥
+  -- the number 0 stands for acceptance alone
+  pub numbered : (z : Refusal) → setupOf limits i s t ≡ bad z → 1 ≤ z .number
