@@ -1,10 +1,7 @@
+-- `book::number` meets its contract. Assumes nothing.
 use borrow.Author.Needs.{needs}
 use Rattle.book.proofs.number.Statement.{statement}
 use Rattle.book.proofs.number.Tie as tie
-use Rattle.book.proofs.number.Reads as reads
-use Rattle.book.proofs.number.Lts as lts
-use Rattle.book.proofs.wide.Reads as wide-reads
-use Rattle.reading.proofs.buffers.get_u32.Reads as get-u32-reads
 
 wide-requires : tie.Need-wide-requires
 wide-requires c κs = search needs

@@ -1,10 +1,8 @@
+-- `codebook::bit` meets its contract, by Bits. Assumes nothing.
 use borrow.Author.Needs.{needs}
 use Rattle.codebook.proofs.Bits.{bit-behind}
 use Rattle.codebook.proofs.bit.Statement.{statement}
 use Rattle.codebook.proofs.bit.Tie as tie
-use Rattle.codebook.proofs.bit.Reads as reads
-use Rattle.codebook.proofs.bit.Lts as lts
-use Rattle.codebook.proofs.wide.Reads as wide-reads
 
 wide-requires : tie.Need-wide-requires
 wide-requires c κs = search needs

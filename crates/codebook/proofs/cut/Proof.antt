@@ -1,9 +1,8 @@
+-- `codebook::cut` meets its contract. Assumes nothing.
 use mathlib.Core.Path.{refl}
 use Rattle.bits.specs.Cursors.{outcome}
 use Rattle.codebook.proofs.cut.Statement.{statement}
 use Rattle.codebook.proofs.cut.Tie as tie
-use Rattle.codebook.proofs.cut.Reads as reads
-use Rattle.codebook.proofs.cut.Lts as lts
 
 returns : tie.Need-returns
 unfolding outcome

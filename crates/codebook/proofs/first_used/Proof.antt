@@ -1,3 +1,4 @@
+-- `codebook::first_used` meets its contract, by Lone. Assumes nothing.
 use Prim.Native.Nat.{ℕ, _≤_, _<_, _-_}
 use mathlib.Core.Bool.{false}
 use mathlib.Core.Path.{_≡_, sym}
@@ -8,8 +9,6 @@ use Rattle.codespace.specs.Book.{isUsed}
 use Rattle.codebook.proofs.Lone.{used-passed, lone-there, first-is}
 use Rattle.codebook.proofs.first_used.Statement.{statement}
 use Rattle.codebook.proofs.first_used.Tie as tie
-use Rattle.codebook.proofs.first_used.Reads as reads
-use Rattle.codebook.proofs.first_used.Lts as lts
 
 abbrev Inv-loop : tie.InvT-loop
 Inv-loop lengths entry₀ entry = (entry ≤ length lengths) × ((u : ℕ) → u < entry → isUsed lengths u ≡ false)

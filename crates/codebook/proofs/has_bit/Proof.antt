@@ -1,10 +1,8 @@
+-- `codebook::has_bit` meets its contract, by Bits. Assumes nothing.
 use borrow.Author.Needs.{needs}
 use Rattle.codebook.proofs.Bits.{bit-past, bit-there}
 use Rattle.codebook.proofs.has_bit.Statement.{statement}
 use Rattle.codebook.proofs.has_bit.Tie as tie
-use Rattle.codebook.proofs.has_bit.Reads as reads
-use Rattle.codebook.proofs.has_bit.Lts as lts
-use Rattle.codebook.proofs.wide.Reads as wide-reads
 
 returns : tie.Need-returns
 returns c = bit-past _ _ _ _ (c .if1 .taken)

@@ -1,11 +1,8 @@
+-- `codebook::lone_entry` meets its contract, by Lone. Assumes nothing.
 use Rattle.codebook.proofs.Lone.{lone-laws}
 use borrow.Author.Needs.{needs}
 use Rattle.codebook.proofs.lone_entry.Statement.{statement}
 use Rattle.codebook.proofs.lone_entry.Tie as tie
-use Rattle.codebook.proofs.lone_entry.Reads as reads
-use Rattle.codebook.proofs.lone_entry.Lts as lts
-use Rattle.bits.proofs.Cursor.field.Reads as field-reads
-use Rattle.codebook.proofs.first_used.Reads as first-used-reads
 
 field-requires : tie.Need-field-requires
 field-requires c κs = search needs

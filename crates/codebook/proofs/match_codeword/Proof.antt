@@ -1,3 +1,4 @@
+-- `codebook::match_codeword` meets its contract, by Asked. Assumes nothing.
 use Prim.Native.Nat.{_-_}
 use native.Mathlib.Omega.{arith}
 use mathlib.Core.Logic.{⊎-elim}
@@ -7,13 +8,6 @@ use Rattle.codebook.proofs.Asked.{Taking, Searching, taken-one, length-
 use borrow.Author.Needs.{needs}
 use Rattle.codebook.proofs.match_codeword.Statement.{statement}
 use Rattle.codebook.proofs.match_codeword.Tie as tie
-use Rattle.codebook.proofs.match_codeword.Reads as reads
-use Rattle.codebook.proofs.match_codeword.Lts as lts
-use Rattle.codebook.proofs.behind.Reads as behind-reads
-use Rattle.codebook.proofs.bit.Reads as bit-reads
-use Rattle.codebook.proofs.cut.Reads as cut-reads
-use Rattle.codebook.proofs.has_bit.Reads as has-bit-reads
-use Rattle.codebook.proofs.wide.Reads as wide-reads
 
 abbrev Inv-entry : tie.InvT-entry
 Inv-entry packet from lengths words word taken entry₀ entry = Searching lengths words packet (position from) word taken entry

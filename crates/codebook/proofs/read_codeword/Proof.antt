@@ -1,12 +1,8 @@
+-- `codebook::read_codeword` meets its contract, by Laws. Assumes nothing.
 use borrow.Author.Needs.{needs}
 use Rattle.codebook.proofs.Laws.{by-lone, by-matching, lone-asked}
 use Rattle.codebook.proofs.read_codeword.Statement.{statement}
 use Rattle.codebook.proofs.read_codeword.Tie as tie
-use Rattle.codebook.proofs.read_codeword.Reads as reads
-use Rattle.codebook.proofs.read_codeword.Lts as lts
-use Rattle.codebook.proofs.lone_entry.Reads as lone-entry-reads
-use Rattle.codebook.proofs.match_codeword.Reads as match-codeword-reads
-use Rattle.codespace.proofs.book.is_lone.Reads as is-lone-reads
 
 is-lone-requires : tie.Need-is-lone-requires
 is-lone-requires c κs = search needs

@@ -1,8 +1,8 @@
 -- `floor_curve::draw_points` meets its contract. The loop keeps what is drawn: the curve up to a place at which a point lies (`DrawnUpTo`). Each turn moves right, since the next point lies right of that place. Assumes nothing.
 use Prim.Native.Nat.{ℕ, _+_, _-_, _≤_, _<_}
 use native.Mathlib.Omega.{arith}
-use mathlib.Core.Path.{_≡_, refl, sym, ap, _∙_}
-use lib.ListN.{length, getD}
+use mathlib.Core.Path.{_≡_, refl, _∙_}
+use lib.ListN.{length}
 use Rattle.floor_curve.proofs.CurveLaws.{DrawnUpTo, up-to-begin, up-to-line, up-to-flat, up-to-end, next-right}
 use borrow.Author.Needs.{needs}
 use Rattle.floor_curve.proofs.draw_points.Statement.{statement}

@@ -1,6 +1,5 @@
 -- `floor_examples::proved` meets its contract. By the table. Assumes nothing.
 use Rattle.floor_examples.proofs.Table.{figures-hold}
-use borrow.Author.Needs.{needs}
 use Rattle.floor_examples.proofs.proved.Statement.{statement}
 use Rattle.floor_examples.proofs.proved.Tie as tie
 

@@ -1,7 +1,7 @@
 -- `floor_points::final_y` meets its contract. Where the lists fit each other, the heights lent are as many as the X; each final Y times the multiplier is a byte. Assumes nothing.
 use Rattle.floor_points.proofs.FitLaws.{fit, prefix-length, ready, all-left, none-left, left-times}
 use native.Mathlib.Omega.{arith}
-use mathlib.Core.Path.{_≡_, refl, sym, ap, _∙_}
+use mathlib.Core.Path.{_≡_, sym, _∙_}
 use borrow.Author.Needs.{needs}
 use Rattle.floor_points.proofs.final_y.Statement.{statement}
 use Rattle.floor_points.proofs.final_y.Tie as tie

@@ -1,6 +1,6 @@
 -- `floor_points::fitting` meets its contract. Each return is one way out of the test. Assumes nothing.
 use native.Mathlib.Omega.{arith}
-use mathlib.Core.Path.{_≡_, refl, sym, ap, _∙_}
+use mathlib.Core.Path.{_≡_, sym, _∙_}
 use Rattle.floor_points.proofs.FitLaws.{few, many, no-range, other-values, other-y, other-flags}
 use borrow.Author.Needs.{needs}
 use Rattle.floor_points.proofs.fitting.Statement.{statement}

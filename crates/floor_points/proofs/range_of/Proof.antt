@@ -1,7 +1,6 @@
 -- `floor_points::range_of` meets its contract. Each return is one row of `rangeOf`. Assumes nothing.
 use native.Mathlib.Omega.{arith}
 use Rattle.floor_points.proofs.FitLaws.{range-1, range-2, range-3, range-4, range-none}
-use borrow.Author.Needs.{needs}
 use Rattle.floor_points.proofs.range_of.Statement.{statement}
 use Rattle.floor_points.proofs.range_of.Tie as tie
 

@@ -1,6 +1,6 @@
 -- `header::common_header` meets its contract. The loop's invariant: what is left of the opening gives the same as the whole. Assumes nothing.
 use Prim.Native.Nat.{_≤_, _-_, _*_, _<_}
-use mathlib.Core.Path.{_≡_, refl, sym, ap, _∙_}
+use mathlib.Core.Path.{_≡_, refl, _∙_}
 use native.Mathlib.Omega.{arith}
 use lib.ListN.{length, getD, drop}
 use borrow.Author.Needs.{needs}

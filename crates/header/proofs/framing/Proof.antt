@@ -1,5 +1,4 @@
 -- `header::framing` meets its contract: one law for each way out. Assumes nothing.
-use mathlib.Core.Path.{refl}
 use borrow.Author.Needs.{needs}
 use borrow.Author.Tests.{eq-eqb, ne-eqb}
 use Rattle.bits.specs.Cursors.{outcome}

@@ -1,15 +1,9 @@
+-- `mappings::read_mapping` meets its contract, by MappingLaws and CountLaws. Assumes nothing.
 use Rattle.mappings.proofs.MappingLaws.{type-cut, type-wrong, submap-count-refused, step-count-refused, parts-refused, mapping-whole}
 use Rattle.mappings.proofs.CountLaws.{submaps-few-here, steps-few-here}
 use borrow.Author.Needs.{needs}
 use Rattle.mappings.proofs.read_mapping.Statement.{statement}
 use Rattle.mappings.proofs.read_mapping.Tie as tie
-use Rattle.mappings.proofs.read_mapping.Reads as reads
-use Rattle.mappings.proofs.read_mapping.Lts as lts
-use Rattle.bits.proofs.Cursor.field.Reads as field-reads
-use Rattle.mappings.proofs.counts.read_coupling_count.Reads as read-coupling-count-reads
-use Rattle.mappings.proofs.counts.read_submap_count.Reads as read-submap-count-reads
-use Rattle.mappings.proofs.read_parts.Reads as read-parts-reads
-use Rattle.reading.proofs.buffers.write_u8.Reads as write-u8-reads
 
 field-requires : tie.Need-field-requires
 field-requires c κs = search needs

@@ -1,3 +1,4 @@
+-- `mappings::read_mappings` meets its contract, by MappingLaws. Assumes nothing.
 use Prim.Native.Nat.{_-_, _≤_}
 use mathlib.Core.Path.{_≡_}
 use lib.ListN.{length}
@@ -10,9 +11,6 @@ use Rattle.mappings.proofs.MappingLaws.{Reading, mappings-laws}
 use borrow.Author.Needs.{needs}
 use Rattle.mappings.proofs.read_mappings.Statement.{statement}
 use Rattle.mappings.proofs.read_mappings.Tie as tie
-use Rattle.mappings.proofs.read_mappings.Reads as reads
-use Rattle.mappings.proofs.read_mappings.Lts as lts
-use Rattle.mappings.proofs.read_mapping.Reads as read-mapping-reads
 
 abbrev Inv-loop : tie.InvT-loop
 Inv-loop packet count known mappings₀ k₀ i₀ mappings k i = (1 ≤ known .channels) × (known .channels ≤ 255) × (count ≤ 64) × (length mappings ≡ length mappings₀) × Reading known packet count (into (putRow mappingRow) (many (mapping known) count packet (position k₀)) (table mappings₀ 0)) i k mappings

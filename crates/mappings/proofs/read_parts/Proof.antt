@@ -1,13 +1,8 @@
+-- `mappings::read_parts` meets its contract, by MappingLaws. Assumes nothing.
 use Rattle.mappings.proofs.MappingLaws.{reserved-wrong, couplings-refused, reserved-cut, multiplexes-refused, parts-whole}
 use borrow.Author.Needs.{needs}
 use Rattle.mappings.proofs.read_parts.Statement.{statement}
 use Rattle.mappings.proofs.read_parts.Tie as tie
-use Rattle.mappings.proofs.read_parts.Reads as reads
-use Rattle.mappings.proofs.read_parts.Lts as lts
-use Rattle.bits.proofs.Cursor.field.Reads as field-reads
-use Rattle.mappings.proofs.couplings.read_couplings.Reads as read-couplings-reads
-use Rattle.mappings.proofs.submaps.read_multiplexes.Reads as read-multiplexes-reads
-use Rattle.mappings.proofs.submaps.read_submaps.Reads as read-submaps-reads
 
 read-couplings-requires : tie.Need-read-couplings-requires
 read-couplings-requires c κs = search needs

@@ -1,12 +1,8 @@
+-- `modes::read_mode` meets its contract, by ReadLaws. Assumes nothing.
 use Rattle.modes.proofs.ReadLaws.{mode-laws, mode-whole}
 use borrow.Author.Needs.{needs}
 use Rattle.modes.proofs.read_mode.Statement.{statement}
 use Rattle.modes.proofs.read_mode.Tie as tie
-use Rattle.modes.proofs.read_mode.Reads as reads
-use Rattle.modes.proofs.read_mode.Lts as lts
-use Rattle.bits.proofs.Cursor.bit.Reads as bit-reads
-use Rattle.bits.proofs.Cursor.field.Reads as field-reads
-use Rattle.reading.proofs.buffers.write_u8.Reads as write-u8-reads
 
 bit-requires : tie.Need-bit-requires
 bit-requires c κs = search needs

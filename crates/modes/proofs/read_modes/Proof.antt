@@ -1,3 +1,4 @@
+-- `modes::read_modes` meets its contract, by ReadLaws. Assumes nothing.
 use mathlib.Core.Path.{_≡_}
 use lib.ListN.{length}
 use Rattle.reading.specs.Reader.{many, into}
@@ -10,9 +11,6 @@ use Rattle.modes.proofs.ReadLaws.{Reading, modes-laws}
 use borrow.Author.Needs.{needs}
 use Rattle.modes.proofs.read_modes.Statement.{statement}
 use Rattle.modes.proofs.read_modes.Tie as tie
-use Rattle.modes.proofs.read_modes.Reads as reads
-use Rattle.modes.proofs.read_modes.Lts as lts
-use Rattle.modes.proofs.read_mode.Reads as read-mode-reads
 
 abbrev Inv-loop : tie.InvT-loop
 Inv-loop packet count mappings modes₀ k₀ i₀ modes k i = (count ≤ 64) × (length modes ≡ length modes₀) × Reading mappings packet count (into (putRow modeRow) (many (mode mappings) count packet (position k₀)) (table modes₀ 0)) i k modes

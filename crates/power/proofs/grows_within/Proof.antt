@@ -1,12 +1,10 @@
+-- `power::grows_within` meets its contract, by Laws. Assumes nothing.
 use Prim.Native.Nat.{_-_}
 use mathlib.Core.Path.{_≡_}
 use Rattle.power.proofs.Laws.{Growing, powers}
 use borrow.Author.Needs.{needs}
 use Rattle.power.proofs.grows_within.Statement.{statement}
 use Rattle.power.proofs.grows_within.Tie as tie
-use Rattle.power.proofs.grows_within.Reads as reads
-use Rattle.power.proofs.grows_within.Lts as lts
-use Rattle.power.proofs.times.Reads as times-reads
 
 abbrev Inv-loop : tie.InvT-loop
 Inv-loop base exponent bound most power₀ done₀ power done = (most ≡ bound) × Growing base exponent power done

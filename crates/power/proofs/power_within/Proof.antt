@@ -1,10 +1,8 @@
+-- `power::power_within` meets its contract, by Laws. Assumes nothing.
 use Rattle.power.proofs.Laws.{powers}
 use borrow.Author.Needs.{needs}
 use Rattle.power.proofs.power_within.Statement.{statement}
 use Rattle.power.proofs.power_within.Tie as tie
-use Rattle.power.proofs.power_within.Reads as reads
-use Rattle.power.proofs.power_within.Lts as lts
-use Rattle.power.proofs.grows_within.Reads as grows-within-reads
 
 returns : tie.Need-returns
 returns c = search powers

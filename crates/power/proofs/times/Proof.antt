@@ -1,9 +1,8 @@
+-- `power::times` meets its contract, by Laws. Assumes nothing.
 use Rattle.power.proofs.Laws.{powers}
 use borrow.Author.Needs.{needs}
 use Rattle.power.proofs.times.Statement.{statement}
 use Rattle.power.proofs.times.Tie as tie
-use Rattle.power.proofs.times.Reads as reads
-use Rattle.power.proofs.times.Lts as lts
 
 mul-result : tie.Need-mul-result
 mul-result c = search powers

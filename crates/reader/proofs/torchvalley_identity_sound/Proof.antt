@@ -1,5 +1,5 @@
 -- `reader::torchvalley_identity_sound` meets its contract: the test below, at the standard limits. Assumes nothing.
-use Rattle.reader.proofs.Laws.{door-laws, and-sound}
+use Rattle.reader.proofs.Laws.{door-laws}
 use Rattle.reader.proofs.torchvalley_identity_sound.Statement.{statement}
 use Rattle.reader.proofs.torchvalley_identity_sound.Tie as tie
 

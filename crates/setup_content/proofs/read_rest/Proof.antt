@@ -1,86 +1,63 @@
+-- `setup_content::read_rest` meets its contract, by ContentLaws. Assumes nothing.
 use Rattle.setup_content.proofs.ContentLaws.{rest-laws, rest-read}
 use borrow.Author.Needs.{needs}
 use Rattle.setup_content.proofs.read_rest.Statement.{statement}
 use Rattle.setup_content.proofs.read_rest.Tie as tie
-use Rattle.setup_content.proofs.read_rest.Reads as reads
-use Rattle.setup_content.proofs.read_rest.Lts as lts
-use Rattle.setup_content.proofs.read_framing.Reads as read-framing-reads
-use Rattle.setup_content.proofs.write_counts.Reads as write-counts-reads
-use Rattle.setup.proofs.parts.read_behind_books.Reads as read-behind-books-reads
 
--- src/content.rt:63:9
 read-behind-books-requires : tie.Need-read-behind-books-requires
 read-behind-books-requires c κs = search rest-laws
 
--- src/content.rt:75:5
 write-counts-requires : tie.Need-write-counts-requires
 write-counts-requires c κs = search needs
 
--- src/content.rt:85:23
 enum-known-step : tie.Need-enum-known-step
 enum-known-step c = search needs
 
--- src/content.rt:86:20
 enum-known-step-2 : tie.Need-enum-known-step-2
 enum-known-step-2 c = search needs
 
--- src/content.rt:86:35
 read-framing-requires : tie.Need-read-framing-requires
 read-framing-requires c κs = search rest-laws
 
--- src/content.rt:47:1
 same-length : tie.Need-same-length
 same-length c = search needs
 
--- src/content.rt:47:1
 same-length-2 : tie.Need-same-length-2
 same-length-2 c = search needs
 
--- src/content.rt:47:1
 same-length-3 : tie.Need-same-length-3
 same-length-3 c = search needs
 
--- src/content.rt:47:1
 same-length-4 : tie.Need-same-length-4
 same-length-4 c = search needs
 
--- src/content.rt:47:1
 same-length-5 : tie.Need-same-length-5
 same-length-5 c = search needs
 
--- src/content.rt:47:1
 same-length-6 : tie.Need-same-length-6
 same-length-6 c = search needs
 
--- src/content.rt:47:1
 returns : tie.Need-returns
 returns c = search rest-laws
 
--- src/content.rt:47:1
 same-length-7 : tie.Need-same-length-7
 same-length-7 c = search needs
 
--- src/content.rt:47:1
 same-length-8 : tie.Need-same-length-8
 same-length-8 c = search needs
 
--- src/content.rt:47:1
 same-length-9 : tie.Need-same-length-9
 same-length-9 c = search needs
 
--- src/content.rt:47:1
 same-length-10 : tie.Need-same-length-10
 same-length-10 c = search needs
 
--- src/content.rt:47:1
 same-length-11 : tie.Need-same-length-11
 same-length-11 c = search needs
 
--- src/content.rt:47:1
 same-length-12 : tie.Need-same-length-12
 same-length-12 c = search needs
 
--- src/content.rt:47:1
 returns-2 : tie.Need-returns-2
 returns-2 c = rest-read _ _ _ _ (c .before .before .before .before .before .before .before .before .before .before .before .before .before .before .before .before .before .before .read-behind-books .ensures) _ (c .before .before .before .before .before .before .before .before .before .before .before .before .before .before .before .before .before .before .before .before .before .before .before .before .before .before .before .before .before .before .before .before .pre .3) (c .before .before .before .before .before .before .write-counts .ensures) (c .before .before .step2 .given .1) (c .read-framing .ensures)
 

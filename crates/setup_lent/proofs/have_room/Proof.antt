@@ -1,64 +1,48 @@
+-- `setup_lent::have_room` meets its contract, by setup's TableLaws. Assumes nothing.
 use Rattle.setup.proofs.TableLaws.{small0, small1, small2, small3, small4, small5, small6, small7, small8, small9, roomy}
 use borrow.Author.Needs.{needs}
 use Rattle.setup_lent.proofs.have_room.Statement.{statement}
 use Rattle.setup_lent.proofs.have_room.Tie as tie
-use Rattle.setup_lent.proofs.have_room.Reads as reads
-use Rattle.setup_lent.proofs.have_room.Lts as lts
-use Rattle.setup_lent.proofs.wide.Reads as wide-reads
 
--- src/tables.rt:30:9
 returns : tie.Need-returns
 returns c = search small0
 
--- src/tables.rt:33:9
 returns-2 : tie.Need-returns-2
 returns-2 c = search small1
 
--- src/tables.rt:35:24
 wide-requires : tie.Need-wide-requires
 wide-requires c κs = search needs
 
--- src/tables.rt:36:9
 returns-3 : tie.Need-returns-3
 returns-3 c = search small2
 
--- src/tables.rt:38:22
 wide-requires-2 : tie.Need-wide-requires-2
 wide-requires-2 c κs = search needs
 
--- src/tables.rt:39:9
 returns-4 : tie.Need-returns-4
 returns-4 c = search small3
 
--- src/tables.rt:41:30
 wide-requires-3 : tie.Need-wide-requires-3
 wide-requires-3 c κs = search needs
 
--- src/tables.rt:42:9
 returns-5 : tie.Need-returns-5
 returns-5 c = search small4
 
--- src/tables.rt:45:9
 returns-6 : tie.Need-returns-6
 returns-6 c = search small5
 
--- src/tables.rt:48:9
 returns-7 : tie.Need-returns-7
 returns-7 c = search small6
 
--- src/tables.rt:51:9
 returns-8 : tie.Need-returns-8
 returns-8 c = search small7
 
--- src/tables.rt:54:9
 returns-9 : tie.Need-returns-9
 returns-9 c = search small8
 
--- src/tables.rt:57:9
 returns-10 : tie.Need-returns-10
 returns-10 c = search small9
 
--- src/tables.rt:14:1
 returns-11 : tie.Need-returns-11
 returns-11 c = search roomy
 

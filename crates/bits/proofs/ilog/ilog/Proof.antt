@@ -1,5 +1,4 @@
 -- `bits::ilog::ilog` meets its contract, by the law of leading zeros. Assumes nothing.
-use native.Mathlib.Omega.{arith}
 use lib.Count.{leading-le}
 use borrow.Author.Needs.{needs}
 use Rattle.bits.proofs.Ilogs.{ilog-zeros}

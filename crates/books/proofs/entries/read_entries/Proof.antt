@@ -1,11 +1,8 @@
+-- `books::entries::read_entries` meets its contract, by EntryLaws. Assumes nothing.
 use Rattle.books.proofs.EntryLaws.{entries-refused, entries-accepted, entries-over, entries-under, entries-mismatched}
 use borrow.Author.Needs.{needs}
 use Rattle.books.proofs.entries.read_entries.Statement.{statement}
 use Rattle.books.proofs.entries.read_entries.Tie as tie
-use Rattle.books.proofs.entries.read_entries.Reads as reads
-use Rattle.books.proofs.entries.read_entries.Lts as lts
-use Rattle.books.proofs.lengths.read_lengths.Reads as read-lengths-reads
-use Rattle.codespace.proofs.book.assign_codewords.Reads as assign-codewords-reads
 
 read-lengths-requires : tie.Need-read-lengths-requires
 read-lengths-requires c κs = search needs

@@ -1,10 +1,8 @@
+-- `books::head::read_head` meets its contract, by HeadLaws. Assumes nothing.
 use Rattle.books.proofs.HeadLaws.{head-laws}
 use borrow.Author.Needs.{needs}
 use Rattle.books.proofs.head.read_head.Statement.{statement}
 use Rattle.books.proofs.head.read_head.Tie as tie
-use Rattle.books.proofs.head.read_head.Reads as reads
-use Rattle.books.proofs.head.read_head.Lts as lts
-use Rattle.bits.proofs.Cursor.field.Reads as field-reads
 
 field-requires : tie.Need-field-requires
 field-requires c κs = search needs

@@ -1,11 +1,10 @@
+-- `books::lengths::fill_run` meets its contract, by LengthLaws. Assumes nothing.
 use Prim.Native.Nat.{_+_, _-_, _≤_}
 use lib.ListN.{length}
 use Rattle.books.proofs.LengthLaws.{RunFilling, length-laws}
 use borrow.Author.Needs.{needs}
 use Rattle.books.proofs.lengths.fill_run.Statement.{statement}
 use Rattle.books.proofs.lengths.fill_run.Tie as tie
-use Rattle.books.proofs.lengths.fill_run.Reads as reads
-use Rattle.books.proofs.lengths.fill_run.Lts as lts
 
 abbrev Inv-loop : tie.InvT-loop
 Inv-loop part₀ at number value i₀ part i = (at + number ≤ length part₀) × RunFilling part₀ at number value part i

@@ -1,3 +1,4 @@
+-- `books::lengths::read_each` meets its contract, by Filling, LengthLaws and bits's Answers. Assumes nothing.
 use Rattle.bits.proofs.Answers.{value-is, refused-is}
 use Prim.Native.Nat.{_-_}
 use lib.ListN.{length}
@@ -8,9 +9,6 @@ use Rattle.books.proofs.LengthLaws.{length-laws}
 use borrow.Author.Needs.{needs}
 use Rattle.books.proofs.lengths.read_each.Statement.{statement}
 use Rattle.books.proofs.lengths.read_each.Tie as tie
-use Rattle.books.proofs.lengths.read_each.Reads as reads
-use Rattle.books.proofs.lengths.read_each.Lts as lts
-use Rattle.books.proofs.lengths.read_length.Reads as read-length-reads
 
 abbrev Inv-loop : tie.InvT-loop
 Inv-loop packet sparse part₀ at₀ i₀ part at i = Filling (entryLength sparse) packet (position at₀) part₀ at part i

@@ -1,11 +1,8 @@
+-- `books::lengths::read_length` meets its contract, by LengthLaws. Assumes nothing.
 use Rattle.books.proofs.LengthLaws.{length-laws}
 use borrow.Author.Needs.{needs}
 use Rattle.books.proofs.lengths.read_length.Statement.{statement}
 use Rattle.books.proofs.lengths.read_length.Tie as tie
-use Rattle.books.proofs.lengths.read_length.Reads as reads
-use Rattle.books.proofs.lengths.read_length.Lts as lts
-use Rattle.bits.proofs.Cursor.field.Reads as field-reads
-use Rattle.books.proofs.lengths.read_used.Reads as read-used-reads
 
 read-used-requires : tie.Need-read-used-requires
 read-used-requires c κs = search needs

@@ -1,12 +1,8 @@
+-- `books::lengths::read_lengths` meets its contract, by LengthLaws. Assumes nothing.
 use Rattle.books.proofs.LengthLaws.{length-laws}
 use borrow.Author.Needs.{needs}
 use Rattle.books.proofs.lengths.read_lengths.Statement.{statement}
 use Rattle.books.proofs.lengths.read_lengths.Tie as tie
-use Rattle.books.proofs.lengths.read_lengths.Reads as reads
-use Rattle.books.proofs.lengths.read_lengths.Lts as lts
-use Rattle.bits.proofs.Cursor.field.Reads as field-reads
-use Rattle.books.proofs.lengths.read_ordered.Reads as read-ordered-reads
-use Rattle.books.proofs.lengths.read_unordered.Reads as read-unordered-reads
 
 field-requires : tie.Need-field-requires
 field-requires c κs = search needs

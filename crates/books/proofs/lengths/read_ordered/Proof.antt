@@ -1,11 +1,8 @@
+-- `books::lengths::read_ordered` meets its contract, by LengthLaws. Assumes nothing.
 use Rattle.books.proofs.LengthLaws.{length-laws}
 use borrow.Author.Needs.{needs}
 use Rattle.books.proofs.lengths.read_ordered.Statement.{statement}
 use Rattle.books.proofs.lengths.read_ordered.Tie as tie
-use Rattle.books.proofs.lengths.read_ordered.Reads as reads
-use Rattle.books.proofs.lengths.read_ordered.Lts as lts
-use Rattle.bits.proofs.Cursor.field.Reads as field-reads
-use Rattle.books.proofs.lengths.read_runs.Reads as read-runs-reads
 
 field-requires : tie.Need-field-requires
 field-requires c κs = search needs

@@ -1,11 +1,8 @@
+-- `books::lengths::read_run` meets its contract, by LengthLaws. Assumes nothing.
 use Rattle.books.proofs.LengthLaws.{length-laws}
 use borrow.Author.Needs.{needs}
 use Rattle.books.proofs.lengths.read_run.Statement.{statement}
 use Rattle.books.proofs.lengths.read_run.Tie as tie
-use Rattle.books.proofs.lengths.read_run.Reads as reads
-use Rattle.books.proofs.lengths.read_run.Lts as lts
-use Rattle.bits.proofs.Cursor.field.Reads as field-reads
-use Rattle.bits.proofs.ilog.ilog.Reads as ilog-reads
 
 ilog-requires : tie.Need-ilog-requires
 ilog-requires c κs = search needs

@@ -1,15 +1,11 @@
+-- `books::lengths::read_runs` meets its contract, by LengthLaws. Assumes nothing.
 use Prim.Native.Nat.{_-_, _<_}
 use lib.ListN.{length}
 use Rattle.bits.specs.Cursors.{position}
-use Rattle.bits.proofs.Answers.{value-is, refused-is}
 use Rattle.books.proofs.LengthLaws.{Running, running-start, running-long, running-refused, running-fits, running-next, running-done}
 use borrow.Author.Needs.{needs}
 use Rattle.books.proofs.lengths.read_runs.Statement.{statement}
 use Rattle.books.proofs.lengths.read_runs.Tie as tie
-use Rattle.books.proofs.lengths.read_runs.Reads as reads
-use Rattle.books.proofs.lengths.read_runs.Lts as lts
-use Rattle.books.proofs.lengths.fill_run.Reads as fill-run-reads
-use Rattle.books.proofs.lengths.read_run.Reads as read-run-reads
 
 abbrev Inv-loop : tie.InvT-loop
 Inv-loop packet place first part₀ at₀ bits₀ entry₀ part at bits entry = (length part₀ < 4294967296) × Running place first packet (position at₀) part₀ at bits part entry

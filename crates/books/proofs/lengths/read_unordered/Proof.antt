@@ -1,11 +1,8 @@
+-- `books::lengths::read_unordered` meets its contract, by LengthLaws. Assumes nothing.
 use Rattle.books.proofs.LengthLaws.{length-laws}
 use borrow.Author.Needs.{needs}
 use Rattle.books.proofs.lengths.read_unordered.Statement.{statement}
 use Rattle.books.proofs.lengths.read_unordered.Tie as tie
-use Rattle.books.proofs.lengths.read_unordered.Reads as reads
-use Rattle.books.proofs.lengths.read_unordered.Lts as lts
-use Rattle.bits.proofs.Cursor.field.Reads as field-reads
-use Rattle.books.proofs.lengths.read_each.Reads as read-each-reads
 
 field-requires : tie.Need-field-requires
 field-requires c κs = search needs

@@ -1,10 +1,8 @@
+-- `books::lengths::read_used` meets its contract, by LengthLaws. Assumes nothing.
 use Rattle.books.proofs.LengthLaws.{length-laws}
 use borrow.Author.Needs.{needs}
 use Rattle.books.proofs.lengths.read_used.Statement.{statement}
 use Rattle.books.proofs.lengths.read_used.Tie as tie
-use Rattle.books.proofs.lengths.read_used.Reads as reads
-use Rattle.books.proofs.lengths.read_used.Lts as lts
-use Rattle.bits.proofs.Cursor.field.Reads as field-reads
 
 field-requires : tie.Need-field-requires
 field-requires c κs = search length-laws

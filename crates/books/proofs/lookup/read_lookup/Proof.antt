@@ -1,13 +1,8 @@
+-- `books::lookup::read_lookup` meets its contract, by LookupLaws. Assumes nothing.
 use Rattle.books.proofs.LookupLaws.{type-past, type-none, type-cut, type-some}
 use borrow.Author.Needs.{needs}
 use Rattle.books.proofs.lookup.read_lookup.Statement.{statement}
 use Rattle.books.proofs.lookup.read_lookup.Tie as tie
-use Rattle.books.proofs.lookup.read_lookup.Reads as reads
-use Rattle.books.proofs.lookup.read_lookup.Lts as lts
-use Rattle.bits.proofs.Cursor.field.Reads as field-reads
-use Rattle.books.proofs.lookup.read_values.Reads as read-values-reads
-use Rattle.books.proofs.lookup.value_count.Reads as value-count-reads
-use Rattle.books.proofs.lookup.without.Reads as without-reads
 
 field-requires : tie.Need-field-requires
 field-requires c κs = search needs

@@ -1,3 +1,4 @@
+-- `books::lookup::read_multiplicands` meets its contract, by Filling, LookupLaws and bits's Answers. Assumes nothing.
 use Prim.Native.Nat.{_-_}
 use lib.ListN.{length}
 use Rattle.bits.specs.Cursors.{position}
@@ -8,9 +9,6 @@ use Rattle.books.proofs.LookupLaws.{lookup-laws}
 use borrow.Author.Needs.{needs}
 use Rattle.books.proofs.lookup.read_multiplicands.Statement.{statement}
 use Rattle.books.proofs.lookup.read_multiplicands.Tie as tie
-use Rattle.books.proofs.lookup.read_multiplicands.Reads as reads
-use Rattle.books.proofs.lookup.read_multiplicands.Lts as lts
-use Rattle.bits.proofs.Cursor.field.Reads as field-reads
 
 abbrev Inv-loop : tie.InvT-loop
 Inv-loop packet width part₀ at₀ i₀ part at i = Filling (field width) packet (position at₀) part₀ at part i

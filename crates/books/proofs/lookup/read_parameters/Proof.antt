@@ -1,10 +1,8 @@
+-- `books::lookup::read_parameters` meets its contract, by LookupLaws. Assumes nothing.
 use Rattle.books.proofs.LookupLaws.{lookup-laws}
 use borrow.Author.Needs.{needs}
 use Rattle.books.proofs.lookup.read_parameters.Statement.{statement}
 use Rattle.books.proofs.lookup.read_parameters.Tie as tie
-use Rattle.books.proofs.lookup.read_parameters.Reads as reads
-use Rattle.books.proofs.lookup.read_parameters.Lts as lts
-use Rattle.bits.proofs.Cursor.field.Reads as field-reads
 
 field-requires : tie.Need-field-requires
 field-requires c κs = search needs

@@ -1,12 +1,8 @@
+-- `books::lookup::read_values` meets its contract, by LookupLaws. Assumes nothing.
 use Rattle.books.proofs.LookupLaws.{parameters-width, values-past, values-refused, values-whole}
 use borrow.Author.Needs.{needs}
 use Rattle.books.proofs.lookup.read_values.Statement.{statement}
 use Rattle.books.proofs.lookup.read_values.Tie as tie
-use Rattle.books.proofs.lookup.read_values.Reads as reads
-use Rattle.books.proofs.lookup.read_values.Lts as lts
-use Rattle.books.proofs.lookup.read_multiplicands.Reads as read-multiplicands-reads
-use Rattle.books.proofs.lookup.read_parameters.Reads as read-parameters-reads
-use Rattle.books.proofs.lookup.without.Reads as without-reads
 
 read-parameters-requires : tie.Need-read-parameters-requires
 read-parameters-requires c κs = search needs

@@ -1,10 +1,8 @@
+-- `books::lookup::value_count` meets its contract, by LookupLaws. Assumes nothing.
 use Rattle.books.proofs.LookupLaws.{lookup-laws}
 use borrow.Author.Needs.{needs}
 use Rattle.books.proofs.lookup.value_count.Statement.{statement}
 use Rattle.books.proofs.lookup.value_count.Tie as tie
-use Rattle.books.proofs.lookup.value_count.Reads as reads
-use Rattle.books.proofs.lookup.value_count.Lts as lts
-use Rattle.books.proofs.root.lookup1_values.Reads as lookup1-values-reads
 
 lookup1-values-requires : tie.Need-lookup1-values-requires
 lookup1-values-requires c κs = search needs

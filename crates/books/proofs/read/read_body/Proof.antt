@@ -1,13 +1,9 @@
+-- `books::read::read_body` meets its contract, by BookLaws. Assumes nothing.
 use native.Mathlib.Omega.{arith}
 use Rattle.books.proofs.BookLaws.{body-refused, body-whole}
 use borrow.Author.Needs.{needs}
 use Rattle.books.proofs.read.read_body.Statement.{statement}
 use Rattle.books.proofs.read.read_body.Tie as tie
-use Rattle.books.proofs.read.read_body.Reads as reads
-use Rattle.books.proofs.read.read_body.Lts as lts
-use Rattle.books.proofs.entries.read_entries.Reads as read-entries-reads
-use Rattle.books.proofs.lookup.read_lookup.Reads as read-lookup-reads
-use Rattle.books.proofs.read.write_row.Reads as write-row-reads
 
 cast-end : tie.Need-cast-end
 cast-end c = search needs

@@ -1,12 +1,9 @@
+-- `books::read::read_book` meets its contract, by BookLaws. Assumes nothing.
 use native.Mathlib.Omega.{arith}
 use Rattle.books.proofs.BookLaws.{head-known, book-refused, book-whole}
 use borrow.Author.Needs.{needs}
 use Rattle.books.proofs.read.read_book.Statement.{statement}
 use Rattle.books.proofs.read.read_book.Tie as tie
-use Rattle.books.proofs.read.read_book.Reads as reads
-use Rattle.books.proofs.read.read_book.Lts as lts
-use Rattle.books.proofs.head.read_head.Reads as read-head-reads
-use Rattle.books.proofs.read.read_body.Reads as read-body-reads
 
 read-head-requires : tie.Need-read-head-requires
 read-head-requires c κs = search needs

@@ -1,3 +1,4 @@
+-- `books::read::read_books` meets its contract, by BooksLaws. Assumes nothing.
 use Prim.Native.Nat.{_-_, _≤_}
 use native.Mathlib.Omega.{arith}
 use Rattle.bits.specs.Cursors.{position}
@@ -6,9 +7,6 @@ use Rattle.books.proofs.BooksLaws.{BooksRead, books-start, books-lent, 
 use borrow.Author.Needs.{needs}
 use Rattle.books.proofs.read.read_books.Statement.{statement}
 use Rattle.books.proofs.read.read_books.Tie as tie
-use Rattle.books.proofs.read.read_books.Reads as reads
-use Rattle.books.proofs.read.read_books.Lts as lts
-use Rattle.books.proofs.read.read_book.Reads as read-book-reads
 
 abbrev Inv-loop : tie.InvT-loop
 Inv-loop packet count limits books₀ lengths₀ words₀ multiplicands₀ at₀ entries₀ values₀ index₀ books lengths words multiplicands at entries values index =

@@ -1,11 +1,9 @@
+-- `books::root::lookup1_values` meets its contract, by RootLaws. Assumes nothing.
 use Prim.Native.Nat.{_-_}
 use Rattle.books.proofs.RootLaws.{Halving, halving}
 use borrow.Author.Needs.{needs}
 use Rattle.books.proofs.root.lookup1_values.Statement.{statement}
 use Rattle.books.proofs.root.lookup1_values.Tie as tie
-use Rattle.books.proofs.root.lookup1_values.Reads as reads
-use Rattle.books.proofs.root.lookup1_values.Lts as lts
-use Rattle.power.proofs.power_within.Reads as power-within-reads
 
 abbrev Inv-loop : tie.InvT-loop
 Inv-loop entries dimensions low₀ high₀ low high = Halving entries dimensions low high

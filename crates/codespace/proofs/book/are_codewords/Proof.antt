@@ -7,13 +7,6 @@ use Rattle.codespace.proofs.Comparing.{not-coded, is-coded, other-lengt
 use borrow.Author.Needs.{needs}
 use Rattle.codespace.proofs.book.are_codewords.Statement.{statement}
 use Rattle.codespace.proofs.book.are_codewords.Tie as tie
-use Rattle.codespace.proofs.book.are_codewords.Reads as reads
-use Rattle.codespace.proofs.book.are_codewords.Lts as lts
-use Rattle.codespace.proofs.book.entry_codeword.Reads as entry-codeword-reads
-use Rattle.codespace.proofs.book.is_lone.Reads as is-lone-reads
-use Rattle.codespace.proofs.book.wide.Reads as wide-reads
-use Rattle.codespace.proofs.space.Space.empty.Reads as empty-reads
-use Rattle.codespace.proofs.space.is_full.Reads as is-full-reads
 
 abbrev Inv-loop : tie.InvT-loop
 Inv-loop lengths words blocks₀ entry₀ blocks entry = (length lengths ≡ length words) × Assigning lengths words words blocks entry

@@ -4,10 +4,6 @@ use borrow.Author.Needs.{needs}
 use Rattle.codespace.proofs.Assigning.{promised-mismatched, promised-accepted, promised-refused, over-accepted, under-accepted, mismatch-accepted}
 use Rattle.codespace.proofs.book.assign_codewords.Statement.{statement}
 use Rattle.codespace.proofs.book.assign_codewords.Tie as tie
-use Rattle.codespace.proofs.book.assign_codewords.Reads as reads
-use Rattle.codespace.proofs.book.assign_codewords.Lts as lts
-use Rattle.codespace.proofs.book.hand_out.Reads as hand-out-reads
-use Rattle.codespace.proofs.book.refuse.Reads as refuse-reads
 
 refuse-requires : tie.Need-refuse-requires
 refuse-requires c κs = search needs

@@ -3,9 +3,6 @@ use borrow.Author.Needs.{needs}
 use Rattle.codespace.proofs.Assigning.{unused-number, unused-blocks, used-number}
 use Rattle.codespace.proofs.book.entry_codeword.Statement.{statement}
 use Rattle.codespace.proofs.book.entry_codeword.Tie as tie
-use Rattle.codespace.proofs.book.entry_codeword.Reads as reads
-use Rattle.codespace.proofs.book.entry_codeword.Lts as lts
-use Rattle.codespace.proofs.space.take_codeword.Reads as take-codeword-reads
 
 returns : tie.Need-returns
 returns c = (unused-number _ _ (c .if1 .taken), unused-blocks _ _ (c .if1 .taken))

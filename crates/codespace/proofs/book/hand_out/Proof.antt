@@ -1,17 +1,10 @@
 -- `codespace::book::hand_out` meets its contract: the entries passed have the ledger's codewords and none of them is refused. Assumes nothing.
 use Prim.Native.Nat.{_-_}
-use native.Mathlib.Omega.{arith}
 use borrow.Author.Needs.{needs}
 use lib.ListN.{length}
 use Rattle.codespace.proofs.Assigning.{Assigning, assigning-start, reached-length, assigning-turn, overspecified, all-written, full-accepted, lone-accepted, underspecified, over-accepted, under-accepted}
 use Rattle.codespace.proofs.book.hand_out.Statement.{statement}
 use Rattle.codespace.proofs.book.hand_out.Tie as tie
-use Rattle.codespace.proofs.book.hand_out.Reads as reads
-use Rattle.codespace.proofs.book.hand_out.Lts as lts
-use Rattle.codespace.proofs.book.entry_codeword.Reads as entry-codeword-reads
-use Rattle.codespace.proofs.book.is_lone.Reads as is-lone-reads
-use Rattle.codespace.proofs.space.Space.empty.Reads as empty-reads
-use Rattle.codespace.proofs.space.is_full.Reads as is-full-reads
 
 abbrev Inv-loop : tie.InvT-loop
 Inv-loop lengths words₀ blocks₀ entry₀ words blocks entry = Assigning lengths words₀ words blocks entry

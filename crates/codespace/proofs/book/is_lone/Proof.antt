@@ -1,12 +1,8 @@
 -- `codespace::book::is_lone` meets its contract: the first used entry has length 1 and there is no second. Assumes nothing.
 use borrow.Author.Needs.{needs}
-use native.Mathlib.Omega.{arith}
 use Rattle.codespace.proofs.Assigning.{lone-none, lone-other, lone-one}
 use Rattle.codespace.proofs.book.is_lone.Statement.{statement}
 use Rattle.codespace.proofs.book.is_lone.Tie as tie
-use Rattle.codespace.proofs.book.is_lone.Reads as reads
-use Rattle.codespace.proofs.book.is_lone.Lts as lts
-use Rattle.codespace.proofs.book.next_used.Reads as next-used-reads
 
 next-used-requires : tie.Need-next-used-requires
 next-used-requires c κs = search needs

@@ -1,5 +1,5 @@
 -- `codespace::book::next_used` meets its contract: the used entries from `entry` on are those from `from` on. Assumes nothing.
-use mathlib.Core.Path.{_≡_, refl}
+use mathlib.Core.Path.{_≡_}
 use Prim.Native.Nat.{_≤_, _-_}
 use native.Mathlib.Omega.{arith}
 use borrow.Author.Needs.{needs}
@@ -8,8 +8,6 @@ use Rattle.codespace.specs.Book.{used}
 use Rattle.codespace.proofs.Assigning.{passed}
 use Rattle.codespace.proofs.book.next_used.Statement.{statement}
 use Rattle.codespace.proofs.book.next_used.Tie as tie
-use Rattle.codespace.proofs.book.next_used.Reads as reads
-use Rattle.codespace.proofs.book.next_used.Lts as lts
 
 abbrev Inv-loop : tie.InvT-loop
 Inv-loop lengths from entry₀ entry = (entry ≤ length lengths) × (used (drop from lengths) ≡ used (drop entry lengths))

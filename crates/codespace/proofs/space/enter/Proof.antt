@@ -3,9 +3,6 @@ use borrow.Author.Needs.{needs}
 use Rattle.codespace.proofs.Numbers.{entered-codeword, entered-refused, modelled-entry}
 use Rattle.codespace.proofs.space.enter.Statement.{statement}
 use Rattle.codespace.proofs.space.enter.Tie as tie
-use Rattle.codespace.proofs.space.enter.Reads as reads
-use Rattle.codespace.proofs.space.enter.Lts as lts
-use Rattle.codespace.proofs.space.take_codeword.Reads as take-codeword-reads
 
 take-codeword-requires : tie.Need-take-codeword-requires
 take-codeword-requires c κs = search needs

@@ -1,19 +1,11 @@
 -- `codespace::space::enter_all` meets its contract: after each turn the answers to the lengths entered are stored. Assumes nothing.
-use mathlib.Core.Path.{refl}
 use Prim.Native.Nat.{_-_}
 use borrow.Author.Needs.{needs}
 use lib.ListN.{length}
-use lib.Seq.{length-sets}
 use Rattle.codespace.proofs.Figures.{figures}
 use Rattle.codespace.proofs.Numbers.{Entering, entering-start, entering-length, entering-turn, entering-end, entered-balanced}
 use Rattle.codespace.proofs.space.enter_all.Statement.{statement}
 use Rattle.codespace.proofs.space.enter_all.Tie as tie
-use Rattle.codespace.proofs.space.enter_all.Reads as reads
-use Rattle.codespace.proofs.space.enter_all.Lts as lts
-use Rattle.codespace.proofs.space.Space.empty.Reads as empty-reads
-use Rattle.codespace.proofs.space.answer_number.Reads as answer-number-reads
-use Rattle.codespace.proofs.space.enter.Reads as enter-reads
-use Rattle.reading.proofs.buffers.put_u64.Reads as put-u64-reads
 
 abbrev Inv-loop : tie.InvT-loop
 Inv-loop lengths numbers₀ space₀ i₀ numbers space i = Entering lengths numbers₀ numbers (space .blocks) i

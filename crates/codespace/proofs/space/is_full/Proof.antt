@@ -3,9 +3,6 @@ use borrow.Author.Needs.{needs}
 use Rattle.codespace.proofs.Numbers.{full-is}
 use Rattle.codespace.proofs.space.is_full.Statement.{statement}
 use Rattle.codespace.proofs.space.is_full.Tie as tie
-use Rattle.codespace.proofs.space.is_full.Reads as reads
-use Rattle.codespace.proofs.space.is_full.Lts as lts
-use Rattle.codespace.proofs.space.smallest_block.Reads as smallest-block-reads
 
 smallest-block-requires : tie.Need-smallest-block-requires
 smallest-block-requires c κs = search needs

@@ -7,8 +7,6 @@ use Rattle.codespace.specs.Steps.{firstHeld}
 use Rattle.codespace.proofs.Steps.{held-here, held-on, held-end}
 use Rattle.codespace.proofs.space.smallest_block.Statement.{statement}
 use Rattle.codespace.proofs.space.smallest_block.Tie as tie
-use Rattle.codespace.proofs.space.smallest_block.Reads as reads
-use Rattle.codespace.proofs.space.smallest_block.Lts as lts
 
 abbrev Inv-loop : tie.InvT-loop
 Inv-loop blocks height h₀ h = (height ≤ h) × (h ≤ 33) × (firstHeld (33 - h) h blocks ≡ firstHeld (33 - height) height blocks)

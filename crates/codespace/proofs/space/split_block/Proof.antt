@@ -4,14 +4,12 @@ use mathlib.Core.Path.{_≡_, sym, _∙_, ap}
 use mathlib.Core.List.{List}
 use native.Mathlib.Omega.{arith}
 use borrow.Author.Needs.{needs}
-use lib.ListN.{set, length, length-set}
+use lib.ListN.{set}
 use lib.Pow.{pow-mono}
 use Rattle.codespace.specs.Steps.{upperHalves}
 use Rattle.codespace.proofs.Steps.{bit, halves-none, halves-more}
 use Rattle.codespace.proofs.space.split_block.Statement.{statement}
 use Rattle.codespace.proofs.space.split_block.Tie as tie
-use Rattle.codespace.proofs.space.split_block.Reads as reads
-use Rattle.codespace.proofs.space.split_block.Lts as lts
 
 abbrev Inv-loop : tie.InvT-loop
 Inv-loop blocks₀ height from first h₀ blocks h = (height ≤ h) × (h ≤ from) × (blocks ≡ upperHalves h (from - h) first blocks₀)

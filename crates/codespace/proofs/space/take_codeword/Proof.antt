@@ -1,18 +1,14 @@
 -- `codespace::space::take_codeword` meets its contract: what the two loops find and leave is what the model finds and leaves. Assumes nothing.
-use mathlib.Core.Path.{_≡_, refl, sym, ap, _∙_}
+use mathlib.Core.Path.{_≡_, sym, ap, _∙_}
 use Prim.Native.Nat.{ℕ, _-_, _<_, _≤_}
 use native.Mathlib.Omega.{arith}
 use borrow.Author.Needs.{needs}
-use lib.ListN.{length, getD}
+use lib.ListN.{length}
 use Rattle.codespace.specs.Ledger.{IsLength}
 use Rattle.codespace.specs.Answers.{number}
 use Rattle.codespace.proofs.Steps.{outside-answer, outside-blocks, refused-answer, refused-blocks, taken-answer, taken-blocks, found-low, found-block}
 use Rattle.codespace.proofs.space.take_codeword.Statement.{statement}
 use Rattle.codespace.proofs.space.take_codeword.Tie as tie
-use Rattle.codespace.proofs.space.take_codeword.Reads as reads
-use Rattle.codespace.proofs.space.take_codeword.Lts as lts
-use Rattle.codespace.proofs.space.smallest_block.Reads as smallest-block-reads
-use Rattle.codespace.proofs.space.split_block.Reads as split-block-reads
 
 returns : tie.Need-returns
 returns c = (outside-answer _ _ (λ k. let l = k .low in omega arith), outside-blocks _ _ (λ k. let l = k .low in omega arith))

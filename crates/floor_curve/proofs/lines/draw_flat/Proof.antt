@@ -1,8 +1,8 @@
 -- `floor_curve::lines::draw_flat` meets its contract. The loop draws the places from the left (`DrawnSoFar`), up to the length. Assumes nothing.
-use Prim.Native.Nat.{ℕ, _+_, _-_, _≤_, _<_, max}
+use Prim.Native.Nat.{ℕ, _+_, _-_, _≤_, _<_}
 use native.Mathlib.Omega.{arith}
-use mathlib.Core.Path.{_≡_, refl, sym, ap, _∙_}
-use lib.ListN.{length, getD}
+use mathlib.Core.Path.{_≡_, refl, _∙_}
+use lib.ListN.{length}
 use Rattle.floor_curve.proofs.DrawLaws.{DrawnSoFar, draw-begin, draw-turn, flat}
 use borrow.Author.Needs.{needs}
 use Rattle.floor_curve.proofs.lines.draw_flat.Statement.{statement}

@@ -1,8 +1,8 @@
 -- `floor_curve::lines::draw_line` meets its contract. The loop draws the places from the left (`DrawnSoFar`), up to the lesser of x1 and the length. Assumes nothing.
 use Prim.Native.Nat.{ℕ, _+_, _-_, _≤_, _<_, max}
 use native.Mathlib.Omega.{arith}
-use mathlib.Core.Path.{_≡_, refl, sym, ap, _∙_}
-use lib.ListN.{length, getD}
+use mathlib.Core.Path.{_≡_, _∙_}
+use lib.ListN.{length}
 use Rattle.floor_curve.specs.Curve.{lineAt}
 use Rattle.floor_curve.proofs.DrawLaws.{DrawnSoFar, draw-begin, draw-turn, drawn}
 use borrow.Author.Needs.{needs}

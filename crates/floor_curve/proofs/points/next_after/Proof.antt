@@ -1,8 +1,8 @@
 -- `floor_curve::points::next_after` meets its contract. The loop keeps what the rest of the search gives. Assumes nothing.
-use Prim.Native.Nat.{ℕ, _+_, _-_, _≤_, _<_, max}
+use Prim.Native.Nat.{ℕ, _+_, _-_, _≤_, _<_}
 use native.Mathlib.Omega.{arith}
-use mathlib.Core.Path.{_≡_, refl, sym, ap, _∙_}
-use lib.ListN.{length, getD}
+use mathlib.Core.Path.{_≡_, _∙_}
+use lib.ListN.{length}
 use Rattle.floor_points.proofs.Searching.{turned, turned-below, ended}
 use Rattle.floor_points.specs.Search.{searched}
 use Rattle.floor_curve.specs.Curve.{takesRight, nextAfter}

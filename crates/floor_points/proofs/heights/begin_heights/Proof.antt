@@ -1,10 +1,10 @@
 -- `floor_points::heights::begin_heights` meets its contract. The loop fills the heights from the values, which are below 65,536. Assumes nothing.
 use Prim.Native.Nat.{ℕ, _+_, _≤_, _<_, _-_}
 use native.Mathlib.Omega.{arith}
-use mathlib.Core.Path.{_≡_, refl, sym, ap, _∙_}
-use lib.ListN.{length, getD, set, length-set}
+use mathlib.Core.Path.{_≡_, ap, _∙_}
+use lib.ListN.{length}
 use Rattle.floor_points.proofs.Filling.{Filling, fill-begin, fill-turn, fill-end}
-use Rattle.floor_points.specs.Heights.{heightOf, clampedHeight, pointsOf, Bounded, Ready}
+use Rattle.floor_points.specs.Heights.{heightOf}
 use Rattle.floor_points.proofs.Stepping.{filled-bounded}
 use borrow.Author.Needs.{needs}
 use Rattle.floor_points.proofs.heights.begin_heights.Statement.{statement}

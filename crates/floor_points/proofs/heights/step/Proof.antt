@@ -1,9 +1,7 @@
 -- `floor_points::heights::step` meets its contract. The point on the line between the neighbours stays below 131,072, and the parts make one step of the definition. Assumes nothing.
 use Prim.Native.Nat.{ℕ, _+_, _≤_, _<_, _-_}
 use native.Mathlib.Omega.{arith}
-use mathlib.Core.Path.{_≡_, refl, sym, ap, _∙_}
-use lib.ListN.{length, getD, set, length-set}
-use Rattle.floor_points.specs.Heights.{heightOf, clampedHeight, pointsOf, Bounded, Ready}
+use mathlib.Core.Path.{_≡_, _∙_}
 use Rattle.floor_points.proofs.Stepping.{point-bounded, point-made, step-made, set-bounded}
 use borrow.Author.Needs.{needs}
 use Rattle.floor_points.proofs.heights.step.Statement.{statement}

@@ -1,9 +1,8 @@
 -- `floor_points::heights::steps` meets its contract. The loop keeps what the steps that are left give (`Going`). Assumes nothing.
 use Prim.Native.Nat.{ℕ, _+_, _≤_, _<_, _-_}
 use native.Mathlib.Omega.{arith}
-use mathlib.Core.Path.{_≡_, refl, sym, ap, _∙_}
-use lib.ListN.{length, getD, set, length-set}
-use Rattle.floor_points.specs.Heights.{heightOf, clampedHeight, pointsOf, Bounded, Ready}
+use mathlib.Core.Path.{_≡_, _∙_}
+use lib.ListN.{length}
 use Rattle.floor_points.proofs.Stepping.{Going, going-begin, going-turn, going-end}
 use borrow.Author.Needs.{needs}
 use Rattle.floor_points.proofs.heights.steps.Statement.{statement}

@@ -1,6 +1,6 @@
 -- `floor_points::lines::line_height` meets its contract. The offset is at most the rise or fall, so neither the difference nor the sum wraps. Assumes nothing.
 use Rattle.floor_points.proofs.LineLaws.{offset-most, fallen, risen}
-use mathlib.Core.Path.{_≡_, refl, sym, ap, _∙_}
+use mathlib.Core.Path.{_≡_, _∙_}
 use native.Mathlib.Omega.{arith}
 use borrow.Author.Needs.{needs}
 use Rattle.floor_points.proofs.lines.line_height.Statement.{statement}

@@ -5,7 +5,7 @@ use Rattle.floor_points.specs.Search.{searched}
 use lib.ListN.{getD}
 use Prim.Native.Nat.{_≤_, _<_, _-_}
 use Rattle.floor_points.proofs.Choosing.{high-begun, is-high}
-use mathlib.Core.Path.{_≡_, refl, sym, ap, _∙_}
+use mathlib.Core.Path.{_≡_, _∙_}
 use native.Mathlib.Omega.{arith}
 use borrow.Author.Needs.{needs}
 use Rattle.floor_points.proofs.neighbours.high_neighbour.Statement.{statement}

@@ -1,5 +1,5 @@
 -- `floor_points::neighbours::higher` meets its contract. Each return is one way out of `takesLow`. Assumes nothing.
-use Rattle.floor_points.proofs.Choosing.{low-not-below, low-not-greater, low-takes, high-not-above, high-not-less, high-takes}
+use Rattle.floor_points.proofs.Choosing.{low-not-below, low-not-greater, low-takes}
 use native.Mathlib.Omega.{arith}
 use borrow.Author.Needs.{needs}
 use Rattle.floor_points.proofs.neighbours.higher.Statement.{statement}

@@ -1,3 +1,4 @@
+-- `mapping_tables::stand::are_couplings` meets its contract, by StandLaws, mappings's Laws and reading's PairRows. Assumes nothing.
 use Prim.Native.Nat.{_-_, _≤_}
 use Rattle.mapping_tables.proofs.StandLaws.{coupling-stand-laws}
 use Rattle.mappings.proofs.Laws.{coupling-pairs}
@@ -6,10 +7,6 @@ use Rattle.mappings.specs.Valid.{ValidCoupling}
 use borrow.Author.Needs.{needs}
 use Rattle.mapping_tables.proofs.stand.are_couplings.Statement.{statement}
 use Rattle.mapping_tables.proofs.stand.are_couplings.Tie as tie
-use Rattle.mapping_tables.proofs.stand.are_couplings.Reads as reads
-use Rattle.mapping_tables.proofs.stand.are_couplings.Lts as lts
-use Rattle.mapping_tables.proofs.stand.is_coupling.Reads as is-coupling-reads
-use Rattle.reading.proofs.zeros.zeros_u8.Reads as zeros-u8-reads
 
 abbrev Inv-loop : tie.InvT-loop
 Inv-loop part count channels i₀ i = (count ≤ 256) × Finding (ValidCoupling channels) coupling-pairs count part i

@@ -1,12 +1,9 @@
+-- `mapping_tables::stand::are_mappings` meets its contract, by StandLaws. Assumes nothing.
 use Prim.Native.Nat.{_*_, _-_, _≤_}
 use Rattle.mapping_tables.proofs.StandLaws.{Finding, stand-laws, part-width, find-stop, find-next}
 use borrow.Author.Needs.{needs}
 use Rattle.mapping_tables.proofs.stand.are_mappings.Statement.{statement}
 use Rattle.mapping_tables.proofs.stand.are_mappings.Tie as tie
-use Rattle.mapping_tables.proofs.stand.are_mappings.Reads as reads
-use Rattle.mapping_tables.proofs.stand.are_mappings.Lts as lts
-use Rattle.mapping_tables.proofs.stand.is_mapping.Reads as is-mapping-reads
-use Rattle.reading.proofs.zeros.zeros_u8.Reads as zeros-u8-reads
 
 abbrev Inv-loop : tie.InvT-loop
 Inv-loop mappings count known i₀ i = (count ≤ 64) × (known .channels ≤ 255) × Finding known count mappings i

@@ -1,12 +1,9 @@
+-- `mapping_tables::stand::are_multiplexes` meets its contract, by StandLaws. Assumes nothing.
 use Prim.Native.Nat.{_-_, _≤_}
 use Rattle.mapping_tables.proofs.StandLaws.{Numbers, multiplex-stand-laws}
 use borrow.Author.Needs.{needs}
 use Rattle.mapping_tables.proofs.stand.are_multiplexes.Statement.{statement}
 use Rattle.mapping_tables.proofs.stand.are_multiplexes.Tie as tie
-use Rattle.mapping_tables.proofs.stand.are_multiplexes.Reads as reads
-use Rattle.mapping_tables.proofs.stand.are_multiplexes.Lts as lts
-use Rattle.mapping_tables.proofs.stand.is_multiplex.Reads as is-multiplex-reads
-use Rattle.reading.proofs.zeros.zeros_u8.Reads as zeros-u8-reads
 
 abbrev Inv-loop : tie.InvT-loop
 Inv-loop part count submaps i₀ i = (count ≤ 256) × Numbers submaps count part i

@@ -1,3 +1,4 @@
+-- `mapping_tables::stand::are_submaps` meets its contract, by StandLaws, mappings's Laws and reading's PairRows. Assumes nothing.
 use Prim.Native.Nat.{_-_, _≤_}
 use Rattle.mapping_tables.proofs.StandLaws.{submap-stand-laws}
 use Rattle.mappings.proofs.Laws.{submap-pairs}
@@ -6,10 +7,6 @@ use Rattle.mappings.specs.Valid.{ValidSubmap}
 use borrow.Author.Needs.{needs}
 use Rattle.mapping_tables.proofs.stand.are_submaps.Statement.{statement}
 use Rattle.mapping_tables.proofs.stand.are_submaps.Tie as tie
-use Rattle.mapping_tables.proofs.stand.are_submaps.Reads as reads
-use Rattle.mapping_tables.proofs.stand.are_submaps.Lts as lts
-use Rattle.mapping_tables.proofs.stand.is_submap.Reads as is-submap-reads
-use Rattle.reading.proofs.zeros.zeros_u8.Reads as zeros-u8-reads
 
 abbrev Inv-loop : tie.InvT-loop
 Inv-loop part count known i₀ i = (count ≤ 16) × Finding (ValidSubmap known) submap-pairs count part i

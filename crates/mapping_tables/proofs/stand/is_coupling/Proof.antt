@@ -1,8 +1,7 @@
+-- `mapping_tables::stand::is_coupling` meets its contract, by StandLaws. Assumes nothing.
 use Rattle.mapping_tables.proofs.StandLaws.{magnitude-high, angle-high, coupling-low}
 use Rattle.mapping_tables.proofs.stand.is_coupling.Statement.{statement}
 use Rattle.mapping_tables.proofs.stand.is_coupling.Tie as tie
-use Rattle.mapping_tables.proofs.stand.is_coupling.Reads as reads
-use Rattle.mapping_tables.proofs.stand.is_coupling.Lts as lts
 
 returns : tie.Need-returns
 returns c = search magnitude-high

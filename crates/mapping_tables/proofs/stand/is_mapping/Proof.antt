@@ -1,14 +1,8 @@
+-- `mapping_tables::stand::is_mapping` meets its contract, by StandLaws. Assumes nothing.
 use Rattle.mapping_tables.proofs.StandLaws.{row-laws, submaps-none, submaps-many, place-used, steps-many, couplings-wrong, multiplex-wrong, row-right}
 use borrow.Author.Needs.{needs}
 use Rattle.mapping_tables.proofs.stand.is_mapping.Statement.{statement}
 use Rattle.mapping_tables.proofs.stand.is_mapping.Tie as tie
-use Rattle.mapping_tables.proofs.stand.is_mapping.Reads as reads
-use Rattle.mapping_tables.proofs.stand.is_mapping.Lts as lts
-use Rattle.mapping_tables.proofs.stand.are_couplings.Reads as are-couplings-reads
-use Rattle.mapping_tables.proofs.stand.are_multiplexes.Reads as are-multiplexes-reads
-use Rattle.mapping_tables.proofs.stand.are_submaps.Reads as are-submaps-reads
-use Rattle.mapping_tables.proofs.stand.multiplex_count.Reads as multiplex-count-reads
-use Rattle.mapping_tables.proofs.stand.two_places.Reads as two-places-reads
 
 shared-slice-read-two-places : tie.Need-shared-slice-read-two-places
 shared-slice-read-two-places c = search needs

@@ -1,8 +1,7 @@
+-- `mapping_tables::stand::is_multiplex` meets its contract, by StandLaws. Assumes nothing.
 use Rattle.mapping_tables.proofs.StandLaws.{multiplex-zero, multiplex-some}
 use Rattle.mapping_tables.proofs.stand.is_multiplex.Statement.{statement}
 use Rattle.mapping_tables.proofs.stand.is_multiplex.Tie as tie
-use Rattle.mapping_tables.proofs.stand.is_multiplex.Reads as reads
-use Rattle.mapping_tables.proofs.stand.is_multiplex.Lts as lts
 
 returns : tie.Need-returns
 returns c = search multiplex-zero

@@ -1,8 +1,7 @@
+-- `mapping_tables::stand::is_submap` meets its contract, by StandLaws. Assumes nothing.
 use Rattle.mapping_tables.proofs.StandLaws.{floor-high, floor-low}
 use Rattle.mapping_tables.proofs.stand.is_submap.Statement.{statement}
 use Rattle.mapping_tables.proofs.stand.is_submap.Tie as tie
-use Rattle.mapping_tables.proofs.stand.is_submap.Reads as reads
-use Rattle.mapping_tables.proofs.stand.is_submap.Lts as lts
 
 returns : tie.Need-returns
 returns c = search floor-high

@@ -1,8 +1,7 @@
+-- `mapping_tables::stand::multiplex_count` meets its contract, by StandLaws. Assumes nothing.
 use Rattle.mapping_tables.proofs.StandLaws.{count-known}
 use Rattle.mapping_tables.proofs.stand.multiplex_count.Statement.{statement}
 use Rattle.mapping_tables.proofs.stand.multiplex_count.Tie as tie
-use Rattle.mapping_tables.proofs.stand.multiplex_count.Reads as reads
-use Rattle.mapping_tables.proofs.stand.multiplex_count.Lts as lts
 
 returns : tie.Need-returns
 returns c = search count-known

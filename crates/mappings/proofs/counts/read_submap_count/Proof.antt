@@ -1,11 +1,8 @@
+-- `mappings::counts::read_submap_count` meets its contract, by CountLaws. Assumes nothing.
 use Rattle.mappings.proofs.CountLaws.{count-laws}
 use borrow.Author.Needs.{needs}
 use Rattle.mappings.proofs.counts.read_submap_count.Statement.{statement}
 use Rattle.mappings.proofs.counts.read_submap_count.Tie as tie
-use Rattle.mappings.proofs.counts.read_submap_count.Reads as reads
-use Rattle.mappings.proofs.counts.read_submap_count.Lts as lts
-use Rattle.bits.proofs.Cursor.bit.Reads as bit-reads
-use Rattle.bits.proofs.Cursor.field.Reads as field-reads
 
 bit-requires : tie.Need-bit-requires
 bit-requires c κs = search needs

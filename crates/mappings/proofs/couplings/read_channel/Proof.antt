@@ -1,11 +1,8 @@
+-- `mappings::couplings::read_channel` meets its contract, by CouplingLaws. Assumes nothing.
 use Rattle.mappings.proofs.CouplingLaws.{coupling-laws}
 use borrow.Author.Needs.{needs}
 use Rattle.mappings.proofs.couplings.read_channel.Statement.{statement}
 use Rattle.mappings.proofs.couplings.read_channel.Tie as tie
-use Rattle.mappings.proofs.couplings.read_channel.Reads as reads
-use Rattle.mappings.proofs.couplings.read_channel.Lts as lts
-use Rattle.bits.proofs.Cursor.field.Reads as field-reads
-use Rattle.bits.proofs.ilog.ilog.Reads as ilog-reads
 
 sub-ilog : tie.Need-sub-ilog
 sub-ilog c = search needs

@@ -1,11 +1,8 @@
+-- `mappings::couplings::read_coupling` meets its contract, by CouplingLaws. Assumes nothing.
 use Rattle.mappings.proofs.CouplingLaws.{coupling-laws, both-one, magnitude-refused, angle-refused, coupling-whole}
 use borrow.Author.Needs.{needs}
 use Rattle.mappings.proofs.couplings.read_coupling.Statement.{statement}
 use Rattle.mappings.proofs.couplings.read_coupling.Tie as tie
-use Rattle.mappings.proofs.couplings.read_coupling.Reads as reads
-use Rattle.mappings.proofs.couplings.read_coupling.Lts as lts
-use Rattle.mappings.proofs.couplings.read_channel.Reads as read-channel-reads
-use Rattle.reading.proofs.buffers.write_u8.Reads as write-u8-reads
 
 read-channel-requires : tie.Need-read-channel-requires
 read-channel-requires c κs = search needs

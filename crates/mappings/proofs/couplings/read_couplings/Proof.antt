@@ -1,3 +1,4 @@
+-- `mappings::couplings::read_couplings` meets its contract, by Fillings. Assumes nothing.
 use Prim.Native.Nat.{_+_, _*_, _-_, _≤_}
 use mathlib.Core.Path.{_≡_}
 use Rattle.mappings.proofs.Fillings.{Filling, filling, fill-refused, fill-next, fill-done}
@@ -6,9 +7,6 @@ use Rattle.mappings.specs.Layout.{couplingRow}
 use borrow.Author.Needs.{needs}
 use Rattle.mappings.proofs.couplings.read_couplings.Statement.{statement}
 use Rattle.mappings.proofs.couplings.read_couplings.Tie as tie
-use Rattle.mappings.proofs.couplings.read_couplings.Reads as reads
-use Rattle.mappings.proofs.couplings.read_couplings.Lts as lts
-use Rattle.mappings.proofs.couplings.read_coupling.Reads as read-coupling-reads
 
 abbrev Inv-loop : tie.InvT-loop
 Inv-loop packet count channels row₀ k₀ i₀ at₀ row k i at = (1 ≤ channels) × (channels ≤ 255) × (count ≤ 256) × (at ≡ 4 + 2 * i) × Filling couplingRow (coupling channels) packet count k₀ row₀ 4 i k row at

@@ -1,3 +1,4 @@
+-- `mappings::submaps::read_channels` meets its contract, by Fillings. Assumes nothing.
 use Prim.Native.Nat.{_+_, _-_, _≤_}
 use mathlib.Core.Path.{_≡_}
 use Rattle.mappings.proofs.Fillings.{Filling, filling, fill-refused, fill-next, fill-done}
@@ -6,9 +7,6 @@ use Rattle.mappings.specs.Layout.{multiplexRow}
 use borrow.Author.Needs.{needs}
 use Rattle.mappings.proofs.submaps.read_channels.Statement.{statement}
 use Rattle.mappings.proofs.submaps.read_channels.Tie as tie
-use Rattle.mappings.proofs.submaps.read_channels.Reads as reads
-use Rattle.mappings.proofs.submaps.read_channels.Lts as lts
-use Rattle.mappings.proofs.submaps.read_multiplex.Reads as read-multiplex-reads
 
 abbrev Inv-loop : tie.InvT-loop
 Inv-loop packet channels submaps row₀ k₀ i₀ at₀ row k i at = (channels ≤ 255) × (at ≡ 516 + i) × Filling multiplexRow (multiplex submaps) packet channels k₀ row₀ 516 i k row at

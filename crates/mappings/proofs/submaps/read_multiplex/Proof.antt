@@ -1,11 +1,8 @@
+-- `mappings::submaps::read_multiplex` meets its contract, by SubmapLaws. Assumes nothing.
 use Rattle.mappings.proofs.SubmapLaws.{multiplex-laws}
 use borrow.Author.Needs.{needs}
 use Rattle.mappings.proofs.submaps.read_multiplex.Statement.{statement}
 use Rattle.mappings.proofs.submaps.read_multiplex.Tie as tie
-use Rattle.mappings.proofs.submaps.read_multiplex.Reads as reads
-use Rattle.mappings.proofs.submaps.read_multiplex.Lts as lts
-use Rattle.bits.proofs.Cursor.field.Reads as field-reads
-use Rattle.reading.proofs.buffers.put_u8.Reads as put-u8-reads
 
 field-requires : tie.Need-field-requires
 field-requires c κs = search needs

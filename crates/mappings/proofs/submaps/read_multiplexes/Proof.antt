@@ -1,10 +1,8 @@
+-- `mappings::submaps::read_multiplexes` meets its contract, by SubmapLaws. Assumes nothing.
 use Rattle.mappings.proofs.SubmapLaws.{multiplex-laws, multiplex-each}
 use borrow.Author.Needs.{needs}
 use Rattle.mappings.proofs.submaps.read_multiplexes.Statement.{statement}
 use Rattle.mappings.proofs.submaps.read_multiplexes.Tie as tie
-use Rattle.mappings.proofs.submaps.read_multiplexes.Reads as reads
-use Rattle.mappings.proofs.submaps.read_multiplexes.Lts as lts
-use Rattle.mappings.proofs.submaps.read_channels.Reads as read-channels-reads
 
 returns : tie.Need-returns
 returns c = search multiplex-laws

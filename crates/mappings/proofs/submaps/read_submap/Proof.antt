@@ -1,11 +1,8 @@
+-- `mappings::submaps::read_submap` meets its contract, by SubmapLaws. Assumes nothing.
 use Rattle.mappings.proofs.SubmapLaws.{byte-fits, floor-unknown, residue-unknown, discarded-cut, floor-cut, residue-cut, submap-whole}
 use borrow.Author.Needs.{needs}
 use Rattle.mappings.proofs.submaps.read_submap.Statement.{statement}
 use Rattle.mappings.proofs.submaps.read_submap.Tie as tie
-use Rattle.mappings.proofs.submaps.read_submap.Reads as reads
-use Rattle.mappings.proofs.submaps.read_submap.Lts as lts
-use Rattle.bits.proofs.Cursor.field.Reads as field-reads
-use Rattle.reading.proofs.buffers.write_u8.Reads as write-u8-reads
 
 field-requires : tie.Need-field-requires
 field-requires c κs = search needs

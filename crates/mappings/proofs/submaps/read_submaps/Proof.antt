@@ -1,3 +1,4 @@
+-- `mappings::submaps::read_submaps` meets its contract, by Fillings. Assumes nothing.
 use Prim.Native.Nat.{_+_, _*_, _-_, _≤_}
 use mathlib.Core.Path.{_≡_}
 use Rattle.mappings.proofs.Fillings.{Filling, filling, fill-refused, fill-next, fill-done}
@@ -6,9 +7,6 @@ use Rattle.mappings.specs.Layout.{submapRow}
 use borrow.Author.Needs.{needs}
 use Rattle.mappings.proofs.submaps.read_submaps.Statement.{statement}
 use Rattle.mappings.proofs.submaps.read_submaps.Tie as tie
-use Rattle.mappings.proofs.submaps.read_submaps.Reads as reads
-use Rattle.mappings.proofs.submaps.read_submaps.Lts as lts
-use Rattle.mappings.proofs.submaps.read_submap.Reads as read-submap-reads
 
 abbrev Inv-loop : tie.InvT-loop
 Inv-loop packet count known row₀ k₀ i₀ at₀ row k i at = (count ≤ 16) × (at ≡ 772 + 2 * i) × Filling submapRow (submap known) packet count k₀ row₀ 772 i k row at

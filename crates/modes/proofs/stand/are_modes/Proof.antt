@@ -1,3 +1,4 @@
+-- `modes::stand::are_modes` meets its contract, by StandLaws and reading's PairRows. Assumes nothing.
 use Rattle.reading.proofs.PairRows.{Finding}
 use Rattle.modes.specs.Valid.{ValidMode}
 use Prim.Native.Nat.{_-_, _≤_}
@@ -5,10 +6,6 @@ use Rattle.modes.proofs.StandLaws.{mode-pairs, stand-laws}
 use borrow.Author.Needs.{needs}
 use Rattle.modes.proofs.stand.are_modes.Statement.{statement}
 use Rattle.modes.proofs.stand.are_modes.Tie as tie
-use Rattle.modes.proofs.stand.are_modes.Reads as reads
-use Rattle.modes.proofs.stand.are_modes.Lts as lts
-use Rattle.modes.proofs.stand.is_mode.Reads as is-mode-reads
-use Rattle.reading.proofs.zeros.zeros_u8.Reads as zeros-u8-reads
 
 abbrev Inv-loop : tie.InvT-loop
 Inv-loop modes count mappings i₀ i = (count ≤ 64) × Finding (ValidMode mappings) mode-pairs count modes i

@@ -1,8 +1,7 @@
+-- `modes::stand::is_mode` meets its contract, by StandLaws. Assumes nothing.
 use Rattle.modes.proofs.StandLaws.{number-laws}
 use Rattle.modes.proofs.stand.is_mode.Statement.{statement}
 use Rattle.modes.proofs.stand.is_mode.Tie as tie
-use Rattle.modes.proofs.stand.is_mode.Reads as reads
-use Rattle.modes.proofs.stand.is_mode.Lts as lts
 
 returns : tie.Need-returns
 returns c = search number-laws

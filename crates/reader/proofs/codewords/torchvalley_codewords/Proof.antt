@@ -1,11 +1,8 @@
+-- `reader::codewords::torchvalley_codewords` meets its contract, by Laws. Assumes nothing.
 use borrow.Author.Needs.{needs}
 use Rattle.reader.proofs.Laws.{codewords-answer}
 use Rattle.reader.proofs.codewords.torchvalley_codewords.Statement.{statement}
 use Rattle.reader.proofs.codewords.torchvalley_codewords.Tie as tie
-use Rattle.reader.proofs.codewords.torchvalley_codewords.Reads as reads
-use Rattle.reader.proofs.codewords.torchvalley_codewords.Lts as lts
-use Rattle.codespace.proofs.book.assign_codewords.Reads as assign-codewords-reads
-use Rattle.reader.proofs.codewords.number_of.Reads as number-of-reads
 
 assign-codewords-requires : tie.Need-assign-codewords-requires
 assign-codewords-requires c κs = search needs

@@ -1,12 +1,10 @@
+-- `reading::buffers::write_u16` meets its contract, by Tables. Assumes nothing.
 use Prim.Native.Nat.{_<_, _-_}
 use lib.ListN.{length}
 use borrow.Author.Needs.{needs}
 use Rattle.reading.proofs.Tables.{Writing, writing}
 use Rattle.reading.proofs.buffers.write_u16.Statement.{statement}
 use Rattle.reading.proofs.buffers.write_u16.Tie as tie
-use Rattle.reading.proofs.buffers.write_u16.Reads as reads
-use Rattle.reading.proofs.buffers.write_u16.Lts as lts
-use Rattle.reading.proofs.buffers.put_u16.Reads as put-u16-reads
 
 abbrev Inv-loop : tie.InvT-loop
 Inv-loop buffer₀ at values i₀ buffer i = (at < length buffer₀) × Writing buffer₀ at values buffer i

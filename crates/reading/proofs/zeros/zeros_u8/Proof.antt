@@ -1,11 +1,10 @@
+-- `reading::zeros::zeros_u8` meets its contract, by Stands. Assumes nothing.
 use Prim.Native.Nat.{_-_}
 use lib.ListN.{length}
 use Rattle.reading.proofs.Stands.{Zeroing, zeroing}
 use borrow.Author.Needs.{needs}
 use Rattle.reading.proofs.zeros.zeros_u8.Statement.{statement}
 use Rattle.reading.proofs.zeros.zeros_u8.Tie as tie
-use Rattle.reading.proofs.zeros.zeros_u8.Reads as reads
-use Rattle.reading.proofs.zeros.zeros_u8.Lts as lts
 
 abbrev Inv-loop : tie.InvT-loop
 Inv-loop buffer from i₀ i = Zeroing buffer from i

@@ -1,3 +1,4 @@
+-- `residue_tables::stand::are_residues` meets its contract, by StandLaws and StandTheorem. Assumes nothing.
 use Prim.Native.Nat.{_-_}
 use Rattle.residues.specs.FromTable.{booksOf}
 use Rattle.residue_tables.proofs.StandLaws.{Standing, standing-start, standing-next, standing-failed, tail-failed, tail-judged}
@@ -5,12 +6,6 @@ use Rattle.residue_tables.proofs.StandTheorem.{one-content, short, shor
 use borrow.Author.Needs.{needs}
 use Rattle.residue_tables.proofs.stand.are_residues.Statement.{statement}
 use Rattle.residue_tables.proofs.stand.are_residues.Tie as tie
-use Rattle.residue_tables.proofs.stand.are_residues.Reads as reads
-use Rattle.residue_tables.proofs.stand.are_residues.Lts as lts
-use Rattle.residue_tables.proofs.stand.stands.Reads as stands-reads
-use Rattle.residue_tables.proofs.stand.wide.Reads as wide-reads
-use Rattle.residue_tables.proofs.stand.zeros.Reads as zeros-reads
-use Rattle.residue_tables.proofs.stand.zeros_wide.Reads as zeros-wide-reads
 
 abbrev Inv-loop : tie.InvT-loop
 Inv-loop residues plans n count books i₀ i = Standing (booksOf count books) n residues plans i

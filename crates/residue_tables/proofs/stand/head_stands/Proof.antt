@@ -1,10 +1,8 @@
+-- `residue_tables::stand::head_stands` meets its contract, by StandLaws. Assumes nothing.
 use Rattle.residue_tables.proofs.StandLaws.{type-over, begin-over, end-over, size-none, size-over, classes-none, classes-over, classbook-over, head-judged}
 use borrow.Author.Needs.{needs}
 use Rattle.residue_tables.proofs.stand.head_stands.Statement.{statement}
 use Rattle.residue_tables.proofs.stand.head_stands.Tie as tie
-use Rattle.residue_tables.proofs.stand.head_stands.Reads as reads
-use Rattle.residue_tables.proofs.stand.head_stands.Lts as lts
-use Rattle.residues.proofs.fits.head_fits.Reads as head-fits-reads
 
 returns : tie.Need-returns
 returns c = search type-over

@@ -1,16 +1,9 @@
+-- `residue_tables::stand::stands` meets its contract, by StandLaws. Assumes nothing.
 use mathlib.Core.Path.{refl}
 use Rattle.residue_tables.proofs.StandLaws.{head-fails, set-up-fails, fits-fails, stands-whole}
 use borrow.Author.Needs.{needs}
 use Rattle.residue_tables.proofs.stand.stands.Statement.{statement}
 use Rattle.residue_tables.proofs.stand.stands.Tie as tie
-use Rattle.residue_tables.proofs.stand.stands.Reads as reads
-use Rattle.residue_tables.proofs.stand.stands.Lts as lts
-use Rattle.residues.proofs.fits.places_fit.Reads as places-fit-reads
-use Rattle.residue_tables.proofs.stand.head_stands.Reads as head-stands-reads
-use Rattle.residue_tables.proofs.stand.places_set_up.Reads as places-set-up-reads
-use Rattle.residue_tables.proofs.stand.wide.Reads as wide-reads
-use Rattle.residue_tables.proofs.stand.zeros.Reads as zeros-reads
-use Rattle.residue_tables.proofs.table.head.Reads as head-reads
 
 head-requires : tie.Need-head-requires
 head-requires c κs = search needs

@@ -1,11 +1,10 @@
+-- `residue_tables::stand::zeros` meets its contract, by residues's FitsLaws. Assumes nothing.
 use Prim.Native.Nat.{_-_}
 use Rattle.residues.proofs.FitsLaws.{Testing, zero-laws}
 use lib.Dec.{eqb}
 use borrow.Author.Needs.{needs}
 use Rattle.residue_tables.proofs.stand.zeros.Statement.{statement}
 use Rattle.residue_tables.proofs.stand.zeros.Tie as tie
-use Rattle.residue_tables.proofs.stand.zeros.Reads as reads
-use Rattle.residue_tables.proofs.stand.zeros.Lts as lts
 
 abbrev Inv-loop : tie.InvT-loop
 Inv-loop places from to i₀ i = Testing (λ b. eqb b 0) places i₀ to i

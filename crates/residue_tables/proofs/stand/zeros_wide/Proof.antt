@@ -1,11 +1,10 @@
+-- `residue_tables::stand::zeros_wide` meets its contract, by residues's FitsLaws. Assumes nothing.
 use Prim.Native.Nat.{_-_}
 use Rattle.residues.proofs.FitsLaws.{Testing, zero-laws}
 use lib.Dec.{eqb}
 use borrow.Author.Needs.{needs}
 use Rattle.residue_tables.proofs.stand.zeros_wide.Statement.{statement}
 use Rattle.residue_tables.proofs.stand.zeros_wide.Tie as tie
-use Rattle.residue_tables.proofs.stand.zeros_wide.Reads as reads
-use Rattle.residue_tables.proofs.stand.zeros_wide.Lts as lts
 
 abbrev Inv-loop : tie.InvT-loop
 Inv-loop numbers from to i₀ i = Testing (λ b. eqb b 0) numbers i₀ to i

@@ -1,10 +1,7 @@
+-- `residue_tables::table::number` meets its contract. Assumes nothing.
 use borrow.Author.Needs.{needs}
 use Rattle.residue_tables.proofs.table.number.Statement.{statement}
 use Rattle.residue_tables.proofs.table.number.Tie as tie
-use Rattle.residue_tables.proofs.table.number.Reads as reads
-use Rattle.residue_tables.proofs.table.number.Lts as lts
-use Rattle.reading.proofs.buffers.get_u32.Reads as get-u32-reads
-use Rattle.residue_tables.proofs.table.wide.Reads as wide-reads
 
 wide-requires : tie.Need-wide-requires
 wide-requires c κs = search needs

@@ -1,11 +1,8 @@
+-- `residue_tables::table::plan_place` meets its contract, by TableLaws. Assumes nothing.
 use Rattle.residue_tables.proofs.TableLaws.{table-laws}
 use borrow.Author.Needs.{needs}
 use Rattle.residue_tables.proofs.table.plan_place.Statement.{statement}
 use Rattle.residue_tables.proofs.table.plan_place.Tie as tie
-use Rattle.residue_tables.proofs.table.plan_place.Reads as reads
-use Rattle.residue_tables.proofs.table.plan_place.Lts as lts
-use Rattle.reading.proofs.buffers.get_u16.Reads as get-u16-reads
-use Rattle.residue_tables.proofs.table.wide.Reads as wide-reads
 
 wide-requires : tie.Need-wide-requires
 wide-requires c κs = search needs

@@ -1,11 +1,8 @@
+-- `residues::cascade::read_cascade` meets its contract, by CascadeLaws. Assumes nothing.
 use Rattle.residues.proofs.CascadeLaws.{cascade-laws, low-alone, low-cut, flag-cut, high-cut, high-and-low}
 use borrow.Author.Needs.{needs}
 use Rattle.residues.proofs.cascade.read_cascade.Statement.{statement}
 use Rattle.residues.proofs.cascade.read_cascade.Tie as tie
-use Rattle.residues.proofs.cascade.read_cascade.Reads as reads
-use Rattle.residues.proofs.cascade.read_cascade.Lts as lts
-use Rattle.bits.proofs.Cursor.bit.Reads as bit-reads
-use Rattle.bits.proofs.Cursor.field.Reads as field-reads
 
 field-requires : tie.Need-field-requires
 field-requires c κs = search needs

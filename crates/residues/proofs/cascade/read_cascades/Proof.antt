@@ -1,11 +1,9 @@
+-- `residues::cascade::read_cascades` meets its contract, by CascadeLaws. Assumes nothing.
 use Prim.Native.Nat.{_-_}
 use Rattle.residues.proofs.CascadeLaws.{Cascading, cascades-laws}
 use borrow.Author.Needs.{needs}
 use Rattle.residues.proofs.cascade.read_cascades.Statement.{statement}
 use Rattle.residues.proofs.cascade.read_cascades.Tie as tie
-use Rattle.residues.proofs.cascade.read_cascades.Reads as reads
-use Rattle.residues.proofs.cascade.read_cascades.Lts as lts
-use Rattle.residues.proofs.cascade.read_cascade.Reads as read-cascade-reads
 
 abbrev Inv-loop : tie.InvT-loop
 Inv-loop packet classes numbers₀ at₀ i₀ numbers at i = Cascading packet classes at₀ numbers at i

@@ -1,12 +1,8 @@
+-- `residues::fits::head_fits` meets its contract, by FitsLaws. Assumes nothing.
 use Rattle.residues.proofs.FitsLaws.{begin-above, class-words}
 use borrow.Author.Needs.{needs}
 use Rattle.residues.proofs.fits.head_fits.Statement.{statement}
 use Rattle.residues.proofs.fits.head_fits.Tie as tie
-use Rattle.residues.proofs.fits.head_fits.Reads as reads
-use Rattle.residues.proofs.fits.head_fits.Lts as lts
-use Rattle.book.proofs.dimensions.Reads as dimensions-reads
-use Rattle.book.proofs.entries.Reads as entries-reads
-use Rattle.power.proofs.power_within.Reads as power-within-reads
 
 returns : tie.Need-returns
 returns c = search begin-above

@@ -1,11 +1,8 @@
+-- `residues::fits::place_fits` meets its contract, by FitsLaws. Assumes nothing.
 use Rattle.residues.proofs.FitsLaws.{empty-place, no-values, no-dimensions, divides}
 use borrow.Author.Needs.{needs}
 use Rattle.residues.proofs.fits.place_fits.Statement.{statement}
 use Rattle.residues.proofs.fits.place_fits.Tie as tie
-use Rattle.residues.proofs.fits.place_fits.Reads as reads
-use Rattle.residues.proofs.fits.place_fits.Lts as lts
-use Rattle.book.proofs.dimensions.Reads as dimensions-reads
-use Rattle.book.proofs.lookup.Reads as lookup-reads
 
 returns : tie.Need-returns
 returns c = search empty-place

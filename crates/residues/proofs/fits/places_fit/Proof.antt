@@ -1,3 +1,4 @@
+-- `residues::fits::places_fit` meets its contract, by FitsLaws. Assumes nothing.
 use Prim.Native.Nat.{_-_}
 use Rattle.residues.proofs.FitsLaws.{Testing, testing-laws}
 use Rattle.residues.specs.Reading.{placeFits}
@@ -5,10 +6,6 @@ use Rattle.residues.specs.FromTable.{booksOf}
 use borrow.Author.Needs.{needs}
 use Rattle.residues.proofs.fits.places_fit.Statement.{statement}
 use Rattle.residues.proofs.fits.places_fit.Tie as tie
-use Rattle.residues.proofs.fits.places_fit.Reads as reads
-use Rattle.residues.proofs.fits.places_fit.Lts as lts
-use Rattle.residues.proofs.fits.place_fits.Reads as place-fits-reads
-use Rattle.residues.proofs.fits.wide.Reads as wide-reads
 
 abbrev Inv-loop : tie.InvT-loop
 Inv-loop places from to size books i₀ i = Testing (placeFits (booksOf 0 books) size) places i₀ to i

@@ -1,3 +1,4 @@
+-- `residues::fits::plan_fits` meets its contract, by FitsLaws. Assumes nothing.
 use Prim.Native.Nat.{_-_}
 use Rattle.residues.specs.Reading.{placeFits}
 use Rattle.residues.specs.FromTable.{booksOf}
@@ -5,9 +6,6 @@ use Rattle.residues.proofs.FitsLaws.{TestingRows, rows-laws}
 use borrow.Author.Needs.{needs}
 use Rattle.residues.proofs.fits.plan_fits.Statement.{statement}
 use Rattle.residues.proofs.fits.plan_fits.Tie as tie
-use Rattle.residues.proofs.fits.plan_fits.Reads as reads
-use Rattle.residues.proofs.fits.plan_fits.Lts as lts
-use Rattle.residues.proofs.fits.places_fit.Reads as places-fit-reads
 
 abbrev Inv-loop : tie.InvT-loop
 Inv-loop classes size books plan i₀ i = TestingRows (placeFits (booksOf 0 books) size) plan classes i

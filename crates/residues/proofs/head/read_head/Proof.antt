@@ -1,11 +1,8 @@
+-- `residues::head::read_head` meets its contract, by HeadLaws. Assumes nothing.
 use Rattle.residues.proofs.HeadLaws.{type-large, type-cut, begin-cut, end-cut, head-rest}
 use borrow.Author.Needs.{needs}
 use Rattle.residues.proofs.head.read_head.Statement.{statement}
 use Rattle.residues.proofs.head.read_head.Tie as tie
-use Rattle.residues.proofs.head.read_head.Reads as reads
-use Rattle.residues.proofs.head.read_head.Lts as lts
-use Rattle.bits.proofs.Cursor.field.Reads as field-reads
-use Rattle.residues.proofs.head.read_head_from.Reads as read-head-from-reads
 
 field-requires : tie.Need-field-requires
 field-requires c κs = search needs

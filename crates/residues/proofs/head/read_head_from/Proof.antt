@@ -1,10 +1,8 @@
+-- `residues::head::read_head_from` meets its contract, by HeadLaws. Assumes nothing.
 use Rattle.residues.proofs.HeadLaws.{head-laws, classbook-unset, size-cut, classes-cut, classbook-cut, head-whole}
 use borrow.Author.Needs.{needs}
 use Rattle.residues.proofs.head.read_head_from.Statement.{statement}
 use Rattle.residues.proofs.head.read_head_from.Tie as tie
-use Rattle.residues.proofs.head.read_head_from.Reads as reads
-use Rattle.residues.proofs.head.read_head_from.Lts as lts
-use Rattle.bits.proofs.Cursor.field.Reads as field-reads
 
 field-requires : tie.Need-field-requires
 field-requires c κs = search needs

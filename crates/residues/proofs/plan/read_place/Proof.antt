@@ -1,10 +1,8 @@
+-- `residues::plan::read_place` meets its contract, by PlanLaws. Assumes nothing.
 use Rattle.residues.proofs.PlanLaws.{place-laws, place-none, place-unset, place-cut, place-book}
 use borrow.Author.Needs.{needs}
 use Rattle.residues.proofs.plan.read_place.Statement.{statement}
 use Rattle.residues.proofs.plan.read_place.Tie as tie
-use Rattle.residues.proofs.plan.read_place.Reads as reads
-use Rattle.residues.proofs.plan.read_place.Lts as lts
-use Rattle.bits.proofs.Cursor.field.Reads as field-reads
 
 returns : tie.Need-returns
 returns c = search place-none

@@ -1,11 +1,9 @@
+-- `residues::plan::read_row` meets its contract, by PlanLaws. Assumes nothing.
 use Prim.Native.Nat.{_-_}
 use Rattle.residues.proofs.PlanLaws.{RowFilling, row-laws}
 use borrow.Author.Needs.{needs}
 use Rattle.residues.proofs.plan.read_row.Statement.{statement}
 use Rattle.residues.proofs.plan.read_row.Tie as tie
-use Rattle.residues.proofs.plan.read_row.Reads as reads
-use Rattle.residues.proofs.plan.read_row.Lts as lts
-use Rattle.residues.proofs.plan.read_place.Reads as read-place-reads
 
 abbrev Inv-loop : tie.InvT-loop
 Inv-loop packet count cascade books₀ at₀ j₀ books at j = RowFilling packet count cascade at₀ books at j

@@ -1,11 +1,9 @@
+-- `residues::plan::write_plan` meets its contract, by RowsLaws. Assumes nothing.
 use Prim.Native.Nat.{_-_}
 use Rattle.residues.proofs.RowsLaws.{WritingRows, writing-laws}
 use borrow.Author.Needs.{needs}
 use Rattle.residues.proofs.plan.write_plan.Statement.{statement}
 use Rattle.residues.proofs.plan.write_plan.Tie as tie
-use Rattle.residues.proofs.plan.write_plan.Reads as reads
-use Rattle.residues.proofs.plan.write_plan.Lts as lts
-use Rattle.reading.proofs.buffers.write_u16.Reads as write-u16-reads
 
 abbrev Inv-loop : tie.InvT-loop
 Inv-loop plans₀ at plan i₀ plans i = WritingRows plans₀ at plan plans i

@@ -1,3 +1,4 @@
+-- `residues::read::read_plan` meets its contract, by ReadLaws. Assumes nothing.
 use Rattle.bits.specs.Cursors.{position}
 use Rattle.residues.specs.Heads.{headOf}
 use Rattle.residues.specs.Plans.{tablesAt}
@@ -7,14 +8,6 @@ use Rattle.residues.proofs.ReadLaws.{Planning, planning-start, planning
 use borrow.Author.Needs.{needs}
 use Rattle.residues.proofs.read.read_plan.Statement.{statement}
 use Rattle.residues.proofs.read.read_plan.Tie as tie
-use Rattle.residues.proofs.read.read_plan.Reads as reads
-use Rattle.residues.proofs.read.read_plan.Lts as lts
-use Rattle.residues.proofs.fits.head_fits.Reads as head-fits-reads
-use Rattle.residues.proofs.fits.plan_fits.Reads as plan-fits-reads
-use Rattle.residues.proofs.plan.read_row.Reads as read-row-reads
-use Rattle.residues.proofs.plan.write_plan.Reads as write-plan-reads
-use Rattle.residues.proofs.read.wide.Reads as wide-reads
-use Rattle.residues.proofs.read.write_head.Reads as write-head-reads
 
 abbrev Inv-loop : tie.InvT-loop
 Inv-loop packet count head place books residues plans index cascades classes plan₀ at₀ i₀ plan at i =

@@ -1,13 +1,8 @@
+-- `residues::read::read_residue` meets its contract, by ResidueLaws. Assumes nothing.
 use Rattle.residues.proofs.ResidueLaws.{residue-laws}
 use borrow.Author.Needs.{needs}
 use Rattle.residues.proofs.read.read_residue.Statement.{statement}
 use Rattle.residues.proofs.read.read_residue.Tie as tie
-use Rattle.residues.proofs.read.read_residue.Reads as reads
-use Rattle.residues.proofs.read.read_residue.Lts as lts
-use Rattle.residues.proofs.cascade.read_cascades.Reads as read-cascades-reads
-use Rattle.residues.proofs.head.read_head.Reads as read-head-reads
-use Rattle.residues.proofs.read.read_plan.Reads as read-plan-reads
-use Rattle.residues.proofs.read.wide.Reads as wide-reads
 
 read-head-requires : tie.Need-read-head-requires
 read-head-requires c κs = search needs

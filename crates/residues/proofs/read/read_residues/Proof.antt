@@ -1,3 +1,4 @@
+-- `residues::read::read_residues` meets its contract, by Laws and ResidueLaws. Assumes nothing.
 use Rattle.residues.proofs.Laws.{accepted-valid}
 use Prim.Native.Nat.{_-_}
 use Rattle.residues.specs.FromTable.{booksOf}
@@ -5,9 +6,6 @@ use Rattle.residues.proofs.ResidueLaws.{ReadingResidues, residues-laws}
 use borrow.Author.Needs.{needs}
 use Rattle.residues.proofs.read.read_residues.Statement.{statement}
 use Rattle.residues.proofs.read.read_residues.Tie as tie
-use Rattle.residues.proofs.read.read_residues.Reads as reads
-use Rattle.residues.proofs.read.read_residues.Lts as lts
-use Rattle.residues.proofs.read.read_residue.Reads as read-residue-reads
 
 abbrev Inv-loop : tie.InvT-loop
 Inv-loop packet count books residues₀ plans₀ n at₀ i₀ residues plans at i = ReadingResidues (booksOf count books) packet n at₀ residues₀ plans₀ residues plans at i

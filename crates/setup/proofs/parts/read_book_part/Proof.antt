@@ -1,65 +1,48 @@
+-- `setup::parts::read_book_part` meets its contract, by PartLaws. Assumes nothing.
 use Rattle.setup.proofs.PartLaws.{book-part-laws}
 use borrow.Author.Needs.{needs}
 use Rattle.setup.proofs.parts.read_book_part.Statement.{statement}
 use Rattle.setup.proofs.parts.read_book_part.Tie as tie
-use Rattle.setup.proofs.parts.read_book_part.Reads as reads
-use Rattle.setup.proofs.parts.read_book_part.Lts as lts
-use Rattle.setup.proofs.sections.read_book_section.Reads as read-book-section-reads
-use Rattle.setup.proofs.sections.read_time_section.Reads as read-time-section-reads
 
--- src/parts.rt:34:9
 read-book-section-requires : tie.Need-read-book-section-requires
 read-book-section-requires c κs = search needs
 
--- src/parts.rt:38:23
 enum-known-step : tie.Need-enum-known-step
 enum-known-step c = search needs
 
--- src/parts.rt:42:20
 enum-known-step-2 : tie.Need-enum-known-step-2
 enum-known-step-2 c = search needs
 
--- src/parts.rt:44:19
 read-time-section-requires : tie.Need-read-time-section-requires
 read-time-section-requires c κs = search needs
 
--- src/parts.rt:21:1
 same-length : tie.Need-same-length
 same-length c = search needs
 
--- src/parts.rt:21:1
 same-length-2 : tie.Need-same-length-2
 same-length-2 c = search needs
 
--- src/parts.rt:21:1
 same-length-3 : tie.Need-same-length-3
 same-length-3 c = search needs
 
--- src/parts.rt:21:1
 same-length-4 : tie.Need-same-length-4
 same-length-4 c = search needs
 
--- src/parts.rt:21:1
 returns : tie.Need-returns
 returns c = search book-part-laws
 
--- src/parts.rt:21:1
 same-length-5 : tie.Need-same-length-5
 same-length-5 c = search needs
 
--- src/parts.rt:21:1
 same-length-6 : tie.Need-same-length-6
 same-length-6 c = search needs
 
--- src/parts.rt:21:1
 same-length-7 : tie.Need-same-length-7
 same-length-7 c = search needs
 
--- src/parts.rt:21:1
 same-length-8 : tie.Need-same-length-8
 same-length-8 c = search needs
 
--- src/parts.rt:21:1
 returns-2 : tie.Need-returns-2
 returns-2 c = search book-part-laws
 

@@ -1,37 +1,27 @@
+-- `setup::sections::read_time_section` meets its contract, by SectionLaws. Assumes nothing.
 use Rattle.setup.proofs.SectionLaws.{time-laws}
 use borrow.Author.Needs.{needs}
 use Rattle.setup.proofs.sections.read_time_section.Statement.{statement}
 use Rattle.setup.proofs.sections.read_time_section.Tie as tie
-use Rattle.setup.proofs.sections.read_time_section.Reads as reads
-use Rattle.setup.proofs.sections.read_time_section.Lts as lts
-use Rattle.bits.proofs.Cursor.field.Reads as field-reads
-use Rattle.setup.proofs.sections.read_time_values.Reads as read-time-values-reads
 
--- src/sections.rt:114:11
 field-requires : tie.Need-field-requires
 field-requires c κs = search needs
 
--- src/sections.rt:115:24
 enum-known-z : tie.Need-enum-known-z
 enum-known-z c = search needs
 
--- src/sections.rt:116:22
 enum-known-less-one : tie.Need-enum-known-less-one
 enum-known-less-one c = search needs
 
--- src/sections.rt:116:72
 add-read-time-values : tie.Need-add-read-time-values
 add-read-time-values c = search time-laws
 
--- src/sections.rt:116:41
 read-time-values-requires : tie.Need-read-time-values-requires
 read-time-values-requires c κs = search needs
 
--- src/sections.rt:111:1
 returns : tie.Need-returns
 returns c = search time-laws
 
--- src/sections.rt:111:1
 returns-2 : tie.Need-returns-2
 returns-2 c = search time-laws
 

@@ -1,32 +1,24 @@
+-- `setup::sections::read_time_value` meets its contract, by SectionLaws. Assumes nothing.
 use Rattle.setup.proofs.SectionLaws.{time-wrong, time-cut, time-read}
 use borrow.Author.Needs.{needs}
 use Rattle.setup.proofs.sections.read_time_value.Statement.{statement}
 use Rattle.setup.proofs.sections.read_time_value.Tie as tie
-use Rattle.setup.proofs.sections.read_time_value.Reads as reads
-use Rattle.setup.proofs.sections.read_time_value.Lts as lts
-use Rattle.bits.proofs.Cursor.field.Reads as field-reads
 
--- src/sections.rt:77:11
 field-requires : tie.Need-field-requires
 field-requires c κs = search needs
 
--- src/sections.rt:78:24
 enum-known-z : tie.Need-enum-known-z
 enum-known-z c = search needs
 
--- src/sections.rt:79:22
 enum-known-value : tie.Need-enum-known-value
 enum-known-value c = search needs
 
--- src/sections.rt:81:17
 returns : tie.Need-returns
 returns c = search time-wrong
 
--- src/sections.rt:74:1
 returns-2 : tie.Need-returns-2
 returns-2 c = search time-cut
 
--- src/sections.rt:74:1
 returns-3 : tie.Need-returns-3
 returns-3 c = search time-read
 

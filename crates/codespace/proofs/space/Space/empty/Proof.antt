@@ -5,8 +5,6 @@ use Rattle.codespace.specs.Blocks.{emptyBlocks}
 use Rattle.codespace.proofs.Claimed.{reached-start}
 use Rattle.codespace.proofs.space.Space.empty.Statement.{statement}
 use Rattle.codespace.proofs.space.Space.empty.Tie as tie
-use Rattle.codespace.proofs.space.Space.empty.Reads as reads
-use Rattle.codespace.proofs.space.Space.empty.Lts as lts
 
 array-write-blocks : tie.Need-array-write-blocks
 array-write-blocks c = search needs
