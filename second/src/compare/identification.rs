@@ -3,9 +3,9 @@
 use crate::library::{self, Identity};
 use crate::report::{hex, Answer, Call, Given, Report};
 use second::generate::random::Random;
-use second::generate::{content, with_changed_field};
+use second::generate::{content, with_faults};
 use second::identification::{self, NAME};
-use second::write::{write_identification, Written};
+use second::write::write_identification;
 
 /// Where the channels and the two block sizes stand in a packet.
 const CHANNELS: usize = 11;
@@ -110,16 +110,4 @@ fn wrong_names(whole: &[u8], random: &mut Random, report: &mut Report) -> Result
         packet(&changed[..random.place(9)], report)?;
     }
     Ok(())
-}
-
-/// One to three fields changed, and now and then a cut: the first fault counts.
-fn with_faults(written: &Written, random: &mut Random) -> Vec<u8> {
-    let mut changed = written.clone();
-    for _ in 0..random.between(1, 3) {
-        changed.bytes = with_changed_field(&changed, random);
-    }
-    if random.one_in(3) {
-        changed.bytes.truncate(random.place(written.bytes.len()));
-    }
-    changed.bytes
 }

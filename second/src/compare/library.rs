@@ -223,33 +223,39 @@ pub fn setup(identity: Identity, packet: &[u8], tables: TablesMut) -> u32 {
     }
 }
 
+/// A call of an identity and the ten tables, each by pointer and length, and what else it takes.
+macro_rules! with_tables {
+    ($call:ident, $identity:expr, $tables:expr $(, $other:expr)*) => {
+        $call(
+            $identity,
+            $tables.counts.as_ptr(),
+            $tables.counts.len(),
+            $tables.books.as_ptr(),
+            $tables.books.len(),
+            $tables.lengths.as_ptr(),
+            $tables.lengths.len(),
+            $tables.codewords.as_ptr(),
+            $tables.codewords.len(),
+            $tables.multiplicands.as_ptr(),
+            $tables.multiplicands.len(),
+            $tables.floors.as_ptr(),
+            $tables.floors.len(),
+            $tables.residues.as_ptr(),
+            $tables.residues.len(),
+            $tables.plans.as_ptr(),
+            $tables.plans.len(),
+            $tables.mappings.as_ptr(),
+            $tables.mappings.len(),
+            $tables.modes.as_ptr(),
+            $tables.modes.len(),
+            $($other),*
+        )
+    };
+}
+
 pub fn setup_sound(identity: Identity, tables: &Tables) -> bool {
     // SAFETY: as above; nothing is written.
-    unsafe {
-        torchvalley_setup_sound(
-            identity,
-            tables.counts.as_ptr(),
-            tables.counts.len(),
-            tables.books.as_ptr(),
-            tables.books.len(),
-            tables.lengths.as_ptr(),
-            tables.lengths.len(),
-            tables.codewords.as_ptr(),
-            tables.codewords.len(),
-            tables.multiplicands.as_ptr(),
-            tables.multiplicands.len(),
-            tables.floors.as_ptr(),
-            tables.floors.len(),
-            tables.residues.as_ptr(),
-            tables.residues.len(),
-            tables.plans.as_ptr(),
-            tables.plans.len(),
-            tables.mappings.as_ptr(),
-            tables.mappings.len(),
-            tables.modes.as_ptr(),
-            tables.modes.len(),
-        )
-    }
+    unsafe { with_tables!(torchvalley_setup_sound, identity, tables) }
 }
 
 pub fn codeword(
@@ -262,33 +268,6 @@ pub fn codeword(
 ) -> CodewordAnswer {
     // SAFETY: as above; nothing is written.
     unsafe {
-        torchvalley_codeword(
-            identity,
-            tables.counts.as_ptr(),
-            tables.counts.len(),
-            tables.books.as_ptr(),
-            tables.books.len(),
-            tables.lengths.as_ptr(),
-            tables.lengths.len(),
-            tables.codewords.as_ptr(),
-            tables.codewords.len(),
-            tables.multiplicands.as_ptr(),
-            tables.multiplicands.len(),
-            tables.floors.as_ptr(),
-            tables.floors.len(),
-            tables.residues.as_ptr(),
-            tables.residues.len(),
-            tables.plans.as_ptr(),
-            tables.plans.len(),
-            tables.mappings.as_ptr(),
-            tables.mappings.len(),
-            tables.modes.as_ptr(),
-            tables.modes.len(),
-            book,
-            packet.as_ptr(),
-            packet.len(),
-            byte,
-            bit,
-        )
+        with_tables!(torchvalley_codeword, identity, tables, book, packet.as_ptr(), packet.len(), byte, bit)
     }
 }

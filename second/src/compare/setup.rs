@@ -8,7 +8,7 @@ use crate::{codeword, setup_sound, sound};
 use second::book::PATTERN;
 use second::generate::fields::{base, Field, Fields, IDENTITY};
 use second::generate::random::Random;
-use second::generate::{content, flipped, spoilt, with_changed_field};
+use second::generate::{content, flipped, spoilt, with_faults};
 use second::limits::Limits;
 use second::setup::{setup, Setup};
 use second::tables::{tables, Tables, COUNT, NAMES, NEEDS};
@@ -121,18 +121,6 @@ pub fn around(
         packet(identity, &flipped(bytes, random), rooms, report)?;
     }
     Ok(whole.content)
-}
-
-/// One to three fields changed, and now and then a cut: the first fault counts.
-fn with_faults(written: &Written, random: &mut Random) -> Vec<u8> {
-    let mut changed = written.clone();
-    for _ in 0..random.between(1, 3) {
-        changed.bytes = with_changed_field(&changed, random);
-    }
-    if random.one_in(3) {
-        changed.bytes.truncate(random.place(written.bytes.len()));
-    }
-    changed.bytes
 }
 
 /// The small setup of the rules' tests.

@@ -108,6 +108,18 @@ pub fn with_changed_field(written: &Written, random: &mut Random) -> Vec<u8> {
     written.with_field(field, changed)
 }
 
+/// One to three fields changed, and now and then a cut: the first fault counts.
+pub fn with_faults(written: &Written, random: &mut Random) -> Vec<u8> {
+    let mut changed = written.clone();
+    for _ in 0..random.between(1, 3) {
+        changed.bytes = with_changed_field(&changed, random);
+    }
+    if random.one_in(3) {
+        changed.bytes.truncate(random.place(written.bytes.len()));
+    }
+    changed.bytes
+}
+
 /// Up to 40 random bytes; half of them begin as an audio packet does.
 pub fn random_bytes(random: &mut Random) -> Vec<u8> {
     let count = random.below(41) as usize;
