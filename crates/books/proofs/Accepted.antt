@@ -16,9 +16,9 @@ use Rattle.bits.specs.Ilog.{ilog}
 use Rattle.bits.proofs.Fields.{field-ok}
 use Rattle.limits.specs.declared.Limits.{Limits}
 use Rattle.codespace.specs.Book.{verdict}
-use Rattle.codespace.specs.Book as B
-use Rattle.codespace.specs.declared.book.Assigned.{Assigned}
-use Rattle.codespace.specs.declared.book.Assigned.the-variants.{Accepted, Overspecified, Underspecified, Mismatched}
+use Rattle.codespace.specs.declared.book.Assigned.the-variants.{Accepted}
+use Rattle.rules.specs.Rules.{meets7, meets8}
+use Rattle.rules.proofs.Laws.{meets-accepted}
 use Rattle.book.specs.Content.{Book}
 use Rattle.books.specs.Reading.{Before, Head, Lookup, noLookup, entryLength, runs, lengths, entered, valueCount, values, lookup, head, book, books, andThis}
 use Rattle.books.specs.Parts.{Parameters, parameters, runNumber, bookOf}
@@ -118,12 +118,6 @@ lengths-known place n s k {ls} {j} e =
         many-known fits (entryLength (c .0 .0)) s (λ k v j h. le-leb v 32 (entry-small (c .0 .0) s k h)) n (c .0 .1) (c .2)
     go false i f = let c = then-ok (field 5 s i) _ f in runs-known place (32 - c .0 .0) n s (c .0 .1) (c .2)
 
-accepted-is : (a : Assigned) → B.refusal a ≡ 0 → a ≡ Accepted
-accepted-is Accepted e = refl
-accepted-is (Overspecified i) e = absurd (omega arith)
-accepted-is Underspecified e = absurd (omega arith)
-accepted-is Mismatched e = absurd (omega arith)
-
 -- a lookup
 pub record LookupKnown (entries dimensions room : ℕ) (l : Lookup) : Type 0 where
   pub lookup : l .lookup ≤ 2
@@ -177,14 +171,15 @@ book-valid l before s k {b} {n} within e =
     let h = then-ok (head l before s k) _ e in
     let c = then-ok (then (lengths k (h .0 .0 .entries) s (h .0 .1)) (λ ls. entered k (ls .0) (ok ls))) _ (h .2) in
     let ls = then-ok (lengths k (h .0 .0 .entries) s (h .0 .1)) _ (c .1) in
-    let v = need-ok (eqb (B.refusal (verdict (ls .0 .0))) 0) (refusal (B.refusal (verdict (ls .0 .0))) k) (ok (ls .0)) (ls .2) in
-    let u : ls .0 ≡ c .0 = same-ok (ok (ls .0)) refl (v .1) in
+    let v = need-ok (meets7 (ls .0 .0)) (refusal 7 k) (need (meets8 (ls .0 .0)) (refusal 8 k) (ok (ls .0))) (ls .2) in
+    let w = need-ok (meets8 (ls .0 .0)) (refusal 8 k) (ok (ls .0)) (v .1) in
+    let u : ls .0 ≡ c .0 = same-ok (ok (ls .0)) refl (w .1) in
     let u₀ : ls .0 .0 ≡ c .0 .0 = ap (λ (x : List ℕ × ℕ). x .0) u in
     let o = then-ok (lookup k (h .0 .0 .entries) (h .0 .0 .dimensions) (l .multiplicands - before .values) s (c .0 .1)) _ (c .2) in
     let q : _≡_ {A = Book × ℕ} (bookOf (h .0 .0) (c .0 .0) (o .0 .0), o .0 .1) (b, n) = same-ok (ok (bookOf (h .0 .0) (c .0 .0) (o .0 .0), o .0 .1)) refl (o .2) in
     valid (h .0 .0) (c .0 .0) (o .0 .0) b (ap (λ (x : Book × ℕ). x .0) q) (head-ok l before s k (h .1))
     (rw u₀ at (lengths-known k (h .0 .0 .entries) s (h .0 .1) (ls .1)))
-    (rw u₀ at (accepted-is (verdict (ls .0 .0)) (eqb-true _ _ (v .0))))
+    (rw u₀ at (meets-accepted (ls .0 .0) (v .0) (w .0)))
     (lookup-known k (h .0 .0 .entries) (h .0 .0 .dimensions) (l .multiplicands - before .values) s (c .0 .1) (o .1))
   where
     valid : (h : Head) (ls : List ℕ) (o : Lookup) (b : Book) → bookOf h ls o ≡ b → HeadKnown l before h → (length ls ≡ h .entries) × (all fits ls ≡ true) → verdict ls ≡ Accepted

@@ -9,13 +9,14 @@ use Rattle.reading.specs.Reader.{Reader, judged, many}
 use Rattle.bits.specs.Field.{field}
 use Rattle.bits.specs.Ilog.{ilog}
 use Rattle.limits.specs.declared.Limits.{Limits}
+use Rattle.rules.specs.Rules as Rule
 use Rattle.codespace.specs.Book.{codewords}
 use Rattle.book.specs.Content.{Book}
 use Rattle.books.specs.Reading.{Head, Lookup, entryLength, runs, lengths, entered, lookup, books}
 
 -- the number of a run's entries
 unfoldable pub runNumber : ℕ → Reader ℕ
-runNumber left = judged (λ n. leb n left) 6 (field (ilog left))
+runNumber left = judged (λ n. Rule.meets6 (Rule.run left n)) 6 (field (ilog left))
 
 -- the lengths behind an ordered flag of 0, and of 1
 unfoldable pub unordered : ℕ → Reader (List ℕ)

@@ -11,10 +11,7 @@ use Rattle.reading.specs.Reader.{Reader, judged, mapped, many}
 use Rattle.bits.specs.Field.{field}
 use Rattle.bits.specs.Ilog.{ilog}
 use Rattle.limits.specs.declared.Limits.{Limits}
-use Rattle.codespace.specs.Book.{verdict}
-use Rattle.codespace.specs.Book as B
-use Rattle.codespace.specs.declared.book.Assigned.{Assigned}
-use Rattle.codespace.specs.declared.book.Assigned.the-variants.{Accepted, Overspecified, Underspecified, Mismatched}
+use Rattle.rules.specs.Rules as Rule
 use Rattle.book.specs.Content.{Book}
 
 -- how many entries and multiplicands the books before have
@@ -31,11 +28,11 @@ entryLength sparse s k =
 
 -- runs of one length each, of entries that are left; t is 33 less the present length, so with none left the length would be above 32
 unfoldable pub runs : ℕ → ℕ → ℕ → Reader (List ℕ)
-runs place zero left s k = need (eqb left 0) (refusal 6 place) (ok ([], k))
+runs place zero left s k = need (Rule.meets6 (Rule.orderedLength left 33)) (refusal 6 place) (ok ([], k))
 runs place (suc t) left s k =
     cond (eqb left 0)
     (ok ([], k))
-    (then (judged (λ n. leb n left) 6 (field (ilog left)) s k) (λ n.
+    (then (judged (λ n. Rule.meets6 (Rule.run left n)) 6 (field (ilog left)) s k) (λ n.
     then (runs place t (left - n .0) s (n .1)) (λ rest.
     ok (replicate (n .0) (32 - t) ++ rest .0, rest .1))))
 
@@ -49,7 +46,7 @@ lengths place entries s k =
 
 -- the lengths entered into an empty space of their own: 7, then 8
 unfoldable pub entered : ℕ → List ℕ → Outcome (List ℕ × ℕ) → Outcome (List ℕ × ℕ)
-entered place ls o = need (eqb (B.refusal (verdict ls)) 0) (refusal (B.refusal (verdict ls)) place) o
+entered place ls o = need (Rule.meets7 ls) (refusal 7 place) (need (Rule.meets8 ls) (refusal 8 place) o)
 
 -- the greatest r not above n with r ^ d not above e
 unfoldable pub greatest : ℕ → ℕ → ℕ → ℕ
@@ -82,13 +79,13 @@ values place type count room s k =
     then (field 32 s (minimum .1)) (λ delta.
     then (field 4 s (delta .1)) (λ width.
     then (field 1 s (width .1)) (λ sequence.
-    need (leb count room) (refusal 14 place)
+    need (Rule.meets14 (Rule.multiplicands room count)) (refusal 14 place)
     (then (many (field (width .0 + 1)) count s (sequence .1)) (λ list.
     ok (record { lookup = type; minimum = minimum .0; delta = delta .0; width = width .0 + 1; sequence = sequence .0; multiplicands = list .0 }, list .1)))))))
 
 unfoldable pub lookup : ℕ → ℕ → ℕ → ℕ → Reader Lookup
 lookup place entries dimensions room s k =
-    then (judged (λ v. leb v 2) 6 (field 4) s k) (λ type.
+    then (judged (λ v. Rule.meets6 (Rule.lookupType v)) 6 (field 4) s k) (λ type.
     cond (eqb (type .0) 0) (ok (noLookup, type .1)) (values place (type .0) (valueCount (type .0) entries dimensions) room s (type .1)))
 
 -- the fields before the lengths: pattern and dimensions (6), entries (6 where 0; 14 above the limit for a book, or with those before above the limit in all)
@@ -98,10 +95,10 @@ pub record Head : Type 0 where
 
 unfoldable pub head : Limits → Before → Reader Head
 head limits before s k =
-    then (judged (λ v. eqb v 0x564342) 6 (field 24) s k) (λ pattern.
-    then (judged (λ v. not (eqb v 0)) 6 (field 16) s (pattern .1)) (λ dimensions.
-    then (judged (λ v. leb (before .entries + v) (limits .entries)) 14
-    (judged (λ v. leb v (limits .«book_entries»)) 14 (judged (λ v. not (eqb v 0)) 6 (field 24))) s (dimensions .1)) (λ entries.
+    then (judged (λ v. Rule.meets6 (Rule.pattern v)) 6 (field 24) s k) (λ pattern.
+    then (judged (λ v. Rule.meets6 (Rule.dimensions v)) 6 (field 16) s (pattern .1)) (λ dimensions.
+    then (judged (λ v. Rule.meets14 (Rule.allEntries (limits .entries) (before .entries) v)) 14
+    (judged (λ v. Rule.meets14 (Rule.bookEntries (limits .«book_entries») v)) 14 (judged (λ v. Rule.meets6 (Rule.entries v)) 6 (field 24))) s (dimensions .1)) (λ entries.
     ok (record { dimensions = dimensions .0; entries = entries .0 }, entries .1))))
 
 -- a book of the setup packet

@@ -10,6 +10,7 @@ use Rattle.reading.specs.Outcome.{refusal, ok, then, need}
 use Rattle.reading.specs.Reader.{Reader, many}
 use Rattle.reading.specs.Lists.{distinct, all}
 use Rattle.reading.specs.Pad.{pad}
+use Rattle.rules.specs.Rules as Rule
 use Rattle.floors.specs.Content.{Class, Floor, xList, classCount, valueCount}
 use Rattle.floors.specs.Layout.{classRow}
 use Rattle.floors.specs.Reading.{class, xValues, Ends, ends}
@@ -32,7 +33,7 @@ classRowOf dimensions subclasses master books = classRow (record { dimensions = 
 unfoldable pub endsFrom : ℕ → ℕ → ℕ → ℕ → Reader Ends
 endsFrom place n multiplier rangebits s k =
     then (xValues place rangebits n s k) (λ xs.
-    need (distinct (xList rangebits (xs .0))) (refusal 12 place)
+    need (Rule.meets12 (Rule.values (xList rangebits (xs .0)))) (refusal 12 place)
     (ok (record { multiplier = multiplier; rangebits = rangebits; xs = xs .0 }, xs .1)))
 
 -- the ends of a floor as the program holds them: the X list in a buffer of 65 places

@@ -7,6 +7,7 @@ use Rattle.reading.specs.Outcome.{Outcome, ok, then}
 use Rattle.reading.specs.Reader.{Reader, judged, mapped}
 use Rattle.bits.specs.Field.{field}
 use Rattle.bits.specs.Signed.{signed}
+use Rattle.rules.specs.Rules as Rule
 use Rattle.header.specs.Header.{commonHeader, framing}
 use Rattle.identification.specs.declared.Identity.{Identity}
 use Rattle.identification.specs.declared.fields.Stream.{Stream}
@@ -17,7 +18,7 @@ use Rattle.identification.specs.declared.fields.BlockSizes.{BlockSizes}
 unfoldable pub stream : ℕ → Reader Stream
 stream most s k =
     then (judged (λ v. eqb v 0) 3 (field 32) s k) (λ version.
-    then (judged (λ v. leb v most) 14 (judged (λ v. not (eqb v 0)) 4 (field 8)) s (version .1)) (λ channels.
+    then (judged (λ v. Rule.meets14 (Rule.channels most v)) 14 (judged (λ v. not (eqb v 0)) 4 (field 8)) s (version .1)) (λ channels.
     then (judged (λ v. not (eqb v 0)) 4 (field 32) s (channels .1)) (λ rate.
     ok (record { channels = channels .0; rate = rate .0 }, rate .1))))
 

@@ -6,6 +6,7 @@ use Rattle.reading.specs.Outcome.{Outcome, ok, bad, then}
 use Rattle.reading.specs.Reader.{Reader, judged}
 use Rattle.bits.specs.Cursors.{position, refusalOf}
 use Rattle.bits.specs.Field.{field}
+use Rattle.rules.specs.Rules as Rule
 use Rattle.residues.specs.Reading.{Head}
 use Rattle.residues.specs.declared.head.Head as D
 use Rattle.residues.specs.declared.head.HeadRead.{HeadRead}
@@ -23,7 +24,7 @@ unfoldable pub headFrom : ℕ → ℕ → ℕ → ℕ → Reader Head
 headFrom count type begin end s k =
     then (field 24 s k) (λ size.
     then (field 6 s (size .1)) (λ classifications.
-    then (judged (λ v. ltb v count) 11 (field 8) s (classifications .1)) (λ classbook.
+    then (judged (λ v. Rule.meets11 (Rule.book count v)) 11 (field 8) s (classifications .1)) (λ classbook.
     ok (record { type = type; begin = begin; end = end; size = size .0 + 1; classifications = classifications .0 + 1; classbook = classbook .0 }, classbook .1))))
 
 -- the numbers of the residue's row in the table of residues

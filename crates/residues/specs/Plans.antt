@@ -8,6 +8,7 @@ use lib.ListN.{length}
 use Rattle.reading.specs.Outcome.{refusal, ok, then, need}
 use Rattle.reading.specs.Reader.{Reader, each}
 use Rattle.reading.specs.Table.{table}
+use Rattle.rules.specs.Rules as Rule
 use Rattle.residues.specs.Content.{Residue}
 use Rattle.residues.specs.Reading.{Books, Head, planRow, residueFits, withPlan}
 use Rattle.residues.specs.Layout.{Tables}
@@ -20,7 +21,8 @@ pub record Grid (plan : List (List ℕ)) : Type 0 where
 
 -- rule 13 for the fields before the plan
 abbrev pub headFits : Books → Head → Bool
-headFits books h = leb (h .begin) (h .end) && leb (h .classifications ^ books .dimensions (h .classbook)) (books .entries (h .classbook))
+headFits books h =
+    Rule.meets13 (Rule.beginEnd (h .begin) (h .end)) && Rule.meets13 (Rule.classWords (books .entries (h .classbook)) (books .dimensions (h .classbook)) (h .classifications))
 
 -- `residue` after the fields before the plan and the cascades; the place is that of the residue's type
 unfoldable pub residueFrom : Books → ℕ → Head → List ℕ → Reader Residue

@@ -8,6 +8,7 @@ use Rattle.reading.specs.Outcome.{refusal, ok, then, need}
 use Rattle.reading.specs.Reader.{Reader, judged, mapped, many, each}
 use Rattle.reading.specs.Lists.{all, rows}
 use Rattle.bits.specs.Field.{field}
+use Rattle.rules.specs.Rules as Rule
 use Rattle.residues.specs.Content.{Residue}
 
 -- what a residue is judged against: how many books are set up, and of each its dimensions, entries and lookup type
@@ -30,7 +31,7 @@ passes c = c % 2 ∷ c / 2 % 2 ∷ c / 4 % 2 ∷ c / 8 % 2 ∷ c / 16 % 2 ∷ c 
 
 -- a place of the plan: a book, 11 where it is not set up, where the pass's bit is set
 unfoldable pub planBook : ℕ → ℕ → Reader ℕ
-planBook count bit s k = cond (eqb bit 0) (ok (0, k)) (mapped suc (judged (λ v. ltb v count) 11 (field 8) s k))
+planBook count bit s k = cond (eqb bit 0) (ok (0, k)) (mapped suc (judged (λ v. Rule.meets11 (Rule.book count v)) 11 (field 8) s k))
 
 -- a class's row of the plan
 unfoldable pub planRow : ℕ → ℕ → Reader (List ℕ)
@@ -38,13 +39,13 @@ planRow count c = each (planBook count) (passes c)
 
 -- rule 13 for a place of the plan: the book has values, and its dimensions divide the partition size
 unfoldable pub placeFits : Books → ℕ → ℕ → Bool
-placeFits books size b = cond (eqb b 0) true (not (eqb (books .lookup (b - 1)) 0) && eqb (size % books .dimensions (b - 1)) 0)
+placeFits books size b = cond (eqb b 0) true (Rule.meets13 (Rule.lookup (books .lookup (b - 1))) && Rule.meets13 (Rule.partition (books .dimensions (b - 1)) size))
 
 -- rule 13
 unfoldable pub residueFits : Books → Residue → Bool
 residueFits books r =
-    leb (r .begin) (r .end)
-    && (leb (r .classifications ^ books .dimensions (r .classbook)) (books .entries (r .classbook))
+    Rule.meets13 (Rule.beginEnd (r .begin) (r .end))
+    && (Rule.meets13 (Rule.classWords (books .entries (r .classbook)) (books .dimensions (r .classbook)) (r .classifications))
     && all (placeFits books (r .size)) (rows (λ row. row) (r .plan)))
 
 -- the fields before the plan
@@ -58,12 +59,12 @@ pub record Head : Type 0 where
 
 unfoldable pub head : ℕ → Reader Head
 head count s k =
-    then (judged (λ v. leb v 2) 10 (field 16) s k) (λ type.
+    then (judged (λ v. Rule.meets10 (Rule.residueType v)) 10 (field 16) s k) (λ type.
     then (field 24 s (type .1)) (λ begin.
     then (field 24 s (begin .1)) (λ end.
     then (field 24 s (end .1)) (λ size.
     then (field 6 s (size .1)) (λ classifications.
-    then (judged (λ v. ltb v count) 11 (field 8) s (classifications .1)) (λ classbook.
+    then (judged (λ v. Rule.meets11 (Rule.book count v)) 11 (field 8) s (classifications .1)) (λ classbook.
     ok (record { type = type .0; begin = begin .0; end = end .0; size = size .0 + 1; classifications = classifications .0 + 1; classbook = classbook .0 }, classbook .1)))))))
 
 abbrev pub withPlan : Head → List (List ℕ) → Residue

@@ -1,10 +1,9 @@
 -- NO REFUSAL OF A SETUP CALL HAS THE NUMBER 0, so that 0 stands for acceptance alone. Assumes nothing.
 use Prim.Native.Nat.{ℕ, zero, suc, _+_, _-_, _*_, _^_, _≤_}
 use native.Mathlib.Omega.{arith}
-use borrow.Author.Tests.{eqb-false}
 use mathlib.Core.Bool.{Bool, true, false, not, cond}
 use mathlib.Core.List.{List, [], _∷_, map}
-use mathlib.Core.Path.{_≡_, refl, sym, subst}
+use mathlib.Core.Path.{_≡_, subst}
 use lib.Dec.{eqb, leb, ltb}
 use lib.ListN.{length}
 use Rattle.reading.specs.Outcome.{Refusal, refusal, Outcome, ok, bad, then, need}
@@ -17,8 +16,7 @@ use Rattle.header.specs.Header.{exactly, opening, commonHeader, framing}
 use Rattle.limits.specs.declared.Limits.{Limits}
 use Rattle.identification.specs.declared.Identity.{Identity}
 use Rattle.identification.specs.Sound.{isSound}
-use Rattle.codespace.specs.Book.{verdict}
-use Rattle.codespace.specs.Book as B
+use Rattle.rules.specs.Rules.{meets7, meets8}
 use Rattle.book.specs.Content.{Book}
 use Rattle.books.specs.Reading as K
 use Rattle.floors.specs.Content.{Class, Floor, classCount, valueCount, xList}
@@ -91,18 +89,9 @@ lengths-numbered place entries s k =
     (then-numbered (field-numbered 1 s (ordered .1)) (λ (sparse : ℕ × ℕ). many-numbered (K.entryLength (sparse .0)) s (length-numbered (sparse .0) s) entries (sparse .1)))
     (then-numbered (field-numbered 5 s (ordered .1)) (λ (first : ℕ × ℕ). runs-numbered place (32 - first .0) entries s (first .1))))
 
-positive : (v : ℕ) → eqb v 0 ≡ false → 1 ≤ v
-positive zero e = absurd (eqb-false 0 0 e refl)
-positive (suc v) e = omega arith
-
--- 7 or 8 is given only where the ledger's verdict has that number
 entered-numbered : (place : ℕ) (ls : List ℕ) {o : Outcome (List ℕ × ℕ)} → Numbered o → Numbered (K.entered place ls o)
 unfolding K.entered
-entered-numbered place ls {o} n = go (B.refusal (verdict ls)) (eqb (B.refusal (verdict ls)) 0) refl
-  where
-    go : (v : ℕ) (t : Bool) → eqb v 0 ≡ t → Numbered (need (eqb v 0) (refusal v place) o)
-    go v true e = subst (λ (b : Bool). Numbered (need b (refusal v place) o)) (sym e) n
-    go v false e = subst (λ (b : Bool). Numbered (need b (refusal v place) o)) (sym e) (number (refusal v place) (positive v e))
+entered-numbered place ls {o} n = need-numbered (meets7 ls) (refusal 7 place) (omega arith) (need-numbered (meets8 ls) (refusal 8 place) (omega arith) n)
 
 values-numbered : (place type count room : ℕ) (s : List ℕ) (k : ℕ) → Numbered (K.values place type count room s k)
 unfolding K.values

@@ -6,6 +6,7 @@ use lib.ListN.{length}
 use Rattle.reading.specs.Outcome.{Outcome, ok, then}
 use Rattle.reading.specs.Reader.{Reader, judged, many}
 use Rattle.bits.specs.Field.{field}
+use Rattle.rules.specs.Rules as Rule
 use Rattle.header.specs.Header.{commonHeader, framing}
 use Rattle.limits.specs.declared.Limits.{Limits}
 use Rattle.book.specs.Content.{Book}
@@ -31,7 +32,7 @@ module _ {A : Type 0} where
 
 -- the time domain transforms: each value is 0 (9). They are no content
 unfoldable pub timeValue : Reader ℕ
-timeValue = judged (λ v. eqb v 0) 9 (field 16)
+timeValue = judged (λ v. Rule.meets9 (Rule.timeValue v)) 9 (field 16)
 
 -- the sections one after the other, behind the header that ends at k
 unfoldable pub sections : Limits → ℕ → Reader Setup

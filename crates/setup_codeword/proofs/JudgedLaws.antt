@@ -1,7 +1,7 @@
 -- When 7 or 8 is given for a book's lengths: exactly when the ledger does not take them; and by nothing else of a book. Assumes nothing.
 use Prim.Native.Nat.{ℕ, zero, suc, _+_, _-_, _*_, _≤_}
 use native.Mathlib.Omega.{arith}
-use borrow.Author.Tests.{eq-eqb, ne-eqb, eqb-true}
+use borrow.Author.Tests.{eq-eqb, eqb-true}
 use mathlib.Core.Bool.{Bool, true, false, cond, _||_}
 use mathlib.Core.List.{List, [], _∷_}
 use mathlib.Core.Logic.{_⊎_, inl, inr, ⊎-elim, _↔_}
@@ -16,10 +16,11 @@ use Rattle.limits.specs.declared.Limits.{Limits}
 use Rattle.codespace.specs.Ledger.{answer, answers, after, freeStrings}
 use Rattle.codespace.specs.Claims.{accepted, acceptedShare}
 use Rattle.codespace.specs.Book.{used, isLone, firstRefused, freeAfter, verdict, refusedOr}
-use Rattle.codespace.specs.Book as B
 use Rattle.codespace.specs.declared.book.Assigned.{Assigned}
 use Rattle.codespace.specs.declared.book.Assigned.the-variants.{Accepted, Underspecified}
 use Rattle.codespace.proofs.Whole.{balance}
+use Rattle.rules.specs.Rules.{meets7, meets8}
+use Rattle.rules.proofs.Laws.{accepted-meets, meets-accepted}
 use Rattle.books.specs.Reading.{Before, Head, head, lengths, entered, values, lookup, book, valueCount}
 use Rattle.setup_codeword.specs.Demand3.{LedgerTakes, Judged, Neither}
 
@@ -50,34 +51,13 @@ takes-accepted ls t =
     (λ (l : isLone (used ls) ≡ true). rw (t .none-refused, l, or-true (eqb (freeAfter ls) 0)))
     (t .full-or-lone)
 
--- a verdict is accepted, or has the number 7 or 8
-number-of : (o : Option ℕ) (full lone : Bool) → (verdictOf o full lone ≡ Accepted) ⊎ ((B.refusal (verdictOf o full lone) ≡ 7) ⊎ (B.refusal (verdictOf o full lone) ≡ 8))
-number-of (some e) full lone = inr (inl refl)
-number-of none true lone = inl refl
-number-of none false true = inl refl
-number-of none false false = inr (inr refl)
-
-pub verdict-number : (ls : List ℕ) → (verdict ls ≡ Accepted) ⊎ ((B.refusal (verdict ls) ≡ 7) ⊎ (B.refusal (verdict ls) ≡ 8))
-unfolding verdict
-verdict-number ls = number-of (firstRefused ls) (eqb (freeAfter ls) 0) (isLone (used ls))
-
-zero-accepted : (ls : List ℕ) → B.refusal (verdict ls) ≡ 0 → verdict ls ≡ Accepted
-zero-accepted ls z =
-    ⊎-elim
-    (λ (a : verdict ls ≡ Accepted). a)
-    (λ (n : (B.refusal (verdict ls) ≡ 7) ⊎ (B.refusal (verdict ls) ≡ 8)).
-    ⊎-elim (λ (x : B.refusal (verdict ls) ≡ 7). absurd (omega arith)) (λ (x : B.refusal (verdict ls) ≡ 8). absurd (omega arith)) n)
-    (verdict-number ls)
-
 pub judged-so : (ls : List ℕ) → Judged ls
 judged-so ls =
     record {
-      exactly = ((λ z. accepted-takes ls (zero-accepted ls z)), (λ t. ap B.refusal (takes-accepted ls t)));
-      goes-on = λ z place o. unfold entered in rw (eq-eqb (B.refusal (verdict ls)) 0 z);
-      refused = λ n place o. (
-        ⊎-elim (λ (a : verdict ls ≡ Accepted). absurd (n (ap B.refusal a))) (λ x. x) (verdict-number ls),
-        unfold entered in rw (ne-eqb (B.refusal (verdict ls)) 0 n),
-      );
+      exactly = ((λ m. accepted-takes ls (meets-accepted ls (m .0) (m .1))), (λ t. accepted-meets ls (takes-accepted ls t)));
+      goes-on = λ p q place o. unfold entered in rw (p, q);
+      refused7 = λ p place o. unfold entered in rw p;
+      refused8 = λ p q place o. unfold entered in rw (p, q);
     }
 
 -- which outcomes have neither number; one law for each way to build an outcome
@@ -135,23 +115,25 @@ module _ (limits : Limits) (before : Before) (s : List ℕ) (k : ℕ) (h : Head 
   book-clear : LedgerTakes (x .0) → Clear (book limits before s k)
   unfolding book
   book-clear t =
-      let e = judged-so (x .0) .goes-on (ap B.refusal (takes-accepted (x .0) t)) k (ok x) in
+      let m = judged-so (x .0) .exactly .1 t in
+      let e = judged-so (x .0) .goes-on (m .0) (m .1) k (ok x) in
       rw (p, q, e) (then-clear (lookup k (h .0 .entries) (h .0 .dimensions) (limits .multiplicands - before .values) s (x .1)) _ (lookup-clear k (h .0 .entries) (h .0 .dimensions) (limits .multiplicands - before .values) s (x .1)) (λ l. tt))
 
-  book-bad : (n : B.refusal (verdict (x .0)) ≡ 0 → ⊥) → book limits before s k ≡ bad (refusal (B.refusal (verdict (x .0))) k)
+  book-refused7 : meets7 (x .0) ≡ false → book limits before s k ≡ bad (refusal 7 k)
   unfolding book
-  book-bad n = rw (p, q, judged-so (x .0) .refused n k (ok x) .1)
+  book-refused7 m = rw (p, q, judged-so (x .0) .refused7 m k (ok x))
+
+  book-refused8 : meets7 (x .0) ≡ true → meets8 (x .0) ≡ false → book limits before s k ≡ bad (refusal 8 k)
+  unfolding book
+  book-refused8 m n = rw (p, q, judged-so (x .0) .refused8 m n k (ok x))
 
   only-accepted : Neither (book limits before s k) → LedgerTakes (x .0)
-  only-accepted f =
-      ⊎-elim
-      (λ (a : verdict (x .0) ≡ Accepted). accepted-takes (x .0) a)
-      (λ (n : (B.refusal (verdict (x .0)) ≡ 7) ⊎ (B.refusal (verdict (x .0)) ≡ 8)).
-      ⊎-elim
-      (λ (i : B.refusal (verdict (x .0)) ≡ 7). absurd (f (refusal (B.refusal (verdict (x .0))) k) (book-bad (λ z. omega arith)) .0 i))
-      (λ (i : B.refusal (verdict (x .0)) ≡ 8). absurd (f (refusal (B.refusal (verdict (x .0))) k) (book-bad (λ z. omega arith)) .1 i))
-      n)
-      (verdict-number (x .0))
+  only-accepted f = go (meets7 (x .0)) (meets8 (x .0)) refl refl
+    where
+      go : (a b : Bool) → meets7 (x .0) ≡ a → meets8 (x .0) ≡ b → LedgerTakes (x .0)
+      go true true m n = judged-so (x .0) .exactly .0 (m, n)
+      go true false m n = absurd (f (refusal 8 k) (book-refused8 m n) .1 refl)
+      go false b m n = absurd (f (refusal 7 k) (book-refused7 m) .0 refl)
 
   pub neither-so : Neither (book limits before s k) ↔ LedgerTakes (x .0)
   neither-so = (only-accepted, (λ t. clear-neither (book limits before s k) (book-clear t)))

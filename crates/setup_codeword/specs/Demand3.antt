@@ -2,7 +2,7 @@
 -- The ledger and its claim over a whole list of lengths, `Balanced`: crates/codespace/specs/Ledger.antt and Claims.antt. Entering, the program's
 -- call for one length, answers as the ledger does: crates/codespace/src/space.rt.
 use Prim.Native.Nat.{ℕ, _+_, _*_, _≤_, _<_}
-use mathlib.Core.Bool.{true}
+use mathlib.Core.Bool.{true, false}
 use mathlib.Core.List.{List, []}
 use mathlib.Core.Logic.{_⊎_, _↔_}
 use mathlib.Core.Option.{none}
@@ -14,8 +14,8 @@ use Rattle.identification.specs.declared.Identity.{Identity}
 use Rattle.codespace.specs.Ledger.{answers}
 use Rattle.codespace.specs.Claims.{Balanced}
 use Rattle.codespace.specs.Book.{used, isLone, firstRefused, freeAfter, codewords, verdict, Begins}
-use Rattle.codespace.specs.Book as B
 use Rattle.codespace.specs.declared.book.Assigned.the-variants.{Accepted}
+use Rattle.rules.specs.Rules.{meets7, meets8}
 use Rattle.codebook.specs.Codeword.{bitsAt, firstUsed}
 use Rattle.books.specs.Reading.{Before, Head, head, lengths, entered, book}
 use Rattle.setup.specs.Content.{Setup}
@@ -46,13 +46,13 @@ pub record BookDecodes (limits : Limits) (i : Identity) (t : Tables) (b : ℕ) (
   -- a lone entry of length one is given for every string, and takes none of its bits
   pub lone : isLone (used ls) ≡ true → (s : List ℕ) (k : ℕ) → k ≤ 8 * length s → (r : Outcome (ℕ × ℕ)) → CodewordCall limits i t b s k r → r ≡ ok (firstUsed ls, k)
 
--- whether 7 or 8 is given for the lengths ls
+-- whether 7 or 8 is given for the lengths ls: neither exactly when the ledger takes them
 pub record Judged (ls : List ℕ) : Type 0 where
-  pub exactly : (B.refusal (verdict ls) ≡ 0) ↔ LedgerTakes ls
-  -- then the reading goes on; else it is refused, with 7 or 8, at the book's first bit
-  pub goes-on : B.refusal (verdict ls) ≡ 0 → (place : ℕ) (o : Outcome (List ℕ × ℕ)) → entered place ls o ≡ o
-  pub refused : (B.refusal (verdict ls) ≡ 0 → ⊥) → (place : ℕ) (o : Outcome (List ℕ × ℕ))
-      → ((B.refusal (verdict ls) ≡ 7) ⊎ (B.refusal (verdict ls) ≡ 8)) × (entered place ls o ≡ bad (refusal (B.refusal (verdict ls)) place))
+  pub exactly : ((meets7 ls ≡ true) × (meets8 ls ≡ true)) ↔ LedgerTakes ls
+  -- then the reading goes on; else it is refused at the book's first bit
+  pub goes-on : meets7 ls ≡ true → meets8 ls ≡ true → (place : ℕ) (o : Outcome (List ℕ × ℕ)) → entered place ls o ≡ o
+  pub refused7 : meets7 ls ≡ false → (place : ℕ) (o : Outcome (List ℕ × ℕ)) → entered place ls o ≡ bad (refusal 7 place)
+  pub refused8 : meets7 ls ≡ true → meets8 ls ≡ false → (place : ℕ) (o : Outcome (List ℕ × ℕ)) → entered place ls o ≡ bad (refusal 8 place)
 
 -- no refusal with 7 or 8
 abbrev pub Neither : {A : Type 0} → Outcome A → Type 0

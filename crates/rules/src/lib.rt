@@ -1,0 +1,1 @@
+// The rules of a setup packet: definitions alone, in specs/Rules.antt.
