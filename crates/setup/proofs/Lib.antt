@@ -1,6 +1,4 @@
 pub mod LaidLaws
-pub mod SectionLaws
-pub mod PartLaws
 pub mod TableLaws
 pub mod BookLinks
 pub mod Whole

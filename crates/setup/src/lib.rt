@@ -1,3 +1,1 @@
-// The setup packet: its content, its tables, and reading its parts (003, section 4.2.4).
-pub mod parts; // sections put together
-pub mod sections; // a count, and so many books, time values, floors ..
+// A setup: its content, its rules, its tables and the call that reads it, as definitions and laws; specs/ says which.

@@ -29,7 +29,7 @@ use Rattle.setup.specs.Layout.{Tables, tables, layout, hasRoom, writtenOut, cle
 use Rattle.setup.specs.Parts.{Laid, BooksLie, BooksLent, BehindLie, RestLie, Ready, Small, WrittenOut, bookPart, behindBooks, restPart, setupWith, behindHeader, packetPart}
 use Rattle.setup.proofs.LaidLaws.{laid-bad, laid-ok, laid-refused}
 use Rattle.setup.proofs.TableLaws.{room-parts}
-use Rattle.setup.proofs.PartLaws.{skipped, followed}
+use Rattle.setup_parts.proofs.PartLaws.{skipped, followed}
 use Rattle.setup.proofs.BookLinks.{books-link}
 
 -- the framing bit, of which the position stays

@@ -1,0 +1,216 @@
+// The sections of a setup packet: each is a count less one and so many items (003, section 4.2.4). Their tables are lent cleared.
+use bits::Cursor;
+use bits::Field;
+use bits::Refusal;
+use bits::Step;
+use limits::Limits;
+use mappings::Known;
+ghost use mathlib.Core.Path.{_≡_};
+ghost use Prim.Native.Nat.{_≤_};
+ghost use Rattle.reading.specs.Outcome.{ok, then};
+ghost use Rattle.reading.specs.Reader.{many};
+ghost use Rattle.reading.specs.Stand.{Zeros};
+ghost use Rattle.bits.specs.Cursors.{position, stepped};
+ghost use Rattle.floors.specs.Layout.{floorRow};
+ghost use Rattle.floors.specs.Reading.{floor};
+ghost use Rattle.residues.specs.FromTable.{booksOf};
+ghost use Rattle.residues.specs.Reading.{residue};
+ghost use Rattle.mappings.specs.Layout.{mappingRow};
+ghost use Rattle.mappings.specs.Reading.{mapping};
+ghost use Rattle.modes.specs.Layout.{modeRow};
+ghost use Rattle.modes.specs.Reading.{mode};
+ghost use Rattle.setup.specs.Reading.{bookSection, section, timeValue};
+ghost use Rattle.setup.specs.Parts.{Laid, RowsLie, BooksLie, ResiduesLie, BooksLent};
+
+// How many items a section has, and where reading goes on, or the refusal.
+pub struct Section {
+    pub count: u32,
+    pub step: Step,
+}
+
+fn wide(x: u32) -> usize
+    ensures { λ r. ⌜ r ≡ x ⌝ }
+{
+    x as usize
+}
+
+pub fn read_book_section(
+    packet: &[u8],
+    from: Cursor,
+    limits: Limits,
+    books: &mut [u32],
+    lengths: &mut [u8],
+    words: &mut [u32],
+    multiplicands: &mut [u16],
+) -> Section
+    requires { ⌜ BooksLent limits (now books) (now lengths) (now words) (now multiplicands) ⌝ }
+    ensures { λ r. ⌜ Laid (bookSection limits (now (packet .entry)) (position from)) (r .step) (BooksLie (r .count) (now (books .entry)) (now (books .exit)) (now (lengths .entry)) (now (lengths .exit)) (now (words .entry)) (now (words .exit)) (now (multiplicands .entry)) (now (multiplicands .exit))) ⌝ }
+    ensures { λ r. ⌜ r .count ≤ 256 ⌝ }
+{
+    match from.field(packet, 8) {
+        Field::Refused(z) => Section {
+            count: 0,
+            step: Step::Refused(z),
+        },
+        Field::Value(less_one, next) => {
+            let count = less_one + 1;
+            let read = books::read::read_books(
+                packet,
+                next,
+                count,
+                limits,
+                books,
+                lengths,
+                words,
+                multiplicands,
+            );
+            let step = read.step;
+            Section { count, step }
+        }
+    }
+}
+
+// A time domain transform must be 0.
+fn read_time_value(packet: &[u8], from: Cursor) -> Step
+    ensures { λ r. ⌜ stepped r ≡ then (timeValue (now (packet .entry)) (position from)) (λ x. ok (x .1)) ⌝ }
+{
+    match from.field(packet, 16) {
+        Field::Refused(z) => Step::Refused(z),
+        Field::Value(value, next) => {
+            if value != 0 {
+                return Step::Refused(Refusal {
+                    number: 9,
+                    place: from,
+                });
+            }
+            Step::Next(next)
+        }
+    }
+}
+
+fn read_time_values(packet: &[u8], from: Cursor, count: u32) -> Step
+    ensures { λ r. ⌜ stepped r ≡ then (many timeValue count (now (packet .entry)) (position from)) (λ x. ok (x .1)) ⌝ }
+{
+    let mut at = from;
+    let mut i: u32 = 0;
+    while i < count {
+        match read_time_value(packet, at) {
+            Step::Refused(z) => {
+                return Step::Refused(z);
+            }
+            Step::Next(next) => {
+                at = next;
+            }
+        }
+        i = i + 1;
+    }
+    Step::Next(at)
+}
+
+// The time values are no content: what is left of them is where reading goes on.
+pub fn read_time_section(packet: &[u8], from: Cursor) -> Step
+    ensures { λ r. ⌜ stepped r ≡ then (section timeValue (now (packet .entry)) (position from)) (λ x. ok (x .1)) ⌝ }
+{
+    match from.field(packet, 6) {
+        Field::Refused(z) => Step::Refused(z),
+        Field::Value(less_one, next) => read_time_values(packet, next, less_one + 1),
+    }
+}
+
+// `books` is how many codebooks are set up.
+pub fn read_floor_section(packet: &[u8], from: Cursor, books: u32, floors: &mut [u16]) -> Section
+    requires { ⌜ (books ≤ 256) × Zeros (now floors) ⌝ }
+    ensures { λ r. ⌜ Laid (section (floor books) (now (packet .entry)) (position from)) (r .step) (RowsLie floorRow (r .count) (now (floors .entry)) (now (floors .exit))) ⌝ }
+    ensures { λ r. ⌜ r .count ≤ 64 ⌝ }
+{
+    match from.field(packet, 6) {
+        Field::Refused(z) => Section {
+            count: 0,
+            step: Step::Refused(z),
+        },
+        Field::Value(less_one, next) => {
+            let count = less_one + 1;
+            let step = floors::floor::read_floors(packet, next, wide(count), books, floors);
+            Section { count, step }
+        }
+    }
+}
+
+// A residue is judged against the rows of the `count` codebooks.
+pub fn read_residue_section(
+    packet: &[u8],
+    from: Cursor,
+    count: u32,
+    books: &[u32],
+    residues: &mut [u32],
+    plans: &mut [u16],
+) -> Section
+    requires { ⌜ Zeros (now residues) × Zeros (now plans) ⌝ }
+    ensures { λ r. ⌜ Laid (section (residue (booksOf count (now (books .entry)))) (now (packet .entry)) (position from)) (r .step) (ResiduesLie (r .count) (now (residues .entry)) (now (residues .exit)) (now (plans .entry)) (now (plans .exit))) ⌝ }
+    ensures { λ r. ⌜ r .count ≤ 64 ⌝ }
+{
+    match from.field(packet, 6) {
+        Field::Refused(z) => Section {
+            count: 0,
+            step: Step::Refused(z),
+        },
+        Field::Value(less_one, next) => {
+            let number = less_one + 1;
+            let step = residues::read::read_residues(
+                packet,
+                next,
+                count,
+                books,
+                residues,
+                plans,
+                wide(number),
+            );
+            Section {
+                count: number,
+                step,
+            }
+        }
+    }
+}
+
+pub fn read_mapping_section(
+    packet: &[u8],
+    from: Cursor,
+    known: Known,
+    mappings: &mut [u8],
+) -> Section
+    requires { ⌜ (1 ≤ known .channels) × (known .channels ≤ 255) × Zeros (now mappings) ⌝ }
+    ensures { λ r. ⌜ Laid (section (mapping known) (now (packet .entry)) (position from)) (r .step) (RowsLie mappingRow (r .count) (now (mappings .entry)) (now (mappings .exit))) ⌝ }
+    ensures { λ r. ⌜ r .count ≤ 64 ⌝ }
+{
+    match from.field(packet, 6) {
+        Field::Refused(z) => Section {
+            count: 0,
+            step: Step::Refused(z),
+        },
+        Field::Value(less_one, next) => {
+            let count = less_one + 1;
+            let step = mappings::read_mappings(packet, next, wide(count), known, mappings);
+            Section { count, step }
+        }
+    }
+}
+
+// `mappings` is how many mappings are set up.
+pub fn read_mode_section(packet: &[u8], from: Cursor, mappings: u32, modes: &mut [u8]) -> Section
+    requires { ⌜ Zeros (now modes) ⌝ }
+    ensures { λ r. ⌜ Laid (section (mode mappings) (now (packet .entry)) (position from)) (r .step) (RowsLie modeRow (r .count) (now (modes .entry)) (now (modes .exit))) ⌝ }
+    ensures { λ r. ⌜ r .count ≤ 64 ⌝ }
+{
+    match from.field(packet, 6) {
+        Field::Refused(z) => Section {
+            count: 0,
+            step: Step::Refused(z),
+        },
+        Field::Value(less_one, next) => {
+            let count = less_one + 1;
+            let step = modes::read_modes(packet, next, wide(count), mappings, modes);
+            Section { count, step }
+        }
+    }
+}
