@@ -2,5 +2,6 @@ pub mod LaidLaws
 pub mod TableLaws
 pub mod BookLinks
 pub mod Whole
+pub mod RuleLaws
 pub mod Numbers
 pub mod ValidLaws

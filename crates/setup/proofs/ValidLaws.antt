@@ -38,10 +38,13 @@ use Rattle.modes.proofs.Laws.{modes-valid}
 use Rattle.setup.specs.Content.{Setup, booksKnown, known}
 use Rattle.setup.specs.Reading.{bookSection, section, timeValue, sections, setup}
 use Rattle.setup.specs.Layout.{Tables, layout, hasRoom, writtenOut, cleared}
-use Rattle.setup.specs.Sound.{Counted, ValidSetup, Sound}
+use Rattle.setup.specs.Carried.{Counted}
+use Rattle.setup.specs.Valid.{ValidSetup}
+use Rattle.setup.specs.Sound.{Sound}
 use Rattle.setup.specs.Call.{setupOf}
 use Rattle.setup.specs.Accepted.{AcceptedSound}
 use Rattle.setup.proofs.TableLaws.{room-parts}
+use Rattle.setup.proofs.RuleLaws.{valid-carried, valid-meets}
 use Rattle.setup.proofs.Numbers.{call-numbered, not-zero}
 
 -- a fact of all, as each crate states it, is one of each
@@ -174,7 +177,14 @@ call-accepted limits i s t {c} e =
 pub accepted-sound : (limits : Limits) (i : Identity) (s : List ℕ) (t : Tables) {c : Setup} → setupOf limits i s t ≡ ok c → Sound limits (i .channels) (writtenOut c t)
 accepted-sound limits i s t {c} e =
     let a = call-accepted limits i s t e in
-    record { content = c; valid = setup-valid limits (i .channels) s (a .content); room = room-written limits c t ∙ a .room; written = written-twice c t }
+    let v = setup-valid limits (i .channels) s (a .content) in
+    record {
+      content = c;
+      carried = valid-carried limits (i .channels) c v;
+      rules = valid-meets limits (i .channels) c v;
+      room = room-written limits c t ∙ a .room;
+      written = written-twice c t;
+    }
 
 -- all-zero tables are not sound: they count no book
 unsound-zeros : (limits : Limits) (channels : ℕ) (t : Tables) → Sound limits channels (cleared t) → ⊥
@@ -184,7 +194,7 @@ unsound-zeros limits channels t x = go (length (t .counts)) (ap (λ (u : Tables)
     go : (n : ℕ) → replicate {A = ℕ} n 0 ≡ pad (length (replicate {A = ℕ} n 0)) (layout (x .content) .counts) → 5 ≤ length (replicate {A = ℕ} n 0) → ⊥
     go zero e h = omega arith
     go (suc n) e h =
-        let b = x .valid .book-count .low in
+        let b = x .carried .book-count .low in
         let z : 0 ≡ length (x .content .books) = cc in
         omega arith
 

@@ -1,6 +1,9 @@
 pub mod Content
 pub mod Reading
 pub mod Layout
+pub mod Carried
+pub mod Rules
+pub mod Valid
 pub mod Sound
 pub mod Call
 pub mod Parts

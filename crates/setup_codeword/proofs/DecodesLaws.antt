@@ -26,6 +26,7 @@ use Rattle.books.specs.Valid.{ValidBooks}
 use Rattle.setup.specs.Content.{Setup}
 use Rattle.setup.specs.Layout.{Tables, writtenOut}
 use Rattle.setup.specs.Call.{setupOf, setupCall, answered}
+use Rattle.setup.proofs.RuleLaws.{valid-carried, valid-meets}
 use Rattle.setup.proofs.ValidLaws.{setup-valid, room-written, written-twice, call-accepted}
 use Rattle.setup_codeword.specs.Call.{lengthsOf, SoundCall, CodewordCall}
 use Rattle.setup_codeword.specs.Demand3.{BookDecodes, Demand3}
@@ -89,7 +90,13 @@ left-sound limits i s t c e b h =
     let sound : SoundCall limits i (writtenOut c t) =
     record {
       identity = sound-identity (limits .channels) i (a .identity);
-      tables = record { content = c; valid = v; room = room-written limits c t ∙ a .room; written = written-twice c t };
+      tables = record {
+        content = c;
+        carried = valid-carried limits (i .channels) c v;
+        rules = valid-meets limits (i .channels) c v;
+        room = room-written limits c t ∙ a .room;
+        written = written-twice c t;
+      };
     } in
     decodes (lengthsOf c b) (lengths-accepted limits c b (v .books) h) (λ p k r call. call .read sound h)
 

@@ -20,6 +20,7 @@ use Rattle.books.proofs.Laid.{codewords-length, row-at, these-entries, pad-fits
 use Rattle.book_codeword.specs.Lying.{entriesOf, BookLies}
 use Rattle.setup.specs.Layout.{Tables, layout, writtenOut}
 use Rattle.setup.specs.Sound.{Sound}
+use Rattle.setup.proofs.RuleLaws.{sound-valid}
 use Rattle.setup.proofs.BookLinks.{noBook}
 use Rattle.setup.proofs.TableLaws.{room-parts}
 use Rattle.setup_codeword.specs.Call.{lengthsOf}
@@ -121,7 +122,7 @@ module _ {limits : Limits} {channels : ℕ} {t : Tables} (sound : Sound limits c
     number : (column : ℕ) → column < 10 → numberAt (t .books) b column ≡ getD (bookRow (andThese start (take b items) .entries) (andThese start (take b items) .values) own) column 0
     number column low =
         let r = room-parts limits t (sound .room) .books in
-        let c = sound .valid .book-count .high in
+        let c = sound-valid sound .book-count .high in
         ap (λ (l : List ℕ). getD l (10 * b + column) 0) books-are
         ∙ pad-get (length (t .books)) (bookRows start items) (10 * b + column) (omega arith)
         ∙ row-at start items b column noBook h low
@@ -141,7 +142,7 @@ module _ {limits : Limits} {channels : ℕ} {t : Tables} (sound : Sound limits c
     words-count = entries-are ∙ sym (codewords-length (own .lengths))
 
     fits : length (allLengths items) ≤ limits .entries
-    fits = let w = entries-within limits start items (sound .valid .books) (omega arith) in omega arith
+    fits = let w = entries-within limits start items (sound-valid sound .books) (omega arith) in omega arith
 
     own-lengths : entriesOf (t .books) b (t .lengths) ≡ own .lengths
     own-lengths =
@@ -166,7 +167,7 @@ module _ {limits : Limits} {channels : ℕ} {t : Tables} (sound : Sound limits c
     -- AND THE BOOK LIES WHOLE
     pub book-lies : BookLies (t .books) (t .lengths) (t .codewords) b
     book-lies =
-        let v = valid-at limits start items b (sound .valid .books) h in
+        let v = valid-at limits start items b (sound-valid sound .books) h in
         let r = room-parts limits t (sound .room) in
         let rl = r .lengths in
         let rc = r .codewords in

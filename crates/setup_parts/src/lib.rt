@@ -1,4 +1,8 @@
 // The sections put together: books and time values; floors and residues; mappings and modes; all that follows the books.
+use bits::Cursor;
+use bits::Step;
+use limits::Limits;
+use mappings::Known;
 use setup_sections::Section;
 use setup_sections::read_book_section;
 use setup_sections::read_floor_section;
@@ -6,10 +10,6 @@ use setup_sections::read_mapping_section;
 use setup_sections::read_mode_section;
 use setup_sections::read_residue_section;
 use setup_sections::read_time_section;
-use bits::Cursor;
-use bits::Step;
-use limits::Limits;
-use mappings::Known;
 ghost use mathlib.Core.Path.{_≡_};
 ghost use Prim.Native.Nat.{_≤_};
 ghost use Rattle.reading.specs.Stand.{Zeros};

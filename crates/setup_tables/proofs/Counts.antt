@@ -11,7 +11,7 @@ use Rattle.reading.specs.Stand.{Zeros}
 use Rattle.reading.proofs.Pads.{pad-nil}
 use Rattle.reading.proofs.Stands.{pad-append, iff-false, iff-true}
 use Rattle.book_tables.proofs.TestLaws.{refuted, shown}
-use Rattle.setup.specs.Sound.{Counted}
+use Rattle.setup.specs.Carried.{Counted}
 use Rattle.setup_tables.specs.Stand.{CountsStand}
 
 -- the five numbers in front of zeros, as the writing-out has them

@@ -40,7 +40,10 @@ use Rattle.modes.proofs.Laws as ModeLaws
 use Rattle.setup.specs.Content.{Setup, booksKnown, known}
 use Rattle.setup.specs.Layout.{Tables, layout, writtenOut, tables}
 use Rattle.setup.specs.Parts.{Small}
-use Rattle.setup.specs.Sound.{Counted, ValidSetup, Sound}
+use Rattle.setup.specs.Carried.{Counted}
+use Rattle.setup.specs.Valid.{ValidSetup}
+use Rattle.setup.specs.Sound.{Sound}
+use Rattle.setup.proofs.RuleLaws.{valid-carried, valid-meets, sound-valid}
 use Rattle.setup.proofs.BookLinks.{books-link}
 use Rattle.setup.proofs.TableLaws.{RoomParts, room-parts}
 use Rattle.setup_tables.specs.Stand.{CountsStand, knownBy, PartsStand, OneContent}
@@ -145,7 +148,14 @@ module _ (limits : Limits) (channels : ℕ) (t : Tables) where
         (p .back .mode-table .written j)
 
     pub parts-sound : Sound limits channels t
-    parts-sound = record { content = whole; valid = whole-valid; room = p .room; written = whole-written }
+    parts-sound =
+        record {
+          content = whole;
+          carried = valid-carried limits channels whole whole-valid;
+          rules = valid-meets limits channels whole whole-valid;
+          room = p .room;
+          written = whole-written;
+        }
 
   -- FROM THE WHOLE TO THE PARTS
   module _ (s : Sound limits channels t) where
@@ -159,11 +169,11 @@ module _ (limits : Limits) (channels : ℕ) (t : Tables) where
     counts-stand : CountsStand (t .counts)
     counts-stand =
         record {
-          books = subst (Counted 256) (sym (numbers .first)) (s .valid .book-count);
-          floors = subst (Counted 64) (sym (numbers .second)) (s .valid .floor-count);
-          residues = subst (Counted 64) (sym (numbers .third)) (s .valid .residue-count);
-          mappings = subst (Counted 64) (sym (numbers .fourth)) (s .valid .mapping-count);
-          modes = subst (Counted 64) (sym (numbers .fifth)) (s .valid .mode-count);
+          books = subst (Counted 256) (sym (numbers .first)) (sound-valid s .book-count);
+          floors = subst (Counted 64) (sym (numbers .second)) (sound-valid s .floor-count);
+          residues = subst (Counted 64) (sym (numbers .third)) (sound-valid s .residue-count);
+          mappings = subst (Counted 64) (sym (numbers .fourth)) (sound-valid s .mapping-count);
+          modes = subst (Counted 64) (sym (numbers .fifth)) (sound-valid s .mode-count);
           zeros = numbers .behind;
         }
 
@@ -181,7 +191,7 @@ module _ (limits : Limits) (channels : ℕ) (t : Tables) where
           multiplicands-room = space .multiplicands;
           content = s .content .books;
           counted = sym (numbers .first);
-          valid = s .valid .books;
+          valid = sound-valid s .books;
           book-rows = book-rows-written;
           all-lengths = ap (λ (u : Tables). u .lengths) (s .written);
           all-codewords = ap (λ (u : Tables). u .codewords) (s .written);
@@ -195,7 +205,7 @@ module _ (limits : Limits) (channels : ℕ) (t : Tables) where
           room = space .floors;
           content = s .content .floors;
           counted = sym (numbers .second);
-          valid = subst (λ (n : ℕ). ValidFloors n (s .content .floors)) (sym (numbers .first)) (each-floors _ _ (s .valid .floors));
+          valid = subst (λ (n : ℕ). ValidFloors n (s .content .floors)) (sym (numbers .first)) (each-floors _ _ (sound-valid s .floors));
           written = ap (λ (u : Tables). u .floors) (s .written);
         }
 
@@ -212,7 +222,7 @@ module _ (limits : Limits) (channels : ℕ) (t : Tables) where
           content = s .content .residues;
           holds = record {
             count = sym (numbers .third);
-            valid = subst (λ (k : Books). AllValid k (s .content .residues)) (sym books-known) (each-residues _ _ (s .valid .residues));
+            valid = subst (λ (k : Books). AllValid k (s .content .residues)) (sym books-known) (each-residues _ _ (sound-valid s .residues));
             head-rows = ap (λ (u : Tables). u .residues) (s .written);
             plan-rows = ap (λ (u : Tables). u .plans) (s .written);
           };
@@ -222,7 +232,7 @@ module _ (limits : Limits) (channels : ℕ) (t : Tables) where
     unfolding writtenOut layout
     mappings-stand =
         let long = rows-length mappingRow (ValidMapping (knownBy channels (t .counts))) 804 mapping-wide (s .content .mappings) in
-        let few = s .valid .mapping-count .high in
+        let few = sound-valid s .mapping-count .high in
         let room = space .mappings in
         record {
           items = s .content .mappings;
@@ -230,7 +240,7 @@ module _ (limits : Limits) (channels : ℕ) (t : Tables) where
           valid =
               subst (λ (k : Known). Each (ValidMapping k) (s .content .mappings))
               (sym (known-is channels (t .counts) (s .content .floors) (s .content .residues) (numbers .second) (numbers .third)))
-              (s .valid .mappings);
+              (sound-valid s .mappings);
           fits = omega arith;
           written = ap (λ (u : Tables). u .mappings) (s .written);
         }
@@ -239,12 +249,12 @@ module _ (limits : Limits) (channels : ℕ) (t : Tables) where
     unfolding writtenOut layout
     modes-stand =
         let long = rows-length modeRow (ValidMode (getD (t .counts) 3 0)) 2 ModeLaws.mode-wide (s .content .modes) in
-        let few = s .valid .mode-count .high in
+        let few = sound-valid s .mode-count .high in
         let room = space .modes in
         record {
           items = s .content .modes;
           number = sym (numbers .fifth);
-          valid = subst (λ (n : ℕ). Each (ValidMode n) (s .content .modes)) (sym (numbers .fourth)) (s .valid .modes);
+          valid = subst (λ (n : ℕ). Each (ValidMode n) (s .content .modes)) (sym (numbers .fourth)) (sound-valid s .modes);
           fits = omega arith;
           written = ap (λ (u : Tables). u .modes) (s .written);
         }

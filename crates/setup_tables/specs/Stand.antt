@@ -15,7 +15,8 @@ use Rattle.mappings.specs.declared.Known.{Known}
 use Rattle.mapping_tables.specs.Stand.{MappingsStand}
 use Rattle.modes.specs.Stand.{ModesStand}
 use Rattle.setup.specs.Layout.{Tables, hasRoom}
-use Rattle.setup.specs.Sound.{Counted, Sound}
+use Rattle.setup.specs.Carried.{Counted}
+use Rattle.setup.specs.Sound.{Sound}
 
 -- how many books, floors, residues, mappings and modes there are, each as its field can carry it; zeros behind them (003, 4.2.4)
 pub record CountsStand (counts : List ℕ) : Type 0 where

@@ -15,7 +15,7 @@ ghost use Rattle.residue_tables.specs.Stand.{ResiduesStand};
 ghost use Rattle.mapping_tables.specs.Stand.{MappingsStand};
 ghost use Rattle.modes.specs.Stand.{ModesStand};
 ghost use Rattle.setup.specs.Parts.{Small};
-ghost use Rattle.setup.specs.Sound.{Counted};
+ghost use Rattle.setup.specs.Carried.{Counted};
 ghost use Rattle.setup_tables.specs.Stand.{CountsStand, FrontStand, BackStand, knownBy};
 
 // Whether a count is one that a field less one carries, up to `most`.
