@@ -9,11 +9,14 @@ use lib.Seq.{slice}
 use Rattle.reading.specs.Lists.{rows}
 use Rattle.reading.specs.Pad.{pad}
 use Rattle.reading.proofs.Pads.{pad-get, length-pad}
-use Rattle.floors.specs.Content.{Class, Floor, xList}
-use Rattle.floors.specs.Layout.{classRow}
-use Rattle.floors.specs.Decode.{noClass}
-use Rattle.floors.proofs.Lies.{Lies, lies-at, lies-slice}
-use Rattle.floors.proofs.Decoded.{ClassLies, class-lies, classes-lie, FloorLies}
+use Rattle.floor_class.specs.Content.{Class}
+use Rattle.floor_x_list.specs.Content.{xList}
+use Rattle.floors.specs.Content.{Floor}
+use Rattle.floor_class.specs.Layout.{classRow}
+use Rattle.floor_class.specs.Decode.{noClass}
+use Rattle.numbers.proofs.Lies.{Lies, lies-at, lies-slice}
+use Rattle.floor_class.proofs.Decoded.{ClassLies, class-lies, classes-lie}
+use Rattle.floors.proofs.Decoded.{FloorLies}
 
 -- row c of the rows of classes
 pub class-row : {t : List ℕ} (at m : ℕ) (cs : List Class) (c : ℕ) → c < length cs → length cs ≤ m → Lies t at (pad (11 * m) (rows classRow cs)) → Lies t (at + 11 * c) (classRow (getD cs c noClass))

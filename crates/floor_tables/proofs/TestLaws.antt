@@ -15,7 +15,7 @@ use lib.Seq.{slice, take-nil}
 use Rattle.reading.specs.Lists.{distinct}
 use Rattle.reading.proofs.Least.{below-suc}
 use Rattle.floors.specs.Pieces.{classesTo, valuesTo}
-use Rattle.floors.specs.Valid.{MasterFits}
+use Rattle.floor_class.specs.Valid.{MasterFits}
 use Rattle.floor_tables.specs.Rules.{Below, BookRules, ClassRules, ClassesRules, PartitionRules, NamedRules, HeadRules, ListRules, FloorRules, FloorsRules}
 
 -- a test that failed, and one that passed

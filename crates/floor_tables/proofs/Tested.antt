@@ -17,17 +17,23 @@ use Rattle.reading.specs.Lists.{all, distinct, rows}
 use Rattle.reading.specs.Pad.{pad}
 use Rattle.reading.proofs.Least.{and-split}
 use Rattle.reading.proofs.Pads.{pad-get, length-pad}
-use Rattle.floors.specs.Content.{Class, Floor, xList, classCount, valueCount}
-use Rattle.floors.specs.Layout.{classRow, floorRow}
-use Rattle.floors.specs.Valid.{ValidClass, ValidClasses, ValidFloor, ValidFloors}
+use Rattle.floor_class.specs.Content.{Class}
+use Rattle.floor_x_list.specs.Content.{xList}
+use Rattle.floors.specs.Content.{Floor, classCount, valueCount}
+use Rattle.floor_class.specs.Layout.{classRow}
+use Rattle.floors.specs.Layout.{floorRow}
+use Rattle.floor_class.specs.Valid.{ValidClass, ValidClasses}
+use Rattle.floors.specs.Valid.{ValidFloor, ValidFloors}
 use Rattle.floors.specs.Pieces.{classesTo, valuesTo}
 use Rattle.floor_tables.specs.Rules.{Below, BookRules, ClassRules, ClassesRules, PartitionRules, NamedRules, HeadRules, ListRules, FloorRules, FloorsRules}
-use Rattle.floors.specs.Decode.{classAt, classesAt, floorAt, noClass, noFloor}
+use Rattle.floor_class.specs.Decode.{classAt, classesAt, noClass}
+use Rattle.floors.specs.Decode.{floorAt, noFloor}
 use Rattle.floor_tables.specs.Stand.{FloorsStand}
-use Rattle.floors.proofs.Lies.{Lies, lies-at, lies-left, lies-right, lies-both, lies-first, lies-rest, lies-slice, lies-self}
-use Rattle.floors.proofs.ListLaws.{rows-length}
-use Rattle.floors.proofs.RowLaws.{class-long, class-count-most, classes-counted, values-counted}
-use Rattle.floors.proofs.Decoded.{floor-long, ClassLies, class-lies, FloorLies, floor-lies, xs-lie}
+use Rattle.numbers.proofs.Lies.{Lies, lies-at, lies-left, lies-right, lies-both, lies-first, lies-rest, lies-slice, lies-self}
+use Rattle.numbers.proofs.ListLaws.{rows-length}
+use Rattle.floors.proofs.RowLaws.{class-count-most, classes-counted, values-counted}
+use Rattle.floor_class.proofs.Decoded.{class-long, ClassLies, class-lies}
+use Rattle.floors.proofs.Decoded.{floor-long, FloorLies, floor-lies, xs-lie}
 use Rattle.floors.proofs.Laws.{floors-row}
 use Rattle.floor_tables.proofs.Laws.{class-row}
 use Rattle.floor_tables.proofs.TestLaws.{fails, refuted, shown}

@@ -8,7 +8,7 @@ use lib.ListN.{getD}
 use lib.Seq.{slice}
 use Rattle.reading.specs.Lists.{distinct}
 use Rattle.floors.specs.Pieces.{classesTo, valuesTo}
-use Rattle.floors.specs.Valid.{MasterFits}
+use Rattle.floor_class.specs.Valid.{MasterFits}
 
 -- every number from place `from` up to `to` is below the limit: below 1 it is 0
 pub record Below (t : List ℕ) (from to limit : ℕ) : Type 0 where

@@ -1,13 +1,12 @@
 // Whether a table of floors that anyone hands in is the writing-out of floors that meet every rule.
 use floors::floor;
-use floors::numbers;
 use reading::buffers;
 ghost use mathlib.Core.Path.{_≡_};
 ghost use mathlib.Core.Bool.{true};
 ghost use mathlib.Core.Logic.{_↔_};
 ghost use Prim.Native.Nat.{_+_, _^_, _<_, _≤_};
 ghost use lib.ListN.{length, getD};
-ghost use Rattle.floors.specs.Valid.{MasterFits};
+ghost use Rattle.floor_class.specs.Valid.{MasterFits};
 ghost use Rattle.floor_tables.specs.Rules.{Below, BookRules, ClassRules, ClassesRules, PartitionRules, NamedRules, HeadRules, ListRules, FloorRules, FloorsRules};
 ghost use Rattle.floor_tables.specs.Stand.{FloorsStand};
 

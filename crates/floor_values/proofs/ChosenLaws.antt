@@ -24,9 +24,9 @@ use Rattle.bits.specs.declared.Step.{Step}
 use Rattle.bits.specs.declared.Step.the-variants.{Next, Refused}
 use Rattle.bits.specs.Cursors.{position, refusalOf, Wrote}
 use Rattle.bits.proofs.Steps.{wrote-refused, wrote-next, wrote-bad, wrote-ok}
-use Rattle.floors.specs.Cell.{cell}
-use Rattle.floors.specs.Content.{Class}
-use Rattle.floors.specs.Decode.{classAt}
+use Rattle.numbers.specs.Cell.{cell}
+use Rattle.floor_class.specs.Content.{Class}
+use Rattle.floor_class.specs.Decode.{classAt}
 use Rattle.floor_values.specs.Values.{chosen, value}
 use Rattle.floor_values.specs.Lying.{lengthsIn, classIn, PlaceLies, ClassLies}
 

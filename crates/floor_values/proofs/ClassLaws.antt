@@ -22,8 +22,8 @@ use Rattle.codebook.specs.Codeword.{codeword}
 use Rattle.codebook.proofs.Laws.{read-used}
 use Rattle.book.specs.Layout.{entriesAt, firstEntryAt}
 use Rattle.book_codeword.specs.Lying.{entriesOf, BookLies}
-use Rattle.floors.specs.Cell.{cell}
-use Rattle.floors.specs.Decode.{classAt}
+use Rattle.numbers.specs.Cell.{cell}
+use Rattle.floor_class.specs.Decode.{classAt}
 use Rattle.floor_values.specs.Values.{classValue, value}
 use Rattle.floor_values.specs.Lying.{lengthsIn, classIn, Readable, PlaceLies, ClassLies}
 

@@ -14,8 +14,9 @@ use Rattle.bits.specs.Field.{field}
 use Rattle.bits.proofs.Cuts.{field-cut-packet}
 use Rattle.codebook.specs.Codeword.{codeword}
 use Rattle.codebook.proofs.Laws.{codeword-cut-packet}
-use Rattle.floors.specs.Content.{Class, Floor}
-use Rattle.floors.specs.Decode.{noClass}
+use Rattle.floor_class.specs.Content.{Class}
+use Rattle.floors.specs.Content.{Floor}
+use Rattle.floor_class.specs.Decode.{noClass}
 use Rattle.floor_values.specs.Values.{firstBits, classValue, chosen, value, partition, partitionOf, whole, usedValues, floorValues}
 use Rattle.floor_values.specs.Claims.{SameOrCut}
 

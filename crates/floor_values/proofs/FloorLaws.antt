@@ -25,9 +25,9 @@ use Rattle.bits.specs.Field.{field}
 use Rattle.bits.proofs.Answers.{value-is, refused-is}
 use Rattle.bits.proofs.Steps.{wrote-refused, wrote-next, wrote-bad, wrote-ok}
 use Rattle.bits.proofs.Written.{wrote-through}
-use Rattle.floors.specs.Cell.{cell}
+use Rattle.numbers.specs.Cell.{cell}
 use Rattle.floors.specs.Content.{Floor}
-use Rattle.floors.proofs.Collected.{rows-cell, wrote-as, many-length}
+use Rattle.numbers.proofs.Collected.{rows-cell, wrote-as, many-length}
 use Rattle.floor_values.specs.Values.{firstBits, partitionOf, whole, usedValues, floorValues, held}
 
 -- the later values behind the first two

@@ -20,9 +20,12 @@ use Rattle.reading.proofs.Readers.{Long, each-long, mapped-ok}
 use Rattle.bits.specs.Field.{field}
 use Rattle.bits.proofs.Fields.{field-ok}
 use Rattle.codebook.specs.Codeword.{codeword}
-use Rattle.floors.specs.Content.{Class, Floor, xList, valueCount}
-use Rattle.floors.specs.Decode.{noClass}
-use Rattle.floors.specs.Valid.{ValidClasses, ValidFloor}
+use Rattle.floor_class.specs.Content.{Class}
+use Rattle.floor_x_list.specs.Content.{xList}
+use Rattle.floors.specs.Content.{Floor, valueCount}
+use Rattle.floor_class.specs.Decode.{noClass}
+use Rattle.floor_class.specs.Valid.{ValidClasses}
+use Rattle.floors.specs.Valid.{ValidFloor}
 use Rattle.floor_values.specs.Values.{firstBits, classValue, chosen, value, partition, partitionOf, whole, usedValues, floorValues}
 use Rattle.floor_values.specs.Lying.{lengthsIn, floorIn, FloorLies}
 use Rattle.floor_values.specs.Claims.{FloorValues}

@@ -20,11 +20,13 @@ use Rattle.bits.specs.Cursors.{position, outcome, Wrote}
 use Rattle.bits.proofs.Answers.{value-is, refused-is}
 use Rattle.bits.proofs.Steps.{wrote-refused, EachRest, each-loop-start, each-loop-next, each-loop-refused, each-loop-done}
 use Rattle.bits.proofs.Written.{wrote-through}
-use Rattle.floors.specs.Cell.{cell}
-use Rattle.floors.specs.Content.{Class, classCount}
-use Rattle.floors.specs.Decode.{noClass, classAt, classesAt, floorAt}
-use Rattle.floors.specs.Valid.{ValidClass, ValidClasses}
-use Rattle.floors.proofs.Collected.{rows-cell, wrote-as}
+use Rattle.numbers.specs.Cell.{cell}
+use Rattle.floor_class.specs.Content.{Class}
+use Rattle.floors.specs.Content.{classCount}
+use Rattle.floor_class.specs.Decode.{noClass, classAt, classesAt}
+use Rattle.floors.specs.Decode.{floorAt}
+use Rattle.floor_class.specs.Valid.{ValidClass, ValidClasses}
+use Rattle.numbers.proofs.Collected.{rows-cell, wrote-as}
 use Rattle.floors.proofs.RowLaws.{class-count-most}
 use Rattle.floor_values.specs.Values.{classValue, chosen, value, partition, partitionOf, whole}
 use Rattle.floor_values.specs.Lying.{lengthsIn, floorIn, classIn, ClassLies, FloorLies}

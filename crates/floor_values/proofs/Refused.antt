@@ -12,8 +12,9 @@ use Rattle.reading.specs.Reader.{Reader, many, each, mapped}
 use Rattle.bits.specs.Field.{valueAt, field}
 use Rattle.codespace.specs.Book.{used, isLone}
 use Rattle.codebook.specs.Codeword.{bitsAt, entryOf, orGoOn, matching, firstUsed, codeword}
-use Rattle.floors.specs.Content.{Class, Floor}
-use Rattle.floors.specs.Decode.{noClass}
+use Rattle.floor_class.specs.Content.{Class}
+use Rattle.floors.specs.Content.{Floor}
+use Rattle.floor_class.specs.Decode.{noClass}
 use Rattle.floor_values.specs.Values.{firstBits, classValue, chosen, value, partition, partitionOf, whole, usedValues, floorValues}
 
 -- a value, or the cut

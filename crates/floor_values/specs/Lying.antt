@@ -5,9 +5,12 @@ use mathlib.Core.Path.{_≡_}
 use lib.ListN.{length}
 use Rattle.book.specs.Layout.{entriesAt}
 use Rattle.book_codeword.specs.Lying.{entriesOf, BookLies}
-use Rattle.floors.specs.Content.{Class, Floor}
-use Rattle.floors.specs.Decode.{classAt, floorAt}
-use Rattle.floors.specs.Valid.{ValidClass, ValidFloor}
+use Rattle.floor_class.specs.Content.{Class}
+use Rattle.floors.specs.Content.{Floor}
+use Rattle.floor_class.specs.Decode.{classAt}
+use Rattle.floors.specs.Decode.{floorAt}
+use Rattle.floor_class.specs.Valid.{ValidClass}
+use Rattle.floors.specs.Valid.{ValidFloor}
 
 -- the entry lengths of each book
 unfoldable pub lengthsIn : List ℕ → List ℕ → ℕ → List ℕ

@@ -14,8 +14,9 @@ use Rattle.reading.specs.Lists.{rows}
 use Rattle.bits.specs.Field.{field}
 use Rattle.bits.specs.Ilog.{ilog}
 use Rattle.codebook.specs.Codeword.{codeword}
-use Rattle.floors.specs.Content.{Class, Floor}
-use Rattle.floors.specs.Decode.{noClass}
+use Rattle.floor_class.specs.Content.{Class}
+use Rattle.floors.specs.Content.{Floor}
+use Rattle.floor_class.specs.Decode.{noClass}
 use Rattle.floor_points.specs.FinalY.{rangeOf}
 
 -- 1 to 3: how many bits each of the first two values has; the range goes with the multiplier

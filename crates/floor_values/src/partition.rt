@@ -9,7 +9,7 @@ ghost use Prim.Native.Nat.{_+_, _^_, _<_, _≤_};
 ghost use Rattle.reading.specs.Reader.{each, into, into1};
 ghost use Rattle.reading.specs.Table.{table, putRow};
 ghost use Rattle.bits.specs.Cursors.{position, outcome, Wrote};
-ghost use Rattle.floors.specs.Cell.{cell};
+ghost use Rattle.numbers.specs.Cell.{cell};
 ghost use Rattle.floor_values.specs.Values.{classValue, chosen, value, partition, whole};
 ghost use Rattle.floor_values.specs.Lying.{lengthsIn, classIn, PlaceLies, ClassLies};
 

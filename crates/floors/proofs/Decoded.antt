@@ -1,21 +1,23 @@
 -- A row is the row of one floor only: what lies in the table where a floor's row lies is that floor. Assumes nothing.
-use Prim.Native.Nat.{ℕ, zero, suc, _+_, _-_, _*_, _^_, _≤_, _<_}
-use native.Mathlib.Nat.{add-assoc, mul-suc, add-comm}
+use Prim.Native.Nat.{ℕ, _+_, _≤_}
 use native.Mathlib.Omega.{arith}
-use mathlib.Core.List.{List, [], _∷_, _++_, map}
-use mathlib.Core.Path.{_≡_, refl, sym, ap, _∙_}
+use mathlib.Core.List.{List, _∷_, _++_}
+use mathlib.Core.Path.{_≡_, refl, ap, _∙_}
 use lib.ListN.{length, getD, length-append}
-use lib.Pow.{pow-mono}
 use lib.Seq.{slice}
 use Rattle.reading.specs.Lists.{rows}
 use Rattle.reading.specs.Pad.{pad}
 use Rattle.reading.proofs.Pads.{length-pad}
-use Rattle.floors.specs.Content.{Class, Floor, xList, classCount}
-use Rattle.floors.specs.Layout.{classRow, floorRow}
-use Rattle.floors.specs.Valid.{ValidClass, ValidClasses, ValidFloor}
-use Rattle.floors.specs.Decode.{classAt, classesAt, floorAt, decodeFloor}
-use Rattle.floors.proofs.Lies.{Lies, lies-at, lies-left, lies-right, lies-first, lies-rest, lies-slice, pad-before, lies-self}
-use Rattle.floors.proofs.RowLaws.{class-long, class-count-most}
+use Rattle.numbers.proofs.Lies.{Lies, lies-at, lies-left, lies-right, lies-first, lies-rest, lies-slice, lies-self}
+use Rattle.floor_class.specs.Layout.{classRow}
+use Rattle.floor_class.specs.Decode.{classesAt}
+use Rattle.floor_class.proofs.Decoded.{classes-decoded}
+use Rattle.floor_x_list.specs.Content.{xList}
+use Rattle.floors.specs.Content.{Floor}
+use Rattle.floors.specs.Layout.{floorRow}
+use Rattle.floors.specs.Valid.{ValidFloor}
+use Rattle.floors.specs.Decode.{floorAt, decodeFloor}
+use Rattle.floors.proofs.RowLaws.{class-count-most}
 
 -- the row of a floor has 277 numbers
 pub floor-long : (f : Floor) → length (floorRow f) ≡ 277
@@ -27,53 +29,6 @@ floor-long f =
     let a = length-append (pad 176 (rows classRow (f .classes))) (pad 65 (xList (f .rangebits) (f .xs))) in
     let b = length-append (pad 31 (f .partitions)) (pad 176 (rows classRow (f .classes)) ++ pad 65 (xList (f .rangebits) (f .xs))) in
     omega arith
-
--- the numbers of a class that lies in a table
-pub record ClassLies (t : List ℕ) (at : ℕ) (c : Class) : Type 0 where
-  pub dimensions : getD t at 0 ≡ c .dimensions
-  pub subclasses : getD t (at + 1) 0 ≡ c .subclasses
-  pub master : getD t (at + 2) 0 ≡ c .master
-  pub books : Lies t (at + 3) (pad 8 (c .books))
-
-pub class-lies : {t : List ℕ} {at : ℕ} (c : Class) → Lies t at (classRow c) → ClassLies t at c
-unfolding classRow
-class-lies {t} {at} c l =
-    let l₁ = lies-rest l in
-    let l₂ : Lies t (at + 2) (c .master ∷ pad 8 (c .books)) = lies-at (omega arith) (lies-rest l₁) in
-    record {
-      dimensions = lies-first l;
-      subclasses = lies-first l₁;
-      master = lies-first l₂;
-      books = lies-at (omega arith) (lies-rest l₂);
-    }
-
-pub class-decoded : {t : List ℕ} {at : ℕ} (c : Class) → length (c .books) ≡ 2 ^ c .subclasses → c .subclasses ≤ 3 → ClassLies t at c → classAt t at ≡ c
-unfolding classAt
-class-decoded {t} {at} c n h l =
-    let few : 2 ^ c .subclasses ≤ 8 = pow-mono h in
-    let b : slice (at + 3) (at + 3 + 2 ^ getD t (at + 1) 0) t ≡ c .books =
-    ap (λ (e : ℕ). slice (at + 3) (at + 3 + 2 ^ e) t) (l .subclasses) ∙ lies-slice 8 (2 ^ c .subclasses) (c .books) (l .books) n few in
-    λ j. record { dimensions = l .dimensions j; subclasses = l .subclasses j; master = l .master j; books = b j }
-
--- the class in front of the others
-pub classes-lie : {t : List ℕ} {at : ℕ} (m : ℕ) (c : Class) (cs : List Class) → Lies t at (pad (11 * suc m) (rows classRow (c ∷ cs))) → Lies t at (classRow c) × Lies t (at + 11) (pad (11 * m) (rows classRow cs))
-unfolding rows
-classes-lie {t} {at} m c cs l =
-    let e : 11 * suc m ≡ length (classRow c) + 11 * m = mul-suc 11 m ∙ add-comm (11 * m) 11 ∙ ap (λ (x : ℕ). x + 11 * m) (sym (class-long c)) in
-    let p : pad (11 * suc m) (classRow c ++ rows classRow cs) ≡ classRow c ++ pad (11 * m) (rows classRow cs) =
-    ap (λ (x : ℕ). pad x (classRow c ++ rows classRow cs)) e ∙ pad-before (classRow c) (rows classRow cs) (11 * m) in
-    let k : Lies t at (classRow c ++ pad (11 * m) (rows classRow cs)) = rw p at l in
-    (lies-left (classRow c) (pad (11 * m) (rows classRow cs)) k, rw (class-long c) at (lies-right (classRow c) (pad (11 * m) (rows classRow cs)) k))
-
-pub classes-decoded : {t : List ℕ} (at books m : ℕ) (cs : List Class) → length cs ≤ m → ValidClasses books cs → Lies t at (pad (11 * m) (rows classRow cs)) → classesAt t at (length cs) ≡ cs
-unfolding classesAt ValidClasses
-classes-decoded at books m [] h v l = refl
-classes-decoded at books zero (c ∷ cs) h v l = absurd (omega arith)
-classes-decoded {t} at books (suc m) (c ∷ cs) h v l =
-    let k = classes-lie m c cs l in
-    let here = class-decoded c (v .0 .count) (v .0 .subclasses) (class-lies c (k .0)) in
-    let later = classes-decoded (at + 11) books m cs (omega arith) (v .1) (k .1) in
-    λ j. here j ∷ later j
 
 -- the numbers of a floor that lies in a table
 pub record FloorLies (t : List ℕ) (at : ℕ) (f : Floor) : Type 0 where

@@ -15,15 +15,19 @@ use Rattle.reading.specs.Reader.{many}
 use Rattle.reading.proofs.Outcomes.{then-ok}
 use Rattle.bits.specs.Field.{field}
 use Rattle.bits.proofs.Fields.{field-ok}
+use Rattle.numbers.proofs.Lies.{Lies}
+use Rattle.numbers.proofs.Collected.{many-length}
+use Rattle.numbers.proofs.Accepted.{ok-is, many-cons, many-all, field-below}
+use Rattle.floor_class.specs.Reading.{class}
+use Rattle.floor_class.proofs.Accepted.{classes-valid}
+use Rattle.floor_x_list.specs.Reading.{ends}
+use Rattle.floor_x_list.proofs.Accepted.{ends-fit}
 use Rattle.floors.specs.Content.{Floor, classCount, valueCount}
 use Rattle.floors.specs.Layout.{floorRow}
 use Rattle.floors.specs.Decode.{noFloor}
-use Rattle.floors.proofs.Lies.{Lies}
-use Rattle.floors.proofs.Decoded.{floor-long, FloorLies, floor-lies}
-use Rattle.floors.specs.Reading.{floorType, class, ends, floor1, floor}
+use Rattle.floors.specs.Reading.{floorType, floor1, floor}
 use Rattle.floors.specs.Valid.{ValidFloor, ValidFloors}
-use Rattle.floors.proofs.Collected.{many-length}
-use Rattle.floors.proofs.Accepted.{ok-is, many-cons, many-all, field-below, ends-fit, classes-valid}
+use Rattle.floors.proofs.Decoded.{floor-long, FloorLies, floor-lies}
 
 -- AN ACCEPTED FLOOR MEETS EVERY RULE
 pub floor1-valid : (books place : ℕ) (s : List ℕ) (k : ℕ) {x : Floor × ℕ} → floor1 books place s k ≡ ok x → ValidFloor books (x .0)

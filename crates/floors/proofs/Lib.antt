@@ -1,11 +1,4 @@
-pub mod Loops
-pub mod Collected
-pub mod ListLaws
-pub mod NumberLaws
-pub mod ClassLaws
 pub mod FloorLaws
-pub mod Accepted
 pub mod RowLaws
-pub mod Lies
 pub mod Decoded
 pub mod Laws

@@ -1,14 +1,14 @@
 -- Laws of putting a floor together from its parts, as the code asks them. Assumes nothing.
-use Prim.Native.Nat.{ℕ, zero, suc, _+_, _*_, _^_, _≤_, _<_, max}
-use native.Mathlib.Nat.{mul-zero, mul-suc, add-comm}
+use Prim.Native.Nat.{ℕ, zero, suc, _+_, _*_, _≤_, _<_, max}
+use native.Mathlib.Nat.{mul-suc, add-comm}
 use native.Mathlib.Omega.{arith}
 use borrow.Author.Needs.{needs}
 use borrow.Author.Tests.{ltb-true}
-use mathlib.Core.Bool.{Bool, true, false, _&&_}
+use mathlib.Core.Bool.{true}
 use mathlib.Core.List.{List, [], _∷_, _++_, map, append-assoc}
-use mathlib.Core.Path.{_≡_, refl, sym, ap, _∙_, subst}
+use mathlib.Core.Path.{_≡_, refl, sym, ap, _∙_}
 use lib.Dec.{ltb}
-use lib.ListN.{length, getD, take, replicate, length-append, length-map}
+use lib.ListN.{length, getD, take, replicate, length-append}
 use lib.Seq.{sets, getD-append-add}
 use Rattle.reading.specs.Outcome.{Outcome, ok, bad, then}
 use Rattle.reading.specs.Reader.{many, mapped, into, into1}
@@ -28,14 +28,29 @@ use Rattle.bits.specs.Cursors.{position, outcome, Wrote}
 use Rattle.bits.specs.Field.{field}
 use Rattle.bits.proofs.Answers.{value-is, refused-is, value-below}
 use Rattle.bits.proofs.Steps.{wrote-refused, wrote-next, wrote-bad, wrote-ok}
-use Rattle.floors.specs.Cell.{cell}
-use Rattle.floors.specs.Content.{Class, Floor, xList, classCount, valueCount}
-use Rattle.floors.specs.Layout.{classRow, floorRow}
-use Rattle.floors.specs.Reading.{floorType, class, Ends, ends, floor1, floor}
-use Rattle.floors.specs.Pieces.{classesTo, valuesTo, Held, held, hold, rowOf, floorFrom, Partitions}
-use Rattle.floors.proofs.Collected.{Collected, collected, rows-cell, wrote-as}
-use Rattle.floors.proofs.ListLaws.{take-pad}
-use Rattle.floors.proofs.Accepted.{EndsFit, ends-fit, many-all, field-below}
+use Rattle.numbers.specs.Cell.{cell}
+use Rattle.numbers.proofs.Collected.{Collected, collected, rows-cell, wrote-as, two-runs}
+use Rattle.numbers.proofs.ListLaws.{take-pad}
+use Rattle.numbers.proofs.Accepted.{many-all, field-below}
+use Rattle.floor_class.specs.Content.{Class}
+use Rattle.floor_class.specs.Layout.{classRow}
+use Rattle.floor_class.specs.Reading.{class}
+use Rattle.floor_class.proofs.Decoded.{class-long}
+use Rattle.floor_x_list.specs.Content.{xList}
+use Rattle.floor_x_list.specs.Reading.{Ends, ends}
+use Rattle.floor_x_list.specs.Pieces.{Held, held, hold}
+use Rattle.floor_x_list.proofs.Accepted.{EndsFit, ends-fit}
+use Rattle.floors.specs.Content.{classCount, valueCount}
+use Rattle.floors.specs.Layout.{floorRow}
+use Rattle.floors.specs.Reading.{floorType, floor1, floor}
+use Rattle.floors.specs.Pieces.{classesTo, valuesTo, rowOf, floorFrom, Partitions}
+
+-- the row is stored in two runs: the 5 counts with the 31 places for partitions, then the rest
+pub two-runs-at : (entry : List ℕ) (at : ℕ) (first second third : List ℕ) {middle last : List ℕ} → length first ≡ 5 → length second ≡ 31
+    → middle ≡ sets entry at (first ++ second) → last ≡ sets middle (at + 36) third → last ≡ sets entry at ((first ++ second) ++ third)
+two-runs-at entry at first second third {middle} {last} a b m l =
+    let n : at + 36 ≡ at + length (first ++ second) = simp length-append (omega arith) in
+    two-runs entry at (first ++ second) third middle last n m l
 
 -- the row, from its four parts
 row-long : (count named : ℕ) (ps cs : List ℕ) (e : Ends) → length ps ≡ 31 → length cs ≡ 176 → 277 ≡ length (rowOf count named ps cs e)
@@ -127,10 +142,6 @@ values-cons : (cs : List ℕ) (x : ℕ) (l : List ℕ) (n : ℕ) → valuesTo cs
 unfolding valuesTo
 values-cons cs x l zero = omega arith
 values-cons cs x l (suc n) = let e = values-cons cs x l n in omega arith
-
-pub class-long : (c : Class) → length (classRow c) ≡ 11
-unfolding classRow
-class-long c = let e = length-pad 8 (c .books) in omega arith
 
 -- the dimensions of class c lie at the start of its row
 dimensions-row : (cs : List Class) (c : ℕ) → getD (rows classRow cs) (11 * c) 0 ≡ getD (map (λ (x : Class). x .dimensions) cs) c 0

@@ -1,19 +1,8 @@
 -- A floor of type 1 as content: every number that the rules name, without how it was coded (004, "header decode"; 01, "Setup order").
--- A place for a codebook holds the book's number plus one, or 0 for none.
-use Prim.Native.Nat.{ℕ, zero, suc, _+_, _^_, max}
-use mathlib.Core.List.{List, [], _∷_, map}
-use lib.ListN.{length, getD}
-use Rattle.reading.specs.Lists.{sum}
-
--- a partition class (004, steps 7 to 12)
-pub record Class : Type 0 where
-  -- how many values a partition of this class has, 1 to 8
-  pub dimensions : ℕ
-  -- the base 2 logarithm of the number of its subclass books
-  pub subclasses : ℕ
-  -- the book that chooses among them; none where there is but one
-  pub master : ℕ
-  pub books : List ℕ
+use Prim.Native.Nat.{ℕ, suc, _+_, max}
+use mathlib.Core.List.{List, [], _∷_}
+use lib.ListN.{getD}
+use Rattle.floor_class.specs.Content.{Class}
 
 pub record Floor : Type 0 where
   -- the class of each partition (004, step 4)
@@ -23,10 +12,6 @@ pub record Floor : Type 0 where
   pub rangebits : ℕ
   -- the X values that are read; 0 and 2 ^ rangebits stand before them (004, steps 15 to 22)
   pub xs : List ℕ
-
--- the whole X list
-abbrev pub xList : ℕ → List ℕ → List ℕ
-xList rangebits xs = 0 ∷ 2 ^ rangebits ∷ xs
 
 -- how many classes there are: one more than the greatest that a partition names (004, steps 5 and 6)
 unfoldable pub classCount : List ℕ → ℕ

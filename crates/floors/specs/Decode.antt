@@ -1,25 +1,11 @@
 -- From numbers in a table back to the floor whose row they are: the other way round of Layout. Total: of numbers that are no floor's row
 -- it gives some floor.
-use Prim.Native.Nat.{ℕ, zero, suc, _+_, _^_}
-use mathlib.Core.List.{List, [], _∷_}
+use Prim.Native.Nat.{ℕ, _+_}
+use mathlib.Core.List.{List, []}
 use lib.ListN.{getD}
 use lib.Seq.{slice}
-use Rattle.floors.specs.Content.{Class, Floor}
-
--- the class whose row begins at place `at`
-unfoldable pub classAt : List ℕ → ℕ → Class
-classAt t at =
-    record {
-      dimensions = getD t at 0;
-      subclasses = getD t (at + 1) 0;
-      master = getD t (at + 2) 0;
-      books = slice (at + 3) (at + 3 + 2 ^ getD t (at + 1) 0) t;
-    }
-
--- n classes from place `at` on
-unfoldable pub classesAt : List ℕ → ℕ → ℕ → List Class
-classesAt t at zero = []
-classesAt t at (suc n) = classAt t at ∷ classesAt t (at + 11) n
+use Rattle.floor_class.specs.Decode.{classesAt}
+use Rattle.floors.specs.Content.{Floor}
 
 -- the floor whose row begins at place `at`
 unfoldable pub floorAt : List ℕ → ℕ → Floor
@@ -36,9 +22,6 @@ floorAt t at =
 unfoldable pub decodeFloor : List ℕ → Floor
 decodeFloor row = floorAt row 0
 
--- what stands for a class and for a floor past the last
-abbrev pub noClass : Class
-noClass = record { dimensions = 0; subclasses = 0; master = 0; books = [] }
-
+-- what stands for a floor past the last
 abbrev pub noFloor : Floor
 noFloor = record { partitions = []; classes = []; multiplier = 0; rangebits = 0; xs = [] }

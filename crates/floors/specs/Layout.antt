@@ -4,11 +4,9 @@ use mathlib.Core.List.{List, [], _∷_, _++_}
 use lib.ListN.{length}
 use Rattle.reading.specs.Pad.{pad}
 use Rattle.reading.specs.Lists.{rows}
-use Rattle.floors.specs.Content.{Class, Floor, xList}
-
--- a class: 11 numbers
-unfoldable pub classRow : Class → List ℕ
-classRow c = c .dimensions ∷ c .subclasses ∷ c .master ∷ pad 8 (c .books)
+use Rattle.floor_class.specs.Layout.{classRow}
+use Rattle.floor_x_list.specs.Content.{xList}
+use Rattle.floors.specs.Content.{Floor}
 
 -- 5 counts, 31 places for partitions, 16 for classes, 65 for the X list
 unfoldable pub floorRow : Floor → List ℕ

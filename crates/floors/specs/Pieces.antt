@@ -1,19 +1,19 @@
 -- The reading of a floor in the pieces in which the program reads it: each is a part of a definition of Reading, or a function of the numbers
 -- as they lie in the program's buffers.
-use Prim.Native.Nat.{ℕ, zero, suc, _+_, _*_, _^_, _≤_, max}
+use Prim.Native.Nat.{ℕ, zero, suc, _+_, _*_, _≤_, max}
 use mathlib.Core.Bool.{true}
 use mathlib.Core.Path.{_≡_}
 use lib.Dec.{ltb}
 use mathlib.Core.List.{List, [], _∷_, _++_, map}
 use lib.ListN.{length, getD, take}
-use Rattle.reading.specs.Outcome.{refusal, ok, then, need}
+use Rattle.reading.specs.Outcome.{ok, then}
 use Rattle.reading.specs.Reader.{Reader, many}
-use Rattle.reading.specs.Lists.{distinct, all}
+use Rattle.reading.specs.Lists.{all}
 use Rattle.reading.specs.Pad.{pad}
-use Rattle.rules.specs.Rules as Rule
-use Rattle.floors.specs.Content.{Class, Floor, xList, classCount, valueCount}
-use Rattle.floors.specs.Layout.{classRow}
-use Rattle.floors.specs.Reading.{class, xValues, Ends, ends}
+use Rattle.floor_class.specs.Reading.{class}
+use Rattle.floor_x_list.specs.Content.{xList}
+use Rattle.floor_x_list.specs.Reading.{Ends, ends}
+use Rattle.floors.specs.Content.{Floor, classCount, valueCount}
 
 -- the count of classes that the first n partitions name
 unfoldable pub classesTo : List ℕ → ℕ → ℕ
@@ -24,29 +24,6 @@ classesTo partitions (suc n) = max (classesTo partitions n) (suc (getD partition
 unfoldable pub valuesTo : List ℕ → List ℕ → ℕ → ℕ
 valuesTo classes partitions zero = 0
 valuesTo classes partitions (suc n) = valuesTo classes partitions n + getD classes (11 * getD partitions n 0) 0
-
--- the row of a class whose books were read last
-unfoldable pub classRowOf : ℕ → ℕ → ℕ → List ℕ → List ℕ
-classRowOf dimensions subclasses master books = classRow (record { dimensions = dimensions; subclasses = subclasses; master = master; books = books })
-
--- what follows multiplier and range bits (004, steps 15 to 22)
-unfoldable pub endsFrom : ℕ → ℕ → ℕ → ℕ → Reader Ends
-endsFrom place n multiplier rangebits s k =
-    then (xValues place rangebits n s k) (λ xs.
-    need (Rule.meets12 (Rule.values (xList rangebits (xs .0)))) (refusal 12 place)
-    (ok (record { multiplier = multiplier; rangebits = rangebits; xs = xs .0 }, xs .1)))
-
--- the ends of a floor as the program holds them: the X list in a buffer of 65 places
-pub record Held : Type 0 where
-  pub multiplier : ℕ
-  pub rangebits : ℕ
-  pub list : List ℕ
-
-abbrev pub held : ℕ → ℕ → List ℕ → Held
-held multiplier rangebits list = record { multiplier = multiplier; rangebits = rangebits; list = list }
-
-unfoldable pub hold : Ends → Held
-hold e = held (e .multiplier) (e .rangebits) (pad 65 (xList (e .rangebits) (e .xs)))
 
 -- a floor's row, where partitions and classes lie in their buffers
 unfoldable pub rowOf : ℕ → ℕ → List ℕ → List ℕ → Ends → List ℕ

@@ -1,26 +1,21 @@
 // A floor of type 1 (004, "header decode"; 01, "Setup order"). Its row is put together from three buffers: partitions, classes, X list.
-use super::class;
-use super::numbers;
 use bits::Cursor;
 use bits::Field;
 use bits::Refusal;
 use bits::Step;
 use reading::buffers;
 ghost use mathlib.Core.Path.{_≡_};
-ghost use mathlib.Core.Bool.{true};
 ghost use mathlib.Core.List.{_++_};
-ghost use Prim.Native.Nat.{_+_, _*_, _^_, _<_, _≤_, max};
-ghost use lib.Dec.{ltb};
-ghost use lib.ListN.{length, replicate, take};
+ghost use Prim.Native.Nat.{_+_, _*_, _<_, _≤_, max};
+ghost use lib.ListN.{length, take};
 ghost use lib.Seq.{sets};
-ghost use Rattle.reading.specs.Reader.{many, mapped, into, into1};
+ghost use Rattle.reading.specs.Reader.{many, into, into1};
 ghost use Rattle.reading.specs.Table.{table, putRow};
-ghost use Rattle.reading.specs.Lists.{all};
 ghost use Rattle.bits.specs.Cursors.{position, outcome, Wrote};
-ghost use Rattle.floors.specs.Cell.{cell};
+ghost use Rattle.floor_x_list.specs.Reading.{ends};
 ghost use Rattle.floors.specs.Layout.{floorRow};
-ghost use Rattle.floors.specs.Reading.{floorType, xValues, ends, floor1, floor};
-ghost use Rattle.floors.specs.Pieces.{classesTo, valuesTo, endsFrom, held, hold, rowOf, floorFrom, Partitions};
+ghost use Rattle.floors.specs.Reading.{floorType, floor1, floor};
+ghost use Rattle.floors.specs.Pieces.{classesTo, valuesTo, rowOf, floorFrom, Partitions};
 
 // The type field: 0 is refusal 14, above 1 is 10.
 pub fn read_type(packet: &[u8], from: Cursor) -> Field
@@ -83,101 +78,6 @@ pub fn value_count(partitions: &[u16], count: usize, classes: &[u16]) -> usize
     sum
 }
 
-// The X values, from place 2 on. The count is judged before each is read: of more than 63 the 64th is refused.
-pub fn read_x_values(
-    packet: &[u8],
-    from: Cursor,
-    place: Cursor,
-    rangebits: usize,
-    count: usize,
-    list: &mut [u16],
-) -> Step
-    requires { ⌜ rangebits ≤ 15 ⌝ }
-    ensures { λ r. ⌜ Wrote (into (putRow cell) (xValues (position place) rangebits count (now (packet .entry)) (position from)) (table (now (list .entry)) 2)) r (table (now (list .exit)) (2 + count)) ⌝ }
-{
-    if count <= 63 {
-        return numbers::read_numbers(packet, from, rangebits, count, list, 2);
-    }
-    match numbers::read_numbers(packet, from, rangebits, 63, list, 2) {
-        Step::Refused(z) => Step::Refused(z),
-        Step::Next(_) => Step::Refused(Refusal { number: 12, place }),
-    }
-}
-
-// What follows the classes, beside the X list that went into a buffer.
-pub struct Ends {
-    pub multiplier: u32,
-    pub rangebits: u32,
-    pub step: Step,
-}
-
-// The X list, judged when it is complete.
-pub fn read_x_list(
-    packet: &[u8],
-    from: Cursor,
-    place: Cursor,
-    count: usize,
-    multiplier: u32,
-    rangebits: u32,
-    list: &mut [u16],
-) -> Ends
-    requires { ⌜ (rangebits ≤ 15) × (now list ≡ replicate 65 0) ⌝ }
-    ensures { λ r. ⌜ Wrote (mapped hold (endsFrom (position place) count multiplier rangebits (now (packet .entry)) (position from))) (r .step) (held (r .multiplier) (r .rangebits) (now (list .exit))) ⌝ }
-{
-    buffers::put_u16(list, 1, numbers::power(rangebits));
-    match read_x_values(packet, from, place, numbers::long(rangebits), count, list) {
-        Step::Refused(z) => Ends {
-            multiplier,
-            rangebits,
-            step: Step::Refused(z),
-        },
-        Step::Next(next) => {
-            if !numbers::are_distinct(list, 0, 2 + count) {
-                return Ends {
-                    multiplier,
-                    rangebits,
-                    step: Step::Refused(Refusal { number: 12, place }),
-                };
-            }
-            Ends {
-                multiplier,
-                rangebits,
-                step: Step::Next(next),
-            }
-        }
-    }
-}
-
-// Multiplier, range bits, X list.
-pub fn read_ends(packet: &[u8], from: Cursor, place: Cursor, count: usize, list: &mut [u16]) -> Ends
-    requires { ⌜ now list ≡ replicate 65 0 ⌝ }
-    ensures { λ r. ⌜ Wrote (mapped hold (ends (position place) count (now (packet .entry)) (position from))) (r .step) (held (r .multiplier) (r .rangebits) (now (list .exit))) ⌝ }
-{
-    match from.field(packet, 2) {
-        Field::Refused(z) => Ends {
-            multiplier: 0,
-            rangebits: 0,
-            step: Step::Refused(z),
-        },
-        Field::Value(multiplier, at_range) => match at_range.field(packet, 4) {
-            Field::Refused(z) => Ends {
-                multiplier: 0,
-                rangebits: 0,
-                step: Step::Refused(z),
-            },
-            Field::Value(rangebits, next) => read_x_list(
-                packet,
-                next,
-                place,
-                count,
-                multiplier + 1,
-                rangebits,
-                list,
-            ),
-        },
-    }
-}
-
 // A floor's row, from place `at` on.
 pub fn write_row(
     floors: &mut [u16],
@@ -211,7 +111,7 @@ pub fn read_behind_classes(
 {
     let values = value_count(partitions, count, classes);
     let mut list = [0u16; 65];
-    let ends = read_ends(packet, from, place, values, &mut list);
+    let ends = floor_x_list::read_ends(packet, from, place, values, &mut list);
     let step = ends.step;
     match step {
         Step::Refused(z) => Step::Refused(z),
@@ -245,7 +145,7 @@ pub fn read_behind_partitions(
 {
     let named = class_count(partitions, count);
     let mut classes = [0u16; 176];
-    match class::read_classes(packet, from, books, named, &mut classes) {
+    match floor_class::read_classes(packet, from, books, named, &mut classes) {
         Step::Refused(z) => Step::Refused(z),
         Step::Next(next) => read_behind_classes(
             packet,

@@ -19,7 +19,11 @@ use Rattle.identification.specs.Sound.{isSound}
 use Rattle.rules.specs.Rules.{meets7, meets8}
 use Rattle.book.specs.Content.{Book}
 use Rattle.books.specs.Reading as K
-use Rattle.floors.specs.Content.{Class, Floor, classCount, valueCount, xList}
+use Rattle.floor_class.specs.Content.{Class}
+use Rattle.floor_class.specs.Reading as C
+use Rattle.floor_x_list.specs.Content.{xList}
+use Rattle.floor_x_list.specs.Reading as X
+use Rattle.floors.specs.Content.{Floor, classCount, valueCount}
 use Rattle.floors.specs.Reading as F
 use Rattle.residues.specs.Content.{Residue}
 use Rattle.residues.specs.Reading as R
@@ -133,16 +137,16 @@ books-numbered l (suc n) before s k =
     then-numbered (books-numbered l n (K.andThis before (b .0)) s (b .1)) (λ (rest : List Book × ℕ). value _))
 
 -- floors
-class-numbered : (books : ℕ) (s : List ℕ) (k : ℕ) → Numbered (F.class books s k)
-unfolding F.class F.masterBook F.subclassBook
+class-numbered : (books : ℕ) (s : List ℕ) (k : ℕ) → Numbered (C.class books s k)
+unfolding C.class C.masterBook C.subclassBook
 class-numbered books s k =
     then-numbered (field-numbered 3 s k) (λ (dimensions : ℕ × ℕ).
     then-numbered (field-numbered 2 s (dimensions .1)) (λ (subclasses : ℕ × ℕ).
     then-numbered (either (eqb (subclasses .0) 0) (value (0, subclasses .1)) (mapped-numbered suc (judged-field (λ v. ltb v books) 11 8 s (subclasses .1) (omega arith)))) (λ (master : ℕ × ℕ).
-    then-numbered (many-numbered (F.subclassBook books) s (λ j. judged-field (λ v. leb v books) 11 8 s j (omega arith)) (2 ^ subclasses .0) (master .1)) (λ (list : List ℕ × ℕ). value _))))
+    then-numbered (many-numbered (C.subclassBook books) s (λ j. judged-field (λ v. leb v books) 11 8 s j (omega arith)) (2 ^ subclasses .0) (master .1)) (λ (list : List ℕ × ℕ). value _))))
 
-ends-numbered : (place n : ℕ) (s : List ℕ) (k : ℕ) → Numbered (F.ends place n s k)
-unfolding F.ends F.xValues
+ends-numbered : (place n : ℕ) (s : List ℕ) (k : ℕ) → Numbered (X.ends place n s k)
+unfolding X.ends X.xValues
 ends-numbered place n s k =
     then-numbered (field-numbered 2 s k) (λ (multiplier : ℕ × ℕ).
     then-numbered (field-numbered 4 s (multiplier .1)) (λ (rangebits : ℕ × ℕ).
@@ -156,8 +160,8 @@ floor-numbered books s k =
     then-numbered (judged-numbered (λ v. leb v 1) 10 (judged (λ v. not (eqb v 0)) 14 (field 16)) s k (omega arith) (judged-field (λ v. not (eqb v 0)) 14 16 s k (omega arith))) (λ (t : ℕ × ℕ).
     then-numbered (field-numbered 5 s (t .1)) (λ (count : ℕ × ℕ).
     then-numbered (many-numbered (field 4) s (field-numbered 4 s) (count .0) (count .1)) (λ (partitions : List ℕ × ℕ).
-    then-numbered (many-numbered (F.class books) s (class-numbered books s) (classCount (partitions .0)) (partitions .1)) (λ (classes : List Class × ℕ).
-    then-numbered (ends-numbered k (valueCount (map (λ c. c .dimensions) (classes .0)) (partitions .0)) s (classes .1)) (λ (e : F.Ends × ℕ). value _)))))
+    then-numbered (many-numbered (C.class books) s (class-numbered books s) (classCount (partitions .0)) (partitions .1)) (λ (classes : List Class × ℕ).
+    then-numbered (ends-numbered k (valueCount (map (λ c. c .dimensions) (classes .0)) (partitions .0)) s (classes .1)) (λ (e : X.Ends × ℕ). value _)))))
 
 -- residues
 cascade-numbered : (s : List ℕ) (k : ℕ) → Numbered (R.cascade s k)

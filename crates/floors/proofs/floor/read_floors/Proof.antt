@@ -1,10 +1,10 @@
--- `floors::floor::read_floors` meets its contract. The loop: what is left to read, written into the buffer as it is, is the whole (proofs/Loops). Assumes nothing.
+-- `floors::floor::read_floors` meets its contract. The loop: what is left to read, written into the buffer as it is, is the whole (numbers/proofs/Loops). Assumes nothing.
 use Prim.Native.Nat.{_≤_, _-_}
 use native.Mathlib.Omega.{arith}
 use borrow.Author.Needs.{needs}
 use Rattle.floors.specs.Layout.{floorRow}
 use Rattle.floors.specs.Reading.{floor}
-use Rattle.floors.proofs.Loops.{Filling, fill-start, fill-next, fill-refused, fill-done}
+use Rattle.numbers.proofs.Loops.{Filling, fill-start, fill-next, fill-refused, fill-done}
 use Rattle.floors.proofs.floor.read_floors.Statement.{statement}
 use Rattle.floors.proofs.floor.read_floors.Tie as tie
 

@@ -1,5 +1,5 @@
 -- `floors::floor::write_row` meets its contract. Assumes nothing.
-use Rattle.floors.proofs.Collected.{two-runs-at}
+use Rattle.floors.proofs.RowLaws.{two-runs-at}
 use borrow.Author.Needs.{needs}
 use Rattle.floors.proofs.floor.write_row.Statement.{statement}
 use Rattle.floors.proofs.floor.write_row.Tie as tie

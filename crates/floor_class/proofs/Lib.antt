@@ -1,0 +1,3 @@
+pub mod ClassLaws
+pub mod Accepted
+pub mod Decoded

@@ -1,0 +1,8 @@
+-- The row of a class within its floor's row: 11 numbers. docs/TABLES.md draws it.
+use Prim.Native.Nat.{ℕ}
+use mathlib.Core.List.{List, _∷_}
+use Rattle.reading.specs.Pad.{pad}
+use Rattle.floor_class.specs.Content.{Class}
+
+unfoldable pub classRow : Class → List ℕ
+classRow c = c .dimensions ∷ c .subclasses ∷ c .master ∷ pad 8 (c .books)

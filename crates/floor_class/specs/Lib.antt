@@ -1,0 +1,6 @@
+pub mod Content
+pub mod Reading
+pub mod Layout
+pub mod Valid
+pub mod Pieces
+pub mod Decode

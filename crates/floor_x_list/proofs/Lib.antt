@@ -1,0 +1,2 @@
+pub mod XListLaws
+pub mod Accepted

@@ -1,0 +1,110 @@
+// What follows a floor's classes in a setup packet: multiplier, range bits, X list (004, "header decode", steps 13 to 22; 01, refusal 12). `place` is the floor's type.
+use bits::Cursor;
+use bits::Field;
+use bits::Refusal;
+use bits::Step;
+use reading::buffers;
+ghost use mathlib.Core.Path.{_≡_};
+ghost use Prim.Native.Nat.{_+_, _<_, _≤_};
+ghost use lib.ListN.{replicate};
+ghost use Rattle.reading.specs.Reader.{mapped, into};
+ghost use Rattle.reading.specs.Table.{table, putRow};
+ghost use Rattle.bits.specs.Cursors.{position, Wrote};
+ghost use Rattle.numbers.specs.Cell.{cell};
+ghost use Rattle.floor_x_list.specs.Reading.{xValues, ends};
+ghost use Rattle.floor_x_list.specs.Pieces.{endsFrom, held, hold};
+
+// The X values, from place 2 on. The count is judged before each is read: of more than 63 the 64th is refused.
+pub fn read_x_values(
+    packet: &[u8],
+    from: Cursor,
+    place: Cursor,
+    rangebits: usize,
+    count: usize,
+    list: &mut [u16],
+) -> Step
+    requires { ⌜ rangebits ≤ 15 ⌝ }
+    ensures { λ r. ⌜ Wrote (into (putRow cell) (xValues (position place) rangebits count (now (packet .entry)) (position from)) (table (now (list .entry)) 2)) r (table (now (list .exit)) (2 + count)) ⌝ }
+{
+    if count <= 63 {
+        return numbers::read_numbers(packet, from, rangebits, count, list, 2);
+    }
+    match numbers::read_numbers(packet, from, rangebits, 63, list, 2) {
+        Step::Refused(z) => Step::Refused(z),
+        Step::Next(_) => Step::Refused(Refusal { number: 12, place }),
+    }
+}
+
+// What follows the classes, beside the X list that went into a buffer.
+pub struct Ends {
+    pub multiplier: u32,
+    pub rangebits: u32,
+    pub step: Step,
+}
+
+// The X list, judged when it is complete.
+pub fn read_x_list(
+    packet: &[u8],
+    from: Cursor,
+    place: Cursor,
+    count: usize,
+    multiplier: u32,
+    rangebits: u32,
+    list: &mut [u16],
+) -> Ends
+    requires { ⌜ (rangebits ≤ 15) × (now list ≡ replicate 65 0) ⌝ }
+    ensures { λ r. ⌜ Wrote (mapped hold (endsFrom (position place) count multiplier rangebits (now (packet .entry)) (position from))) (r .step) (held (r .multiplier) (r .rangebits) (now (list .exit))) ⌝ }
+{
+    buffers::put_u16(list, 1, numbers::power(rangebits));
+    match read_x_values(packet, from, place, numbers::long(rangebits), count, list) {
+        Step::Refused(z) => Ends {
+            multiplier,
+            rangebits,
+            step: Step::Refused(z),
+        },
+        Step::Next(next) => {
+            if !numbers::are_distinct(list, 0, 2 + count) {
+                return Ends {
+                    multiplier,
+                    rangebits,
+                    step: Step::Refused(Refusal { number: 12, place }),
+                };
+            }
+            Ends {
+                multiplier,
+                rangebits,
+                step: Step::Next(next),
+            }
+        }
+    }
+}
+
+// Multiplier, range bits, X list.
+pub fn read_ends(packet: &[u8], from: Cursor, place: Cursor, count: usize, list: &mut [u16]) -> Ends
+    requires { ⌜ now list ≡ replicate 65 0 ⌝ }
+    ensures { λ r. ⌜ Wrote (mapped hold (ends (position place) count (now (packet .entry)) (position from))) (r .step) (held (r .multiplier) (r .rangebits) (now (list .exit))) ⌝ }
+{
+    match from.field(packet, 2) {
+        Field::Refused(z) => Ends {
+            multiplier: 0,
+            rangebits: 0,
+            step: Step::Refused(z),
+        },
+        Field::Value(multiplier, at_range) => match at_range.field(packet, 4) {
+            Field::Refused(z) => Ends {
+                multiplier: 0,
+                rangebits: 0,
+                step: Step::Refused(z),
+            },
+            Field::Value(rangebits, next) => read_x_list(
+                packet,
+                next,
+                place,
+                count,
+                multiplier + 1,
+                rangebits,
+                list,
+            ),
+        },
+    }
+}
