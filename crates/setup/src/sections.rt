@@ -156,7 +156,7 @@ pub fn read_residue_section(
         },
         Field::Value(less_one, next) => {
             let number = less_one + 1;
-            let step = residues::read::read_residues(
+            let step = residue_reading::read_residues(
                 packet,
                 next,
                 count,
