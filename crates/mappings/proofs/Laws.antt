@@ -19,6 +19,7 @@ use Rattle.reading.proofs.Outcomes.{then-ok, judged-ok}
 use Rattle.reading.proofs.Accepted.{many-each, many-number}
 use Rattle.reading.proofs.PairRows.{PairRow}
 use Rattle.bits.specs.Field.{field}
+use Rattle.bits.specs.Ilog.{ilog}
 use Rattle.mappings.specs.Content.{Coupling, Submap, Mapping}
 use Rattle.mappings.specs.declared.Known.{Known}
 use Rattle.mappings.specs.Reading.{submapCount, couplingCount, channel, coupling, multiplex, multiplexes, submap, parts, mapping}
@@ -26,9 +27,13 @@ use Rattle.mappings.specs.Layout.{couplingRow, submapRow, mappingRow}
 use Rattle.mappings.specs.Valid.{ValidCoupling, ValidMultiplex, ValidSubmap, ValidMapping}
 use Rattle.mappings.specs.Decode.{couplingOf, submapOf, pairs, lessOne, decodeMapping}
 use Rattle.mappings.proofs.CountLaws.{submaps-few, steps-few, submaps-some-at-least}
-use Rattle.mappings.proofs.CouplingLaws.{channel-below}
-use Rattle.mappings.proofs.MappingLaws.{parts-sizes}
+use Rattle.mappings.proofs.SizeLaws.{parts-sizes}
 use Rattle.mappings.proofs.RowLaws.{part-couplings, part-multiplex, part-submaps}
+
+-- an accepted number is below the number of channels
+pub channel-below : (channels : ℕ) (s : List ℕ) (k : ℕ) {x : ℕ × ℕ} → channel channels s k ≡ ok x → x .0 < channels
+unfolding channel
+channel-below channels s k e = ltb-true _ _ (judged-ok (λ v. ltb v channels) 11 (field (ilog (channels - 1))) s k e .1)
 
 pub coupling-valid : (channels : ℕ) (s : List ℕ) (k : ℕ) (x : Coupling × ℕ) → coupling channels s k ≡ ok x → ValidCoupling channels (x .0)
 unfolding coupling

@@ -1,7 +1,4 @@
-pub mod Fillings
 pub mod CountLaws
-pub mod CouplingLaws
-pub mod SubmapLaws
+pub mod SizeLaws
 pub mod RowLaws
-pub mod MappingLaws
 pub mod Laws

@@ -1,8 +1,8 @@
 -- A mapping in a setup packet as 003's steps, each field judged as soon as it is read (01, "Order").
 use Prim.Native.Nat.{ℕ, suc, _-_}
-use mathlib.Core.Bool.{not, cond}
+use mathlib.Core.Bool.{cond}
 use mathlib.Core.List.{List, []}
-use lib.Dec.{eqb, leb, ltb}
+use lib.Dec.{eqb, leb}
 use Rattle.reading.specs.Outcome.{ok, then}
 use Rattle.reading.specs.Reader.{Reader, judged, mapped, many}
 use Rattle.bits.specs.Field.{field}

@@ -20,7 +20,7 @@ use Rattle.residues.specs.Plans.{headFits}
 use Rattle.residues.specs.Decode.{chunks, headAt, decodeResidue, decodeResidues}
 use Rattle.residue_tables.specs.Stand.{Holds, ResiduesStand, OneContent, headTest, placesTest, residueTest, residuesTest}
 use Rattle.residues.proofs.Laws.{length-headRow, length-planTable, rows8-long, planTable-is, decode-rows}
-use Rattle.residues.proofs.ReadLaws.{pad-cat}
+use Rattle.residues.proofs.RowsLaws.{pad-cat}
 
 and-true : (a b : Bool) → a && b ≡ true → (a ≡ true) × (b ≡ true)
 and-true true b e = (refl, e)

@@ -20,10 +20,9 @@ use Rattle.residues.specs.Reading.{Books, cascade, passes, planBook, pla
 use Rattle.residues.specs.Layout.{headRow, planTable}
 use Rattle.residues.specs.Valid.{Rows8, ValidResidue, AllValid, AcceptedValid}
 use Rattle.residues.specs.Decode.{chunks, decodeResidue}
-use Rattle.residues.proofs.PlanLaws.{place-sound}
-use Rattle.residues.proofs.RowsLaws.{all-append}
+use Rattle.residues.proofs.PlanSound.{place-sound, row-read-long}
+use Rattle.residues.proofs.RowsLaws.{all-append, pad-cat}
 use Rattle.residues.proofs.HeadSound.{head-sound}
-use Rattle.residues.proofs.ReadLaws.{pad-cat, row-read-long}
 
 pub length-headRow : (r : Residue) → length (headRow r) ≡ 6
 unfolding headRow

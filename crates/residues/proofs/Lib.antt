@@ -1,10 +1,6 @@
 pub mod HeadLaws
-pub mod CascadeLaws
-pub mod SlotLaws
-pub mod PlanLaws
+pub mod HeadSound
+pub mod PlanSound
 pub mod RowsLaws
 pub mod FitsLaws
-pub mod ReadLaws
-pub mod HeadSound
-pub mod ResidueLaws
 pub mod Laws

@@ -1,15 +1,14 @@
--- Laws of rows of 8 places, put one after the other, and of writing them. Assumes nothing.
+-- Laws of rows of 8 places, put one after the other. Assumes nothing.
 use Prim.Native.Nat.{ℕ, zero, suc, _+_, _*_, _≤_, _<_}
 use native.Mathlib.Numerals.{add-one}
 use native.Mathlib.Omega.{arith}
-use borrow.Author.Needs.{needs}
 use mathlib.Core.Bool.{Bool, true, false, _&&_}
 use mathlib.Core.List.{List, [], _∷_, _++_, append-assoc, append-nil}
 use mathlib.Core.Path.{_≡_, refl, sym, ap, _∙_}
 use lib.ListN.{length, getD, take, length-append}
-use lib.Seq.{take-suc, take-all, sets, length-sets}
+use lib.Seq.{take-suc}
+use Rattle.reading.specs.Pad.{pad}
 use Rattle.reading.specs.Lists.{all, rows}
-use Rattle.reading.proofs.Tables.{sets-append}
 use Rattle.residues.specs.Valid.{Rows8}
 use Rattle.residues.specs.Plans.{Grid}
 
@@ -48,40 +47,13 @@ rows-long (x ∷ plan) (suc i) r h =
     let b = rows-long plan i (r .1) (omega arith) in
     simp length-append (omega arith)
 
--- the loop that writes a grid row by row
-module _ (entry : List ℕ) (at : ℕ) (plan : List (List ℕ)) where
-  pub record WritingRows (now : List ℕ) (i : ℕ) : Type 0 where
-    pub within : i ≤ 64
-    pub long : length now ≡ length entry
-    pub is : now ≡ sets entry at (rows (λ row. row) (take i plan))
-
-  pub writing-start : WritingRows entry 0
-  unfolding rows
-  writing-start = record { within = omega arith; long = refl; is = refl }
-
-  module _ (g : Grid plan) {now : List ℕ} {i : ℕ} (w : WritingRows now i) where
-    pub writing-next : i < 64 → (now′ : List ℕ) → now′ ≡ sets now (at + 8 * i) (getD plan i []) → WritingRows now′ (i + 1)
-    writing-next h now′ e =
-        let c = g .classes in
-        let n : length (rows (λ row. row) (take i plan)) ≡ 8 * i = rows-long plan i (g .passes) (omega arith) in
-        record {
-          within = omega arith;
-          long = rw e (length-sets now (at + 8 * i) (getD plan i []) ∙ w .long);
-          is =
-              e
-              ∙ ap (λ (l : List ℕ). sets l (at + 8 * i) (getD plan i [])) (w .is)
-              ∙ ap (λ (m : ℕ). sets (sets entry at (rows (λ row. row) (take i plan))) (at + m) (getD plan i [])) (sym n)
-              ∙ sym (sets-append (rows (λ row. row) (take i plan)) (getD plan i []) entry at)
-              ∙ ap (sets entry at) (sym (rows-more plan i (omega arith)));
-        }
-
-    pub writing-done : 64 ≤ i → now ≡ sets entry at (rows (λ row. row) plan)
-    writing-done h =
-        let c = g .classes in
-        w .is ∙ ap (λ (l : List (List ℕ)). sets entry at (rows (λ row. row) l)) (take-all i plan (omega arith))
+-- a padded list whose front is known
+pub pad-cat : (m : ℕ) (xs ys : List ℕ) (n : ℕ) → m ≡ length xs + n → pad m (xs ++ ys) ≡ xs ++ pad n ys
+unfolding pad
+pad-cat m [] ys n e = let f : m ≡ n = omega arith in ap (λ (j : ℕ). pad j ys) f
+pad-cat zero (x ∷ xs) ys n e = absurd (omega arith)
+pad-cat (suc m) (x ∷ xs) ys n e = ap (λ (l : List ℕ). x ∷ l) (pad-cat m xs ys n (omega arith))
 
 -- the row that a loop takes out of a grid
 pub row-counted : (plan : List (List ℕ)) (i : ℕ) → Grid plan → i < 64 → length (getD plan i []) ≡ 8
 row-counted plan i g h = let c = g .classes in row-long plan i (g .passes) (omega arith)
-
-pub ruleset writing-laws = (needs, row-counted, writing-start, writing-next, writing-done)

@@ -1,7 +1,6 @@
 -- What reading the fields before the plan answers, and the second half of them.
 use Prim.Native.Nat.{ℕ, _+_}
 use mathlib.Core.List.{List, [], _∷_}
-use lib.Dec.{ltb}
 use Rattle.reading.specs.Outcome.{Outcome, ok, bad, then}
 use Rattle.reading.specs.Reader.{Reader, judged}
 use Rattle.bits.specs.Cursors.{position, refusalOf}

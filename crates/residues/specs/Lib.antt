@@ -4,7 +4,6 @@ pub mod Layout
 pub mod Valid
 pub mod FromTable
 pub mod Heads
-pub mod Slots
 pub mod Plans
 pub mod Decode
 pub mod Vectors

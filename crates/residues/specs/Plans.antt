@@ -1,9 +1,8 @@
 -- A plan as the array that holds it, a residue after its cascades, and both tables at the place of a residue.
-use Prim.Native.Nat.{ℕ, _*_, _^_}
+use Prim.Native.Nat.{ℕ, _*_}
 use mathlib.Core.Bool.{Bool, _&&_}
 use mathlib.Core.List.{List}
 use mathlib.Core.Path.{_≡_}
-use lib.Dec.{leb}
 use lib.ListN.{length}
 use Rattle.reading.specs.Outcome.{refusal, ok, then, need}
 use Rattle.reading.specs.Reader.{Reader, each}

@@ -1,9 +1,9 @@
 -- A residue in a setup packet as 001's steps, each field judged as soon as it is read; rule 13 is judged after its book numbers (01, "Order").
 -- Refusal 13 has its place at the residue's type.
-use Prim.Native.Nat.{ℕ, suc, _+_, _-_, _*_, _/_, _%_, _^_}
-use mathlib.Core.Bool.{Bool, true, not, _&&_, cond}
+use Prim.Native.Nat.{ℕ, suc, _+_, _-_, _*_, _/_, _%_}
+use mathlib.Core.Bool.{Bool, true, _&&_, cond}
 use mathlib.Core.List.{List, [], _∷_}
-use lib.Dec.{eqb, leb, ltb}
+use lib.Dec.{eqb}
 use Rattle.reading.specs.Outcome.{refusal, ok, then, need}
 use Rattle.reading.specs.Reader.{Reader, judged, mapped, many, each}
 use Rattle.reading.specs.Lists.{all, rows}

@@ -156,7 +156,7 @@ pub fn read_residue_section(
         },
         Field::Value(less_one, next) => {
             let number = less_one + 1;
-            let step = residues::read::read_residues(
+            let step = residue_reading::read_residues(
                 packet,
                 next,
                 count,
@@ -190,7 +190,7 @@ pub fn read_mapping_section(
         },
         Field::Value(less_one, next) => {
             let count = less_one + 1;
-            let step = mappings::read_mappings(packet, next, wide(count), known, mappings);
+            let step = mapping_reading::read_mappings(packet, next, wide(count), known, mappings);
             Section { count, step }
         }
     }

@@ -1,0 +1,4 @@
+pub mod SlotLaws
+pub mod CascadeLaws
+pub mod PlanLaws
+pub mod WritingLaws

@@ -1,0 +1,157 @@
+// Reading residues into the tables (003, 4.2.4, "Residues"; 001, "header decode").
+use bits::Cursor;
+use bits::Refusal;
+use bits::Step;
+use residues::head::Head;
+use residues::head::HeadRead;
+ghost use mathlib.Core.Path.{_≡_};
+ghost use Prim.Native.Nat.{_+_, _≤_};
+ghost use lib.ListN.{length, take};
+ghost use lib.Seq.{sets};
+ghost use Rattle.reading.specs.Reader.{many, into, into1};
+ghost use Rattle.bits.specs.Cursors.{position, Wrote};
+ghost use Rattle.residues.specs.Reading.{residue};
+ghost use Rattle.residues.specs.Layout.{putResidue};
+ghost use Rattle.residues.specs.FromTable.{booksOf};
+ghost use Rattle.residues.specs.Heads.{headOf, headNumbers};
+ghost use Rattle.residues.specs.Plans.{residueFrom, tablesAt};
+ghost use Rattle.residues.specs.Valid.{AcceptedValid};
+
+fn wide(x: u32) -> usize
+    ensures { λ r. ⌜ r ≡ x ⌝ }
+{
+    x as usize
+}
+
+fn write_head(residues: &mut [u32], at: usize, head: Head)
+    ensures { λ _. ⌜ now (residues .exit) ≡ sets (now (residues .entry)) at (headNumbers (headOf head)) ⌝ }
+{
+    let row = [
+        head.kind,
+        head.begin,
+        head.end,
+        head.size,
+        head.classifications,
+        head.classbook,
+    ];
+    reading::buffers::write_u32(residues, at, &row);
+}
+
+// The plan of a residue whose other fields and cascades were read: it is read whole, judged (13, at the residue's type) and written with them.
+fn read_plan(
+    packet: &[u8],
+    from: Cursor,
+    count: u32,
+    head: Head,
+    cascades: [u32; 64],
+    place: Cursor,
+    books: &[u32],
+    residues: &mut [u32],
+    plans: &mut [u16],
+    index: usize,
+) -> Step
+    requires { ⌜ (index ≤ 63) × (head .classifications ≤ 64) × (length cascades ≡ 64) ⌝ }
+    ensures { λ r. ⌜ Wrote (into1 putResidue (residueFrom (booksOf count (now (books .entry))) (position place) (headOf head) (take (head .classifications) cascades) (now (packet .entry)) (position from)) (tablesAt (now (residues .entry)) (now (plans .entry)) index)) r (tablesAt (now (residues .exit)) (now (plans .exit)) (index + 1)) ⌝ }
+{
+    let classes = wide(head.classifications);
+    let empty = [0u16; 8];
+    let mut plan = [empty; 64];
+    let mut at = from;
+    let mut i: usize = 0;
+    while i < classes {
+        let row = residue_plan::plan::read_row(packet, at, count, cascades[i]);
+        let step = row.step;
+        match step {
+            Step::Refused(z) => {
+                return Step::Refused(z); // a book number's refusal comes before rule 13
+            }
+            Step::Next(next) => {
+                let books_of_class = row.books;
+                plan[i] = books_of_class;
+                at = next;
+            }
+        }
+        i = i + 1;
+    }
+    if !residues::fits::head_fits(head, books) {
+        return Step::Refused(Refusal { number: 13, place });
+    }
+    if !residues::fits::plan_fits(plan, classes, head.size, books) {
+        return Step::Refused(Refusal { number: 13, place });
+    }
+    write_head(residues, 6 * index, head);
+    residue_plan::plan::write_plan(plans, 512 * index, plan);
+    Step::Next(at)
+}
+
+// A residue, written as number `index` of the tables.
+pub fn read_residue(
+    packet: &[u8],
+    from: Cursor,
+    count: u32,
+    books: &[u32],
+    residues: &mut [u32],
+    plans: &mut [u16],
+    index: usize,
+) -> Step
+    requires { ⌜ index ≤ 63 ⌝ }
+    ensures { λ r. ⌜ Wrote (into1 putResidue (residue (booksOf count (now (books .entry))) (now (packet .entry)) (position from)) (tablesAt (now (residues .entry)) (now (plans .entry)) index)) r (tablesAt (now (residues .exit)) (now (plans .exit)) (index + 1)) ⌝ }
+{
+    match residues::head::read_head(packet, from, count) {
+        HeadRead::Refused(z) => Step::Refused(z),
+        HeadRead::Value(head, at_cascades) => {
+            let cascades = residue_plan::cascade::read_cascades(
+                packet,
+                at_cascades,
+                wide(head.classifications),
+            );
+            let numbers = cascades.numbers;
+            let step = cascades.step;
+            match step {
+                Step::Refused(z) => Step::Refused(z),
+                Step::Next(at_plan) => read_plan(
+                    packet,
+                    at_plan,
+                    count,
+                    head,
+                    numbers,
+                    from,
+                    books,
+                    residues,
+                    plans,
+                    index,
+                ),
+            }
+        }
+    }
+}
+
+// `n` residues, from the front of the tables on.
+pub fn read_residues(
+    packet: &[u8],
+    from: Cursor,
+    count: u32,
+    books: &[u32],
+    residues: &mut [u32],
+    plans: &mut [u16],
+    n: usize,
+) -> Step
+    requires { ⌜ n ≤ 64 ⌝ }
+    ensures { λ r. ⌜ Wrote (into putResidue (many (residue (booksOf count (now (books .entry)))) n (now (packet .entry)) (position from)) (tablesAt (now (residues .entry)) (now (plans .entry)) 0)) r (tablesAt (now (residues .exit)) (now (plans .exit)) n) ⌝ }
+    ensures { λ _. ⌜ AcceptedValid (booksOf count (now (books .entry))) n (now (packet .entry)) (position from) ⌝ }
+{
+    let mut at = from;
+    let mut i: usize = 0;
+    while i < n {
+        match read_residue(packet, at, count, books, residues, plans, i) {
+            Step::Refused(z) => {
+                return Step::Refused(z);
+            }
+            Step::Next(next) => {
+                at = next;
+            }
+        }
+        i = i + 1;
+    }
+    Step::Next(at)
+}
