@@ -1,4 +1,5 @@
-// What follows a floor's classes in a setup packet: multiplier, range bits, X list (004, "header decode", steps 13 to 22; 01, refusal 12). `place` is the floor's type.
+// What follows a floor's classes in a setup packet: multiplier, range bits, X list (004, "header decode", steps 13 to 22).
+// Refusal 12 has its place at the floor's type, which stands at `place`.
 use bits::Cursor;
 use bits::Field;
 use bits::Refusal;
