@@ -15,8 +15,9 @@ use Rattle.limits.specs.declared.Limits.{Limits}
 use Rattle.codespace.specs.Book.{codewords}
 use Rattle.book.specs.Content.{Book}
 use Rattle.book.specs.Layout.{bookRow}
-use Rattle.books.specs.Reading.{Before, andThis}
-use Rattle.books.specs.Answers.{totals}
+use Rattle.book_head.specs.Reading.{Before}
+use Rattle.book_head.specs.Answers.{totals}
+use Rattle.books.specs.Reading.{andThis}
 use Rattle.books.specs.Rows.{bookRows, allLengths, allCodewords, allMultiplicands, decodeBooks}
 use Rattle.books.specs.Valid.{ValidBooks}
 use Rattle.books.proofs.Laid.{codewords-length, row-length, decode-books}

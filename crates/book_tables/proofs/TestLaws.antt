@@ -19,7 +19,7 @@ use Rattle.reading.proofs.Least.{lt-or-le}
 use Rattle.reading.proofs.Stands.{iff-false, iff-true}
 use Rattle.limits.specs.declared.Limits.{Limits}
 use Rattle.codespace.specs.Book.{Coded}
-use Rattle.books.specs.Reading.{valueCount}
+use Rattle.book_lookup.specs.Reading.{valueCount}
 use Rattle.book_tables.specs.declared.row.Row.{Row}
 use Rattle.book_tables.specs.Stand.{Clear}
 use Rattle.book_tables.specs.Rules.{rowOf, HeadRules, PlaceRules, NoneRules, SomeRules, LookupRules, BookRules, Begun}

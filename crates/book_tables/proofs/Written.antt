@@ -14,7 +14,7 @@ use Rattle.limits.specs.declared.Limits.{Limits}
 use Rattle.codespace.specs.Book.{codewords}
 use Rattle.book.specs.Content.{Book}
 use Rattle.book.specs.Layout.{bookRow}
-use Rattle.books.specs.Answers.{totals}
+use Rattle.book_head.specs.Answers.{totals}
 use Rattle.books.specs.Valid.{NoLookup, SomeLookup, ValidBook}
 use Rattle.books.proofs.Laid.{codewords-length}
 use Rattle.book_tables.specs.declared.row.Row.{Row}

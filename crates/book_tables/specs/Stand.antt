@@ -7,9 +7,9 @@ use Rattle.reading.specs.Pad.{pad}
 use Rattle.reading.specs.Stand.{Zeros}
 use Rattle.limits.specs.declared.Limits.{Limits}
 use Rattle.book.specs.Content.{Book}
+use Rattle.book_head.specs.Answers.{totals}
 use Rattle.books.specs.Rows.{bookRows, allLengths, allCodewords, allMultiplicands, decodeBooks}
 use Rattle.books.specs.Valid.{ValidBooks}
-use Rattle.books.specs.Answers.{totals}
 
 -- what a caller may ask about: few books, and limits that a place in a table can count up to
 pub record Asked (limits : Limits) (count : ℕ) : Type 0 where

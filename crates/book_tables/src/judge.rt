@@ -102,7 +102,7 @@ fn is_valued(row: Row) -> bool
     if 1 < row.sequence {
         return false;
     }
-    let count = books::lookup::value_count(row.lookup, row.entries, row.dimensions);
+    let count = book_lookup::lookup::value_count(row.lookup, row.entries, row.dimensions);
     if long(row.count) != count {
         return false;
     }

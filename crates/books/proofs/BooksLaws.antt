@@ -2,7 +2,7 @@
 use Prim.Native.Nat.{ℕ, zero, suc, _+_, _-_, _≤_, _<_}
 use native.Mathlib.Nat.{sub-zero}
 use native.Mathlib.Omega.{arith}
-use mathlib.Core.List.{List, [], _∷_}
+use mathlib.Core.List.{List, _∷_}
 use mathlib.Core.Path.{_≡_, refl, sym, ap, _∙_}
 use lib.ListN.{length}
 use Rattle.reading.specs.Outcome.{Outcome, ok, bad, then}
@@ -12,15 +12,15 @@ use Rattle.bits.specs.declared.Cursor.{Cursor}
 use Rattle.bits.specs.declared.Refusal.{Refusal}
 use Rattle.bits.specs.declared.Step.{Step}
 use Rattle.bits.specs.declared.Step.the-variants.{Next, Refused}
-use Rattle.bits.specs.Cursors.{position, refusalOf, Wrote}
+use Rattle.bits.specs.Cursors.{position, Wrote}
 use Rattle.bits.proofs.Steps.{wrote-bad, wrote-ok, wrote-refused, wrote-next}
 use Rattle.limits.specs.declared.Limits.{Limits}
 use Rattle.book.specs.Content.{Book}
-use Rattle.books.specs.Reading.{Before, andThis, book, books}
+use Rattle.book_head.specs.Answers.{totals}
+use Rattle.books.specs.Reading.{andThis, book, books}
 use Rattle.books.specs.Parts.{section}
 use Rattle.books.specs.Layout.{Tables, tables, putBook}
 use Rattle.books.specs.Lent.{Lent}
-use Rattle.books.specs.Answers.{totals}
 
 into-cons : (b : Book) (o : Outcome (List Book × ℕ)) (t : Tables) → into putBook (then o (λ y. ok (b ∷ y .0, y .1))) t ≡ into putBook o (putBook b t)
 unfolding into mapped puts
@@ -80,13 +80,14 @@ module _ (l : Limits) (s : List ℕ) (n k : ℕ) (bk₀ lens₀ wds₀ m₀ : Li
         wrote-next (sym (w .rest) ∙ books-none l s here (n - index) (omega arith) ∙ ap (λ (x : ℕ). ok (tables bk lens wds m x entries values, position c)) e)
 
     module _ (h : index < n) {st : Step} {t′ : Tables} (one : Wrote (into1 putBook (book l (totals entries values) s (position c)) here) st t′) where
-      pub books-refused : {z : Refusal} → st ≡ Refused z → (u : Tables) → Wrote whole (Refused z) u
+      pub books-refused : {z : Refusal} → st ≡ Refused z → (u : Tables) → Wrote whole st u
       unfolding into1
       books-refused {z} q u =
-          wrote-refused u
+          rw q
+          (wrote-refused u
           (sym (w .rest)
           ∙ books-bad l s here (n - index) (position c) (omega arith)
-          (mapped-bad (λ b. putBook b here) (book l (totals entries values) s (position c)) (wrote-bad one q)))
+          (mapped-bad (λ b. putBook b here) (book l (totals entries values) s (position c)) (wrote-bad one q))))
 
     module _ (h : index < n) {st : Step} {bk′ lens′ wds′ m′ : List ℕ} {entries′ values′ : ℕ}
         (one : Wrote (into1 putBook (book l (totals entries values) s (position c)) here) st (tables bk′ lens′ wds′ m′ (index + 1) entries′ values′)) where

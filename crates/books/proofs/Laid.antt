@@ -1,23 +1,22 @@
 -- The tables of books that were put one after the other into cleared buffers; and back from the tables to the books. Assumes nothing.
 use Prim.Native.Nat.{ℕ, zero, suc, _+_, _-_, _*_, _≤_, _<_}
 use native.Mathlib.Nat.{add-zero, zero-add, sub-zero}
-use native.Mathlib.Numerals.{add-one}
 use native.Mathlib.Omega.{arith}
 use mathlib.Core.List.{List, [], _∷_, _++_, append-nil, append-assoc}
 use mathlib.Core.Path.{_≡_, refl, sym, ap, _∙_}
 use lib.ListN.{length, getD, take, drop, replicate, length-append, List·getD-append}
-use lib.Seq.{sets, take-at, drop-at, drop-drop, getD-append-add}
-use Rattle.reading.specs.Outcome.{Outcome, ok, bad}
+use lib.Seq.{take-at, drop-at, getD-append-add}
 use Rattle.reading.specs.Pad.{pad}
 use Rattle.reading.specs.Lists.{rows}
-use Rattle.reading.specs.Reader.{puts, mapped, into}
-use Rattle.reading.proofs.Pads.{pad-nil, pad-get, pad-whole}
+use Rattle.reading.specs.Reader.{puts}
+use Rattle.reading.proofs.Pads.{pad-nil}
 use Rattle.reading.proofs.Tables.{sets-pad}
 use Rattle.reading.proofs.Tabulate.{tabulate-length}
 use Rattle.codespace.specs.Book.{codewords, codewordOf}
 use Rattle.book.specs.Content.{Book}
-use Rattle.book.specs.Layout.{bookRow, numberAt}
-use Rattle.books.specs.Reading.{Before, andThis}
+use Rattle.book.specs.Layout.{bookRow}
+use Rattle.book_head.specs.Reading.{Before}
+use Rattle.books.specs.Reading.{andThis}
 use Rattle.books.specs.Layout.{Tables, tables, putBook}
 use Rattle.books.specs.Rows.{bookRows, allLengths, allCodewords, allMultiplicands, andThese, decodeBook, decodeBooks}
 

@@ -1,13 +1,16 @@
 -- The four tables of books while they are filled: a row for each book, the lengths and codewords of all entries, all multiplicands.
 -- docs/TABLES.md draws them.
 use Prim.Native.Nat.{ℕ, _+_, _*_}
-use mathlib.Core.List.{List}
+use mathlib.Core.List.{List, [], _∷_, _++_}
 use lib.ListN.{length}
 use lib.Seq.{sets}
 use Rattle.codespace.specs.Book.{codewords}
 use Rattle.book.specs.Content.{Book}
 use Rattle.book.specs.Layout.{bookRow}
-use Rattle.books.specs.Reading.{Before, andThis}
+use Rattle.book_head.specs.Reading.{Before, Head}
+use Rattle.book_lookup.specs.Reading.{Lookup}
+use Rattle.book_lookup.specs.Parts.{lookupNumbers}
+use Rattle.books.specs.Reading.{andThis}
 
 pub record Tables : Type 0 where
   pub books : List ℕ
@@ -39,3 +42,12 @@ putBook b t =
       count = t .count + 1;
       before = andThis (t .before) b;
     }
+
+-- a book's lookup laid out: the table of books with its row, the table with its multiplicands, and how many there are then. index is the book's number,
+-- entries and values the totals before it
+unfoldable pub finished : List ℕ → List ℕ → Head → ℕ → ℕ → ℕ → Lookup → List ℕ × List ℕ × ℕ
+finished books table h index entries values l = (
+  sets books (10 * index) (h .dimensions ∷ h .entries ∷ entries ∷ (lookupNumbers l ++ (values ∷ []))),
+  sets table values (l .multiplicands),
+  values + length (l .multiplicands),
+)

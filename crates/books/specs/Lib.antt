@@ -1,8 +1,6 @@
 pub mod Reading
 pub mod Parts
-pub mod Answers
 pub mod Layout
 pub mod Lent
 pub mod Rows
 pub mod Valid
-pub mod Vectors

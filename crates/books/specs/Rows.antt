@@ -1,12 +1,13 @@
 -- The four tables of a list of books: what each holds from its front on, zeros behind; and the books that tables hold. docs/TABLES.md draws them.
 use Prim.Native.Nat.{ℕ, zero, suc, _+_}
 use mathlib.Core.List.{List, [], _∷_, _++_}
-use lib.ListN.{length, getD, take, drop}
+use lib.ListN.{getD, take, drop}
 use Rattle.reading.specs.Lists.{rows}
 use Rattle.codespace.specs.Book.{codewords}
 use Rattle.book.specs.Content.{Book}
 use Rattle.book.specs.Layout.{bookRow}
-use Rattle.books.specs.Reading.{Before, andThis}
+use Rattle.book_head.specs.Reading.{Before}
+use Rattle.books.specs.Reading.{andThis}
 
 -- a row for each book, with where its own entries and multiplicands begin
 unfoldable pub bookRows : Before → List Book → List ℕ

@@ -1,5 +1,5 @@
 -- Which books meet every rule (01, refusals 6, 7, 8 and 14; the width of each field).
-use Prim.Native.Nat.{ℕ, _+_, _*_, _^_, _≤_, _<_}
+use Prim.Native.Nat.{_+_, _^_, _≤_, _<_}
 use mathlib.Core.Bool.{true}
 use mathlib.Core.List.{List, [], _∷_}
 use mathlib.Core.Path.{_≡_}
@@ -10,7 +10,9 @@ use Rattle.limits.specs.declared.Limits.{Limits}
 use Rattle.codespace.specs.Book.{verdict}
 use Rattle.codespace.specs.declared.book.Assigned.the-variants.{Accepted}
 use Rattle.book.specs.Content.{Book}
-use Rattle.books.specs.Reading.{Before, andThis, valueCount}
+use Rattle.book_head.specs.Reading.{Before}
+use Rattle.book_lookup.specs.Reading.{valueCount}
+use Rattle.books.specs.Reading.{andThis}
 
 -- what stands where there is no lookup
 pub record NoLookup (b : Book) : Type 0 where

@@ -1,13 +1,12 @@
 // Codebooks read into their four tables: a row for each book, the lengths and codewords of all entries, all multiplicands.
-use crate::entries::read_entries;
-use crate::head::Head;
-use crate::head::HeadRead;
-use crate::head::read_head;
-use crate::lookup::LookupRead;
-use crate::lookup::read_lookup;
 use bits::Cursor;
-use bits::Refusal;
 use bits::Step;
+use book_head::head::Head;
+use book_head::head::HeadRead;
+use book_head::head::read_head;
+use book_lengths::entries::read_entries_at;
+use book_lookup::lookup::LookupRead;
+use book_lookup::lookup::read_lookup;
 use limits::Limits;
 use reading::buffers::write_u32;
 ghost use mathlib.Core.Path.{_≡_};
@@ -15,16 +14,18 @@ ghost use mathlib.Core.List.{[], _∷_, _++_};
 ghost use Prim.Native.Nat.{_+_, _-_, _*_, _<_, _≤_};
 ghost use lib.ListN.{length};
 ghost use lib.Seq.{sets};
-ghost use Rattle.reading.specs.Reader.{into, into1};
+ghost use Rattle.reading.specs.Reader.{mapped, into, into1};
 ghost use Rattle.bits.specs.Cursors.{position, Wrote};
+ghost use Rattle.book_head.specs.Answers.{totals, headOf};
+ghost use Rattle.book_lookup.specs.Reading.{lookup};
+ghost use Rattle.book_lookup.specs.Answers.{numbersOf};
 ghost use Rattle.books.specs.Reading.{book};
 ghost use Rattle.books.specs.Parts.{body, section};
-ghost use Rattle.books.specs.Layout.{putBook, tables};
+ghost use Rattle.books.specs.Layout.{putBook, tables, finished};
 ghost use Rattle.books.specs.Lent.{Lent, Begins, BookAt};
-ghost use Rattle.books.specs.Answers.{totals, headOf, numbersOf};
 
 // Where reading goes on, or the refusal; and how many entries and multiplicands the books have by then.
-pub struct BookRead {
+pub struct BooksRead {
     pub step: Step,
     pub entries: u32,
     pub values: u32,
@@ -50,6 +51,42 @@ fn write_row(books: &mut [u32], index: u32, head: Head, entries: u32, l: LookupR
     write_u32(books, 10 * index as usize, &row);
 }
 
+// What follows a book's lengths: its lookup and its row. `place`, `most`, `entries` and `values` as for `read_body`.
+fn finish_book(
+    packet: &[u8],
+    from: Cursor,
+    place: Cursor,
+    head: Head,
+    most: u32,
+    index: u32,
+    entries: u32,
+    values: u32,
+    books: &mut [u32],
+    multiplicands: &mut [u16],
+) -> BooksRead
+    requires { ⌜ (index < 256) × (entries + head .entries ≤ 16777216) × (values ≤ most) × (most ≤ length (now multiplicands)) × (most ≤ 16777216) ⌝ }
+    ensures { λ r. ⌜ Wrote (mapped (finished (now (books .entry)) (now (multiplicands .entry)) (headOf head) index entries values) (lookup (position place) (head .entries) (head .dimensions) (most - values) (now (packet .entry)) (position from))) (r .step) (now (books .exit), now (multiplicands .exit), r .values) ⌝ }
+    ensures { λ r. ⌜ (r .entries ≡ entries + head .entries) × (r .values ≤ most) ⌝ }
+{
+    let l = read_lookup(
+        packet,
+        from,
+        place,
+        head.entries,
+        head.dimensions,
+        values,
+        most,
+        multiplicands,
+    );
+    write_row(books, index, head, entries, l, values);
+    let step = l.step;
+    BooksRead {
+        step,
+        entries: entries + head.entries,
+        values: values + l.count,
+    }
+}
+
 // What follows a book's head. `place` is the book's first bit, `most` the limit on multiplicands, `entries` and `values` the totals before.
 fn read_body(
     packet: &[u8],
@@ -64,43 +101,30 @@ fn read_body(
     lengths: &mut [u8],
     words: &mut [u32],
     multiplicands: &mut [u16],
-) -> BookRead
+) -> BooksRead
     requires { ⌜ BookAt (head .entries) most index entries values (now lengths) (now words) (now multiplicands) ⌝ }
     ensures { λ r. ⌜ Wrote (into1 putBook (body (position place) (headOf head) (most - values) (now (packet .entry)) (position from)) (tables (now (books .entry)) (now (lengths .entry)) (now (words .entry)) (now (multiplicands .entry)) index entries values)) (r .step) (tables (now (books .exit)) (now (lengths .exit)) (now (words .exit)) (now (multiplicands .exit)) (index + 1) (r .entries) (r .values)) ⌝ }
     ensures { λ r. ⌜ (r .entries ≤ entries + head .entries) × (r .values ≤ most) ⌝ }
 {
-    let first = entries as usize;
-    let end = first + head.entries as usize;
-    match read_entries(
-        packet,
-        from,
-        place,
-        &mut lengths[first..end],
-        &mut words[first..end],
-    ) {
-        Step::Refused(z) => BookRead {
+    match read_entries_at(packet, from, place, entries, head.entries, lengths, words) {
+        Step::Refused(z) => BooksRead {
             step: Step::Refused(z),
             entries,
             values,
         },
         Step::Next(next) => {
-            let l = read_lookup(
+            finish_book(
                 packet,
                 next,
                 place,
-                head.entries,
-                head.dimensions,
-                values,
+                head,
                 most,
+                index,
+                entries,
+                values,
+                books,
                 multiplicands,
-            );
-            write_row(books, index, head, entries, l, values);
-            let step = l.step;
-            BookRead {
-                step,
-                entries: entries + head.entries,
-                values: values + l.count,
-            }
+            )
         }
     }
 }
@@ -117,13 +141,13 @@ pub fn read_book(
     lengths: &mut [u8],
     words: &mut [u32],
     multiplicands: &mut [u16],
-) -> BookRead
+) -> BooksRead
     requires { ⌜ Lent limits (now books) (now lengths) (now words) (now multiplicands) × Begins limits index entries values ⌝ }
     ensures { λ r. ⌜ Wrote (into1 putBook (book limits (totals entries values) (now (packet .entry)) (position from)) (tables (now (books .entry)) (now (lengths .entry)) (now (words .entry)) (now (multiplicands .entry)) index entries values)) (r .step) (tables (now (books .exit)) (now (lengths .exit)) (now (words .exit)) (now (multiplicands .exit)) (index + 1) (r .entries) (r .values)) ⌝ }
     ensures { λ r. ⌜ (r .entries ≤ limits .entries) × (r .values ≤ limits .multiplicands) ⌝ }
 {
     match read_head(packet, from, limits, entries) {
-        HeadRead::Refused(z) => BookRead {
+        HeadRead::Refused(z) => BooksRead {
             step: Step::Refused(z),
             entries,
             values,
@@ -145,12 +169,6 @@ pub fn read_book(
             )
         }
     }
-}
-
-pub struct BooksRead {
-    pub step: Step,
-    pub entries: u32,
-    pub values: u32,
 }
 
 // `count` books one after the other, from the front of the tables.
@@ -189,11 +207,7 @@ pub fn read_books(
         values = b.values;
         let step = b.step;
         match step {
-            Step::Refused(z) => return BooksRead {
-                step: Step::Refused(z),
-                entries,
-                values,
-            },
+            Step::Refused(_) => return b,
             Step::Next(next) => {
                 at = next;
                 index += 1;

@@ -11,7 +11,7 @@ use Rattle.reading.proofs.Pads.{pad-get, length-pad}
 use Rattle.reading.proofs.Least.{lt-or-le}
 use Rattle.book.specs.Content.{Book}
 use Rattle.book.specs.Layout.{bookRow, numberAt}
-use Rattle.books.specs.Reading.{Before}
+use Rattle.book_head.specs.Reading.{Before}
 use Rattle.books.specs.Rows.{bookRows, andThese}
 use Rattle.books.proofs.Laid.{rows-length, row-at}
 use Rattle.residues.specs.Reading.{Books}

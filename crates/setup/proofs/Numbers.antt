@@ -18,6 +18,9 @@ use Rattle.identification.specs.declared.Identity.{Identity}
 use Rattle.identification.specs.Sound.{isSound}
 use Rattle.rules.specs.Rules.{meets7, meets8}
 use Rattle.book.specs.Content.{Book}
+use Rattle.book_head.specs.Reading as H
+use Rattle.book_lengths.specs.Reading as L
+use Rattle.book_lookup.specs.Reading as U
 use Rattle.books.specs.Reading as K
 use Rattle.floor_class.specs.Content.{Class}
 use Rattle.floor_class.specs.Reading as C
@@ -71,34 +74,34 @@ exactly-numbered [] s k = value k
 exactly-numbered (b ∷ bs) s k = then-numbered (judged-field (λ v. eqb v b) 2 8 s k (omega arith)) (λ (x : ℕ × ℕ). exactly-numbered bs s (x .1))
 
 -- books
-length-numbered : (sparse : ℕ) (s : List ℕ) (k : ℕ) → Numbered (K.entryLength sparse s k)
-unfolding K.entryLength
+length-numbered : (sparse : ℕ) (s : List ℕ) (k : ℕ) → Numbered (L.entryLength sparse s k)
+unfolding L.entryLength
 length-numbered sparse s k =
     either (eqb sparse 0) (mapped-numbered suc (field-numbered 5 s k))
     (then-numbered (field-numbered 1 s k) (λ (f : ℕ × ℕ). either (eqb (f .0) 0) (value (0, f .1)) (mapped-numbered suc (field-numbered 5 s (f .1)))))
 
-runs-numbered : (place t left : ℕ) (s : List ℕ) (k : ℕ) → Numbered (K.runs place t left s k)
-unfolding K.runs
+runs-numbered : (place t left : ℕ) (s : List ℕ) (k : ℕ) → Numbered (L.runs place t left s k)
+unfolding L.runs
 runs-numbered place zero left s k = need-numbered (eqb left 0) (refusal 6 place) (omega arith) (value ([], k))
 runs-numbered place (suc t) left s k =
     either (eqb left 0) (value ([], k))
     (then-numbered (judged-field (λ n. leb n left) 6 (ilog left) s k (omega arith)) (λ (n : ℕ × ℕ).
     then-numbered (runs-numbered place t (left - n .0) s (n .1)) (λ (rest : List ℕ × ℕ). value _)))
 
-lengths-numbered : (place entries : ℕ) (s : List ℕ) (k : ℕ) → Numbered (K.lengths place entries s k)
-unfolding K.lengths
+lengths-numbered : (place entries : ℕ) (s : List ℕ) (k : ℕ) → Numbered (L.lengths place entries s k)
+unfolding L.lengths
 lengths-numbered place entries s k =
     then-numbered (field-numbered 1 s k) (λ (ordered : ℕ × ℕ).
     either (eqb (ordered .0) 0)
-    (then-numbered (field-numbered 1 s (ordered .1)) (λ (sparse : ℕ × ℕ). many-numbered (K.entryLength (sparse .0)) s (length-numbered (sparse .0) s) entries (sparse .1)))
+    (then-numbered (field-numbered 1 s (ordered .1)) (λ (sparse : ℕ × ℕ). many-numbered (L.entryLength (sparse .0)) s (length-numbered (sparse .0) s) entries (sparse .1)))
     (then-numbered (field-numbered 5 s (ordered .1)) (λ (first : ℕ × ℕ). runs-numbered place (32 - first .0) entries s (first .1))))
 
-entered-numbered : (place : ℕ) (ls : List ℕ) {o : Outcome (List ℕ × ℕ)} → Numbered o → Numbered (K.entered place ls o)
-unfolding K.entered
+entered-numbered : (place : ℕ) (ls : List ℕ) {o : Outcome (List ℕ × ℕ)} → Numbered o → Numbered (L.entered place ls o)
+unfolding L.entered
 entered-numbered place ls {o} n = need-numbered (meets7 ls) (refusal 7 place) (omega arith) (need-numbered (meets8 ls) (refusal 8 place) (omega arith) n)
 
-values-numbered : (place type count room : ℕ) (s : List ℕ) (k : ℕ) → Numbered (K.values place type count room s k)
-unfolding K.values
+values-numbered : (place type count room : ℕ) (s : List ℕ) (k : ℕ) → Numbered (U.values place type count room s k)
+unfolding U.values
 values-numbered place type count room s k =
     then-numbered (field-numbered 32 s k) (λ (minimum : ℕ × ℕ).
     then-numbered (field-numbered 32 s (minimum .1)) (λ (delta : ℕ × ℕ).
@@ -107,14 +110,14 @@ values-numbered place type count room s k =
     need-numbered (leb count room) (refusal 14 place) (omega arith)
     (then-numbered (many-numbered (field (width .0 + 1)) s (field-numbered (width .0 + 1) s) count (sequence .1)) (λ (list : List ℕ × ℕ). value _))))))
 
-lookup-numbered : (place entries dimensions room : ℕ) (s : List ℕ) (k : ℕ) → Numbered (K.lookup place entries dimensions room s k)
-unfolding K.lookup
+lookup-numbered : (place entries dimensions room : ℕ) (s : List ℕ) (k : ℕ) → Numbered (U.lookup place entries dimensions room s k)
+unfolding U.lookup
 lookup-numbered place entries dimensions room s k =
     then-numbered (judged-field (λ v. leb v 2) 6 4 s k (omega arith)) (λ (type : ℕ × ℕ).
-    either (eqb (type .0) 0) (value (K.noLookup, type .1)) (values-numbered place (type .0) (K.valueCount (type .0) entries dimensions) room s (type .1)))
+    either (eqb (type .0) 0) (value (U.noLookup, type .1)) (values-numbered place (type .0) (U.valueCount (type .0) entries dimensions) room s (type .1)))
 
-head-numbered : (l : Limits) (before : K.Before) (s : List ℕ) (k : ℕ) → Numbered (K.head l before s k)
-unfolding K.head
+head-numbered : (l : Limits) (before : H.Before) (s : List ℕ) (k : ℕ) → Numbered (H.head l before s k)
+unfolding H.head
 head-numbered l before s k =
     then-numbered (judged-field (λ v. eqb v 0x564342) 6 24 s k (omega arith)) (λ (pattern : ℕ × ℕ).
     then-numbered (judged-field (λ v. not (eqb v 0)) 6 16 s (pattern .1) (omega arith)) (λ (dimensions : ℕ × ℕ).
@@ -122,14 +125,14 @@ head-numbered l before s k =
     (judged-numbered (λ v. leb v (l .«book_entries»)) 14 (judged (λ v. not (eqb v 0)) 6 (field 24)) s (dimensions .1) (omega arith)
     (judged-field (λ v. not (eqb v 0)) 6 24 s (dimensions .1) (omega arith)))) (λ (entries : ℕ × ℕ). value _)))
 
-book-numbered : (l : Limits) (before : K.Before) (s : List ℕ) (k : ℕ) → Numbered (K.book l before s k)
+book-numbered : (l : Limits) (before : H.Before) (s : List ℕ) (k : ℕ) → Numbered (K.book l before s k)
 unfolding K.book
 book-numbered l before s k =
-    then-numbered (head-numbered l before s k) (λ (h : K.Head × ℕ).
+    then-numbered (head-numbered l before s k) (λ (h : H.Head × ℕ).
     then-numbered (then-numbered (lengths-numbered k (h .0 .entries) s (h .1)) (λ (ls : List ℕ × ℕ). entered-numbered k (ls .0) (value ls))) (λ (ls : List ℕ × ℕ).
-    then-numbered (lookup-numbered k (h .0 .entries) (h .0 .dimensions) (l .multiplicands - before .values) s (ls .1)) (λ (x : K.Lookup × ℕ). value _)))
+    then-numbered (lookup-numbered k (h .0 .entries) (h .0 .dimensions) (l .multiplicands - before .values) s (ls .1)) (λ (x : U.Lookup × ℕ). value _)))
 
-books-numbered : (l : Limits) (n : ℕ) (before : K.Before) (s : List ℕ) (k : ℕ) → Numbered (K.books l before n s k)
+books-numbered : (l : Limits) (n : ℕ) (before : H.Before) (s : List ℕ) (k : ℕ) → Numbered (K.books l before n s k)
 unfolding K.books
 books-numbered l zero before s k = value ([], k)
 books-numbered l (suc n) before s k =

@@ -21,7 +21,8 @@ use Rattle.codespace.proofs.Laws.{exactly-one-entry}
 use Rattle.codebook.specs.Codeword.{codeword}
 use Rattle.codebook.proofs.Laws.{read-whole, read-lone}
 use Rattle.book.specs.Content.{Book}
-use Rattle.books.specs.Reading.{Before, andThis}
+use Rattle.book_head.specs.Reading.{Before}
+use Rattle.books.specs.Reading.{andThis}
 use Rattle.books.specs.Valid.{ValidBooks}
 use Rattle.setup.specs.Content.{Setup}
 use Rattle.setup.specs.Layout.{Tables, writtenOut}

@@ -21,7 +21,10 @@ use Rattle.codespace.specs.declared.book.Assigned.the-variants.{Accepted, Under
 use Rattle.codespace.proofs.Whole.{balance}
 use Rattle.rules.specs.Rules.{meets7, meets8}
 use Rattle.rules.proofs.Laws.{accepted-meets, meets-accepted}
-use Rattle.books.specs.Reading.{Before, Head, head, lengths, entered, values, lookup, book, valueCount}
+use Rattle.book_head.specs.Reading.{Before, Head, head}
+use Rattle.book_lengths.specs.Reading.{lengths, entered}
+use Rattle.book_lookup.specs.Reading.{valueCount, values, lookup}
+use Rattle.books.specs.Reading.{book}
 use Rattle.setup_codeword.specs.Demand3.{LedgerTakes, Judged, Neither}
 
 -- the verdict of a list: what was refused, what is free, and whether there is a lone entry

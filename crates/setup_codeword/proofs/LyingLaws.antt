@@ -13,7 +13,8 @@ use Rattle.codespace.specs.Book.{codewords}
 use Rattle.codebook.specs.Book.{Codebook}
 use Rattle.book.specs.Content.{Book}
 use Rattle.book.specs.Layout.{bookRow, numberAt, entriesAt, firstEntryAt}
-use Rattle.books.specs.Reading.{Before, andThis}
+use Rattle.book_head.specs.Reading.{Before}
+use Rattle.books.specs.Reading.{andThis}
 use Rattle.books.specs.Rows.{bookRows, allLengths, allCodewords, andThese}
 use Rattle.books.specs.Valid.{ValidBook, ValidBooks}
 use Rattle.books.proofs.Laid.{codewords-length, row-at, these-entries, pad-fits}

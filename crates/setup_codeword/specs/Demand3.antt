@@ -17,7 +17,9 @@ use Rattle.codespace.specs.Book.{used, isLone, firstRefused, freeAfter, codewor
 use Rattle.codespace.specs.declared.book.Assigned.the-variants.{Accepted}
 use Rattle.rules.specs.Rules.{meets7, meets8}
 use Rattle.codebook.specs.Codeword.{bitsAt, firstUsed}
-use Rattle.books.specs.Reading.{Before, Head, head, lengths, entered, book}
+use Rattle.book_head.specs.Reading.{Before, Head, head}
+use Rattle.book_lengths.specs.Reading.{lengths, entered}
+use Rattle.books.specs.Reading.{book}
 use Rattle.setup.specs.Content.{Setup}
 use Rattle.setup.specs.Layout.{Tables}
 use Rattle.setup.specs.Call.{setupOf, setupCall}

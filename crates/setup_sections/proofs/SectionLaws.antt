@@ -25,10 +25,11 @@ use Rattle.bits.proofs.Answers.{value-is, refused-is, value-below}
 use Rattle.bits.proofs.Steps.{next-is, stop-is}
 use Rattle.limits.specs.declared.Limits.{Limits}
 use Rattle.book.specs.Content.{Book}
+use Rattle.book_head.specs.Reading.{Before}
 use Rattle.books.specs.Layout.{tables, putBook}
 use Rattle.books.specs.Layout as B
 use Rattle.books.specs.Parts as P
-use Rattle.books.specs.Reading.{Before, books}
+use Rattle.books.specs.Reading.{books}
 use Rattle.books.specs.Rows.{bookRows, allLengths, allCodewords, allMultiplicands, andThese}
 use Rattle.books.proofs.Laid.{cleared-laid}
 use Rattle.residues.specs.Content.{Residue}

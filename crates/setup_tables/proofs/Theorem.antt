@@ -11,7 +11,7 @@ use Rattle.reading.specs.Stand.{Each, Stands}
 use Rattle.reading.proofs.Stands.{rows-length, stands-same}
 use Rattle.limits.specs.declared.Limits.{Limits}
 use Rattle.book.specs.Content.{Book}
-use Rattle.books.specs.Answers.{totals}
+use Rattle.book_head.specs.Answers.{totals}
 use Rattle.books.specs.Rows.{bookRows}
 use Rattle.book_tables.specs.Stand.{Asked, BooksStand}
 use Rattle.book_tables.proofs.HeldLaws as BookLaws

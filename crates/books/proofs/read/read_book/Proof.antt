@@ -1,6 +1,7 @@
 -- `books::read::read_book` meets its contract, by BookLaws. Assumes nothing.
 use native.Mathlib.Omega.{arith}
-use Rattle.books.proofs.BookLaws.{head-known, book-refused, book-whole}
+use Rattle.book_head.proofs.Accepted.{head-known}
+use Rattle.books.proofs.BookLaws.{book-refused, book-whole}
 use borrow.Author.Needs.{needs}
 use Rattle.books.proofs.read.read_book.Statement.{statement}
 use Rattle.books.proofs.read.read_book.Tie as tie

@@ -1,0 +1,2 @@
+// The fields before a codebook's lengths in a setup packet.
+pub mod head; // pattern, dimensions, entries

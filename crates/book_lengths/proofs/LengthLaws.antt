@@ -1,0 +1,319 @@
+-- Laws of a book's lengths as the code asks them. Assumes nothing.
+use Prim.Native.Nat.{ℕ, zero, suc, _+_, _-_, _≤_, _<_}
+use native.Mathlib.Numerals.{add-one}
+use native.Mathlib.Omega.{arith}
+use borrow.Author.Needs.{needs}
+use borrow.Author.Tests.{le-leb, lt-leb, eq-eqb, ne-eqb, leb-true}
+use mathlib.Core.Bool.{Bool, true, false, cond}
+use mathlib.Core.List.{List, [], _++_}
+use mathlib.Core.Path.{_≡_, refl, sym, ap, _∙_}
+use lib.Dec.{eqb, leb}
+use lib.ListN.{length, getD, take, replicate, set, length-set}
+use lib.Seq.{sets, length-sets, take-all}
+use Rattle.reading.specs.Outcome.{Outcome, ok, bad, then}
+use Rattle.reading.specs.Reader.{many, mapped}
+use Rattle.reading.proofs.Outcomes.{then-ok, judged-ok}
+use Rattle.reading.proofs.Readers.{mapped-ok}
+use Rattle.reading.proofs.Tables.{Writing, write-start, write-turn, write-end}
+use Rattle.bits.specs.declared.Cursor.{Cursor}
+use Rattle.bits.specs.declared.Refusal.{Refusal}
+use Rattle.bits.specs.declared.Field.{Field}
+use Rattle.bits.specs.declared.Field.the-variants.{Value, Refused}
+use Rattle.bits.specs.declared.Step.{Step}
+use Rattle.bits.specs.declared.Step.the-variants as S
+use Rattle.bits.specs.Cursors.{position, outcome, Wrote}
+use Rattle.bits.specs.Field.{field}
+use Rattle.bits.specs.Ilog.{ilog}
+use Rattle.bits.proofs.Answers.{value-is, refused-is, value-below}
+use Rattle.bits.proofs.Fields.{field-ok}
+use Rattle.bits.proofs.Ilogs.{ilog-places}
+use Rattle.bits.proofs.Steps.{wrote-refused, wrote-next}
+use Rattle.book_lengths.specs.Reading.{entryLength, runs, lengths}
+use Rattle.book_lengths.specs.Parts.{runNumber, unordered, ordered}
+use Rattle.filling.proofs.Filling.{behind, behind-nil, behind-append, behind-bad, behind-none, take-sets}
+
+abbrev at : ℕ → Cursor → Refusal
+at n c = record { number = n; place = c }
+
+-- five bits plus one
+module _ (s : List ℕ) (k : Cursor) {r : Field} (p : outcome r ≡ field 5 s (position k)) where
+  pub used-cut : {z : Refusal} → r ≡ Refused z → outcome (Refused z) ≡ mapped suc (field 5 s (position k))
+  unfolding mapped outcome
+  used-cut q = rw (refused-is p q)
+
+  module _ {v : ℕ} {n : Cursor} (q : r ≡ Value v n) where
+    pub used-fits : v + 1 < 4294967296
+    used-fits = let b = value-below 5 s (position k) p q in omega arith
+
+    pub used-whole : outcome (Value (v + 1) n) ≡ mapped suc (field 5 s (position k))
+    unfolding mapped outcome
+    used-whole = rw (value-is p q, add-one)
+
+-- one entry
+module _ (sparse : ℕ) (s : List ℕ) (k : Cursor) where
+  pub entry-dense : (r : Field) → sparse ≡ 0 → outcome r ≡ mapped suc (field 5 s (position k)) → outcome r ≡ entryLength sparse s (position k)
+  unfolding entryLength
+  entry-dense r n e = rw (eq-eqb _ _ n) e
+
+  module _ (behind-flag : sparse ≡ 0 → ⊥) {r : Field} (p : outcome r ≡ field 1 s (position k)) where
+    pub flag-cut : {z : Refusal} → r ≡ Refused z → outcome (Refused z) ≡ entryLength sparse s (position k)
+    unfolding entryLength outcome
+    flag-cut q = rw (ne-eqb _ _ behind-flag, refused-is p q)
+
+    module _ {flag : ℕ} {n : Cursor} (q : r ≡ Value flag n) where
+      pub flag-unused : flag ≡ 0 → outcome (Value 0 n) ≡ entryLength sparse s (position k)
+      unfolding entryLength outcome
+      flag-unused e = rw (ne-eqb _ _ behind-flag, value-is p q, eq-eqb _ _ e)
+
+      pub flag-used : (flag ≡ 0 → ⊥) → (r₁ : Field) → outcome r₁ ≡ mapped suc (field 5 s (position n)) → outcome r₁ ≡ entryLength sparse s (position k)
+      unfolding entryLength
+      flag-used e r₁ p₁ = rw (ne-eqb _ _ behind-flag, value-is p q, ne-eqb _ _ e) p₁
+
+-- a length is at most 32
+used-small : (s : List ℕ) (k : ℕ) {v n : ℕ} → mapped suc (field 5 s k) ≡ ok (v, n) → v ≤ 32
+used-small s k {v} {n} e =
+    let m = mapped-ok suc (field 5 s k) e in
+    let b = field-ok s k 5 (m .1) .below in
+    let q = m .2 in
+    omega arith
+
+pub entry-small : (sparse : ℕ) (s : List ℕ) (k : ℕ) {v n : ℕ} → entryLength sparse s k ≡ ok (v, n) → v ≤ 32
+unfolding entryLength
+entry-small sparse s k {v} {n} e = go (eqb sparse 0) e
+  where
+    flagged : (b : Bool) (j : ℕ) → cond b (ok (0, j)) (mapped suc (field 5 s j)) ≡ ok (v, n) → v ≤ 32
+    flagged true j q =
+        let f : _≡_ {A = Outcome (ℕ × ℕ)} (ok (0, j)) (ok (v, n)) = q in
+        let g : _≡_ {A = ℕ × ℕ} (0, j) (v, n) = cc in
+        let z : 0 ≡ v = ap (λ (x : ℕ × ℕ). x .0) g in
+        omega arith
+    flagged false j q = used-small s j q
+
+    go : (b : Bool) → cond b (mapped suc (field 5 s k)) (then (field 1 s k) (λ flag. cond (eqb (flag .0) 0) (ok (0, flag .1)) (mapped suc (field 5 s (flag .1))))) ≡ ok (v, n) → v ≤ 32
+    go true q = used-small s k q
+    go false q =
+        let t = then-ok (field 1 s k) (λ flag. cond (eqb (flag .0) 0) (ok (0, flag .1)) (mapped suc (field 5 s (flag .1)))) q in
+        flagged (eqb (t .0 .0) 0) (t .0 .1) (t .2)
+
+pub entry-fits : {r : Field} (sparse : ℕ) (s : List ℕ) (k : ℕ) {v : ℕ} {n : Cursor} → outcome r ≡ entryLength sparse s k → r ≡ Value v n → v < 256
+entry-fits sparse s k p q = let b = entry-small sparse s k (value-is p q) in omega arith
+
+-- a run's number
+module _ (left : ℕ) where
+  pub run-width : {w : ℕ} → left < 4294967296 → w ≡ ilog left → w ≤ 32
+  run-width h e = let i = ilog-places left h .1 in omega arith
+
+  read-as : {w : ℕ} → w ≡ ilog left → (s : List ℕ) (k : ℕ) (r : Field) → outcome r ≡ field w s k → outcome r ≡ field (ilog left) s k
+  read-as e s k r p = rw (← e) p
+
+  module _ {w : ℕ} (e : w ≡ ilog left) (s : List ℕ) (k : Cursor) {r : Field} (p : outcome r ≡ field w s (position k)) where
+    pub run-cut : {z : Refusal} → r ≡ Refused z → outcome (Refused z) ≡ runNumber left s (position k)
+    unfolding runNumber outcome
+    run-cut q = rw (refused-is (read-as e s (position k) r p) q)
+
+    module _ {n : ℕ} {c : Cursor} (q : r ≡ Value n c) where
+      pub run-past : left < n → outcome (Refused (at 6 k)) ≡ runNumber left s (position k)
+      unfolding runNumber outcome
+      run-past h = rw (value-is (read-as e s (position k) r p) q, lt-leb _ _ h)
+
+      pub run-whole : n ≤ left → outcome (Value n c) ≡ runNumber left s (position k)
+      unfolding runNumber outcome
+      run-whole h = rw (value-is (read-as e s (position k) r p) q, le-leb _ _ h)
+
+  pub run-within : (s : List ℕ) (k : ℕ) {n j : ℕ} → runNumber left s k ≡ ok (n, j) → n ≤ left
+  unfolding runNumber
+  run-within s k {n} e = leb-true n left (judged-ok (λ n. leb n left) 6 (field (ilog left)) s k e .1)
+
+-- filling a run
+pub get-replicate : (n v i : ℕ) → i < n → getD (replicate n v) i 0 ≡ v
+get-replicate zero v i h = absurd (omega arith)
+get-replicate (suc n) v zero h = refl
+get-replicate (suc n) v (suc i) h = get-replicate n v i (omega arith)
+
+pub length-run : (n v : ℕ) → length (replicate n v) ≡ n
+length-run zero v = refl
+length-run (suc n) v = ap suc (length-run n v)
+
+module _ (entry : List ℕ) (first number value : ℕ) where
+  pub record RunFilling (part : List ℕ) (i : ℕ) : Type 0 where
+    pub within : i ≤ number
+    pub long : length part ≡ length entry
+    pub writing : Writing entry first (replicate number value) part i
+
+  pub run-start : RunFilling entry 0
+  run-start = record { within = omega arith; long = refl; writing = write-start entry first (replicate number value) }
+
+  module _ {part : List ℕ} {i : ℕ} (w : RunFilling part i) where
+    pub run-turn : i < number → RunFilling (set part (first + i) value) (i + 1)
+    run-turn h =
+        let e = length-run number value in
+        let v : value ≡ getD (replicate number value) i 0 = sym (get-replicate number value i h) in
+        record {
+          within = omega arith;
+          long = simp length-set (w .long);
+          writing = write-turn entry first (replicate number value) part i (set part (first + i) value) (omega arith) (w .writing) (ap (set part (first + i)) v);
+        }
+
+    pub run-end : number ≤ i → part ≡ sets entry first (replicate number value)
+    run-end h = let e = length-run number value in write-end entry first (replicate number value) part i (omega arith) (w .writing)
+
+-- the ways out of `runs`
+module _ (place : ℕ) (s : List ℕ) where
+  runs-none : (t : ℕ) {left k : ℕ} → left ≡ 0 → runs place t left s k ≡ ok ([], k)
+  unfolding runs
+  runs-none zero e = rw (eq-eqb _ _ e)
+  runs-none (suc t) e = rw (eq-eqb _ _ e)
+
+  runs-long : (t : ℕ) {left : ℕ} (k : ℕ) → t ≡ 0 → (left ≡ 0 → ⊥) → runs place t left s k ≡ bad (record { number = 6; place = place })
+  unfolding runs
+  runs-long t k h e = rw (h, ne-eqb _ _ e)
+
+  runs-refused : (t u : ℕ) {left : ℕ} (k : ℕ) {z : _} → t ≡ suc u → (left ≡ 0 → ⊥) → runNumber left s k ≡ bad z → runs place t left s k ≡ bad z
+  unfolding runs runNumber
+  runs-refused t u k h e q = rw (h, ne-eqb _ _ e, q)
+
+  runs-more : (t u : ℕ) {left : ℕ} (k : ℕ) {n j : ℕ} → t ≡ suc u → (left ≡ 0 → ⊥) → runNumber left s k ≡ ok (n, j)
+      → runs place t left s k ≡ behind (replicate n (32 - u)) (runs place u (left - n) s j)
+  unfolding runs runNumber behind
+  runs-more t u k h e q = rw (h, ne-eqb _ _ e, q)
+
+-- the loop over runs
+module _ (place : Cursor) (first : ℕ) (s : List ℕ) (k : ℕ) (entry : List ℕ) where
+  abbrev whole : Outcome (List ℕ × ℕ)
+  whole = runs (position place) (32 - first) (length entry) s k
+
+  -- i entries have their lengths; the next run's length is bits
+  pub record Running (c : Cursor) (bits : ℕ) (part : List ℕ) (i : ℕ) : Type 0 where
+    pub within : i ≤ length entry
+    pub long : length part ≡ length entry
+    pub low : 1 ≤ bits
+    pub high : bits ≤ 33
+    pub rest : behind (take i part) (runs (position place) (33 - bits) (length entry - i) s (position c)) ≡ whole
+
+  module _ {c : Cursor} {bits : ℕ} {part : List ℕ} {i : ℕ} (w : Running c bits part i) where
+    here : (r : Field) → outcome r ≡ runNumber (length part - i) s (position c) → outcome r ≡ runNumber (length entry - i) s (position c)
+    here r p = rw (← w .long) p
+
+    pub running-done : length entry ≤ i → Wrote whole (S.Next c) part
+    running-done h =
+        let e = w .long in
+        wrote-next
+        (sym (w .rest)
+        ∙ behind-none (take i part) (runs-none (position place) s (33 - bits) {left = length entry - i} (omega arith))
+        ∙ ap (λ (l : List ℕ). ok (l, position c)) (take-all i part (omega arith)))
+
+    module _ (h : i < length entry) where
+      pub running-long : 32 < bits → (u : List ℕ) → Wrote whole (S.Refused (at 6 place)) u
+      running-long l u =
+          wrote-refused u
+          (sym (w .rest)
+          ∙ behind-bad (take i part) (runs-long (position place) s (33 - bits) {left = length entry - i} (position c) (omega arith) (λ (q : length entry - i ≡ 0). omega arith)))
+
+      module _ (l : bits ≤ 32) {r : Field} (p : outcome r ≡ runNumber (length part - i) s (position c)) where
+        pub running-refused : {z : Refusal} → r ≡ Refused z → (u : List ℕ) → Wrote whole (S.Refused z) u
+        running-refused q u =
+            wrote-refused u
+            (sym (w .rest)
+            ∙ behind-bad (take i part)
+            (runs-refused (position place) s (33 - bits) (32 - bits) {left = length entry - i} (position c) (omega arith) (λ (q : length entry - i ≡ 0). omega arith) (refused-is (here r p) q)))
+
+        module _ {n : ℕ} {c′ : Cursor} (q : r ≡ Value n c′) where
+          pub running-fits : i + n ≤ length part
+          running-fits = let b = run-within (length part - i) s (position c) (value-is p q) in let e = w .long in omega arith
+
+          pub running-next : (part′ : List ℕ) → part′ ≡ sets part i (replicate n bits) → Running c′ (bits + 1) part′ (i + n)
+          running-next part′ e =
+              let b = running-fits in
+              let g = w .long in
+              let m = length-run n bits in
+              let low = w .low in
+              let t : take (i + n) (sets part i (replicate n bits)) ≡ take i part ++ replicate n bits
+              = ap (λ (x : ℕ). take (i + x) (sets part i (replicate n bits))) (sym m) ∙ take-sets part (replicate n bits) i (omega arith) in
+              let f : 33 - (bits + 1) ≡ 32 - bits = omega arith in
+              let d : length entry - (i + n) ≡ length entry - i - n = omega arith in
+              let u : 32 - (32 - bits) ≡ bits = omega arith in
+              record {
+                within = omega arith;
+                long = rw e (length-sets part i (replicate n bits) ∙ w .long);
+                low = omega arith;
+                high = omega arith;
+                rest =
+                    rw (e, t, f, d)
+                    (sym (behind-append (take i part) (replicate n bits) (runs (position place) (32 - bits) (length entry - i - n) s (position c′)))
+                    ∙ ap (behind (take i part))
+                    (ap (λ (x : ℕ). behind (replicate n x) (runs (position place) (32 - bits) (length entry - i - n) s (position c′))) (sym u)
+                    ∙ sym (runs-more (position place) s (33 - bits) (32 - bits) {left = length entry - i} (position c) (omega arith) (λ (q : length entry - i ≡ 0). omega arith) (value-is (here r p) q)))
+                    ∙ w .rest);
+              }
+
+pub running-start : (place : Cursor) (first : ℕ) (s : List ℕ) (c : Cursor) (entry : List ℕ) → first < 32 → Running place first s (position c) entry c (first + 1) entry 0
+running-start place first s c entry h =
+    let e : 33 - (first + 1) ≡ 32 - first = omega arith in
+    let f : length entry - 0 ≡ length entry = omega arith in
+    record { within = omega arith; long = refl; low = omega arith; high = omega arith; rest = rw (e, f) (behind-nil _) }
+
+-- the flags in front
+module _ (n : ℕ) (s : List ℕ) (k : Cursor) {r : Field} (p : outcome r ≡ field 1 s (position k)) where
+  pub unordered-cut : {z : Refusal} → r ≡ Refused z → (u : List ℕ) → Wrote (unordered n s (position k)) (S.Refused z) u
+  unfolding unordered
+  unordered-cut q u = wrote-refused u (rw (refused-is p q))
+
+  pub unordered-rest : {v : ℕ} {c : Cursor} → r ≡ Value v c → {st : Step} {t : List ℕ} → Wrote (many (entryLength v) n s (position c)) st t
+      → Wrote (unordered n s (position k)) st t
+  unfolding unordered
+  unordered-rest q w = rw (value-is p q) w
+
+module _ (place n : ℕ) (s : List ℕ) (k : Cursor) where
+  module _ {r : Field} (p : outcome r ≡ field 5 s (position k)) where
+    pub ordered-cut : {z : Refusal} → r ≡ Refused z → (u : List ℕ) → Wrote (ordered place n s (position k)) (S.Refused z) u
+    unfolding ordered
+    ordered-cut q u = wrote-refused u (rw (refused-is p q))
+
+    module _ {v : ℕ} {c : Cursor} (q : r ≡ Value v c) where
+      pub first-below : v < 32
+      first-below = let b = value-below 5 s (position k) p q in omega arith
+
+      pub ordered-rest : {st : Step} {t : List ℕ} → Wrote (runs place (32 - v) n s (position c)) st t → Wrote (ordered place n s (position k)) st t
+      unfolding ordered
+      ordered-rest w = rw (value-is p q) w
+
+  module _ {r : Field} (p : outcome r ≡ field 1 s (position k)) where
+    pub lengths-cut : {z : Refusal} → r ≡ Refused z → (u : List ℕ) → Wrote (lengths place n s (position k)) (S.Refused z) u
+    unfolding lengths
+    lengths-cut q u = wrote-refused u (rw (refused-is p q))
+
+    module _ {v : ℕ} {c : Cursor} (q : r ≡ Value v c) {st : Step} {t : List ℕ} where
+      pub lengths-unordered : v ≡ 0 → Wrote (unordered n s (position c)) st t → Wrote (lengths place n s (position k)) st t
+      unfolding lengths unordered
+      lengths-unordered e w = rw (value-is p q, eq-eqb _ _ e) w
+
+      pub lengths-ordered : (v ≡ 0 → ⊥) → Wrote (ordered place n s (position c)) st t → Wrote (lengths place n s (position k)) st t
+      unfolding lengths ordered
+      lengths-ordered e w = rw (value-is p q, ne-eqb _ _ e) w
+
+pub ruleset length-laws = (
+  needs,
+  used-cut,
+  used-fits,
+  used-whole,
+  entry-dense,
+  flag-cut,
+  flag-unused,
+  flag-used,
+  entry-fits,
+  run-width,
+  run-cut,
+  run-past,
+  run-whole,
+  run-start,
+  run-turn,
+  run-end,
+  unordered-cut,
+  unordered-rest,
+  ordered-cut,
+  first-below,
+  ordered-rest,
+  lengths-cut,
+  lengths-unordered,
+  lengths-ordered,
+)
