@@ -9,10 +9,10 @@ use mathlib.Core.Path.{_≡_, refl, sym, ap, _∙_}
 use borrow.Author.Tests.{lt-ltb, le-ltb, ltb-true}
 use lib.Dec.{ltb}
 use lib.ListN.{getD}
-use Rattle.floor_points.specs.Search.{searched}
-use Rattle.floor_points.specs.FinalY.{takesLow, takesHigh, lowNeighbour, highNeighbour, IsLow, IsHigh}
-use Rattle.floor_points.proofs.Searching.{search-keeps, search-best}
-use Rattle.floor_points.proofs.Integers.{lt-or-le}
+use Rattle.floor_line.specs.Search.{searched}
+use Rattle.floor_line.specs.Neighbours.{takesLow, takesHigh, lowNeighbour, highNeighbour, IsLow, IsHigh}
+use Rattle.floor_line.proofs.Searching.{search-keeps, search-best}
+use Rattle.floor_line.proofs.Integers.{lt-or-le}
 
 module _ (xs : List ℕ) (x j held : ℕ) where
   pub low-not-below : x ≤ getD xs j 0 → held ≡ cond (takesLow xs x j held) j held

@@ -6,7 +6,7 @@ use native.Mathlib.Omega.{arith}
 use mathlib.Core.Bool.{Bool, true, false, cond}
 use mathlib.Core.Logic.{⊎-elim}
 use mathlib.Core.Path.{_≡_, refl, sym, ap, _∙_}
-use Rattle.floor_points.specs.Search.{searched}
+use Rattle.floor_line.specs.Search.{searched}
 
 module _ (takes : ℕ → ℕ → Bool) where
   pub search-end : (held j n : ℕ) → n ≤ j → searched takes held j (n - j) ≡ held

@@ -1,9 +1,9 @@
--- `floor_points::neighbours::higher` meets its contract. Each return is one way out of `takesLow`. Assumes nothing.
-use Rattle.floor_points.proofs.Choosing.{low-not-below, low-not-greater, low-takes}
+-- `floor_line::neighbours::higher` meets its contract. Each return is one way out of `takesLow`. Assumes nothing.
+use Rattle.floor_line.proofs.Choosing.{low-not-below, low-not-greater, low-takes}
 use native.Mathlib.Omega.{arith}
 use borrow.Author.Needs.{needs}
-use Rattle.floor_points.proofs.neighbours.higher.Statement.{statement}
-use Rattle.floor_points.proofs.neighbours.higher.Tie as tie
+use Rattle.floor_line.proofs.neighbours.higher.Statement.{statement}
+use Rattle.floor_line.proofs.neighbours.higher.Tie as tie
 
 mul-if1 : tie.Need-mul-if1
 mul-if1 c = search needs

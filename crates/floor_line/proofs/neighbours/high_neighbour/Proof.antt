@@ -1,15 +1,15 @@
--- `floor_points::neighbours::high_neighbour` meets its contract. The loop keeps what the rest of the search gives; the search then holds the least X above. Assumes nothing.
-use Rattle.floor_points.proofs.Searching.{turned, turned-below, ended}
-use Rattle.floor_points.specs.FinalY.{takesHigh, highNeighbour}
-use Rattle.floor_points.specs.Search.{searched}
+-- `floor_line::neighbours::high_neighbour` meets its contract. The loop keeps what the rest of the search gives; the search then holds the least X above. Assumes nothing.
+use Rattle.floor_line.proofs.Searching.{turned, turned-below, ended}
+use Rattle.floor_line.specs.Neighbours.{takesHigh, highNeighbour}
+use Rattle.floor_line.specs.Search.{searched}
 use lib.ListN.{getD}
 use Prim.Native.Nat.{_≤_, _<_, _-_}
-use Rattle.floor_points.proofs.Choosing.{high-begun, is-high}
+use Rattle.floor_line.proofs.Choosing.{high-begun, is-high}
 use mathlib.Core.Path.{_≡_, _∙_}
 use native.Mathlib.Omega.{arith}
 use borrow.Author.Needs.{needs}
-use Rattle.floor_points.proofs.neighbours.high_neighbour.Statement.{statement}
-use Rattle.floor_points.proofs.neighbours.high_neighbour.Tie as tie
+use Rattle.floor_line.proofs.neighbours.high_neighbour.Statement.{statement}
+use Rattle.floor_line.proofs.neighbours.high_neighbour.Tie as tie
 
 abbrev Inv-loop : tie.InvT-loop
 Inv-loop x i bottom held₀ k₀ held k = (k ≤ i) × (held < i) × (searched (takesHigh x (getD x i 0)) held k (i - k) ≡ highNeighbour x i)

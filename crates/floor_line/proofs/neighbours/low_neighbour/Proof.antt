@@ -1,15 +1,15 @@
--- `floor_points::neighbours::low_neighbour` meets its contract. The loop keeps what the rest of the search gives; the search then holds the greatest X below. Assumes nothing.
-use Rattle.floor_points.proofs.Searching.{turned, turned-below, ended}
-use Rattle.floor_points.specs.FinalY.{takesLow, lowNeighbour}
-use Rattle.floor_points.specs.Search.{searched}
+-- `floor_line::neighbours::low_neighbour` meets its contract. The loop keeps what the rest of the search gives; the search then holds the greatest X below. Assumes nothing.
+use Rattle.floor_line.proofs.Searching.{turned, turned-below, ended}
+use Rattle.floor_line.specs.Neighbours.{takesLow, lowNeighbour}
+use Rattle.floor_line.specs.Search.{searched}
 use lib.ListN.{getD}
 use Prim.Native.Nat.{_≤_, _<_, _-_}
-use Rattle.floor_points.proofs.Choosing.{low-begun, is-low}
+use Rattle.floor_line.proofs.Choosing.{low-begun, is-low}
 use mathlib.Core.Path.{_≡_, _∙_}
 use native.Mathlib.Omega.{arith}
 use borrow.Author.Needs.{needs}
-use Rattle.floor_points.proofs.neighbours.low_neighbour.Statement.{statement}
-use Rattle.floor_points.proofs.neighbours.low_neighbour.Tie as tie
+use Rattle.floor_line.proofs.neighbours.low_neighbour.Statement.{statement}
+use Rattle.floor_line.proofs.neighbours.low_neighbour.Tie as tie
 
 abbrev Inv-loop : tie.InvT-loop
 Inv-loop x i top held₀ j₀ held j = (j ≤ i) × (held < i) × (searched (takesLow x (getD x i 0)) held j (i - j) ≡ lowNeighbour x i)

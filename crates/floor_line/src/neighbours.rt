@@ -4,7 +4,7 @@ ghost use mathlib.Core.Path.{_≡_};
 ghost use mathlib.Core.Bool.{cond};
 ghost use Prim.Native.Nat.{_+_, _≤_, _<_};
 ghost use lib.ListN.{length};
-ghost use Rattle.floor_points.specs.FinalY.{xAt, takesLow, takesHigh, lowNeighbour, highNeighbour, IsLow, IsHigh};
+ghost use Rattle.floor_line.specs.Neighbours.{xAt, takesLow, takesHigh, lowNeighbour, highNeighbour, IsLow, IsHigh};
 
 // Place j, where its X is below `top` and greater than that of the place held; else the place held.
 fn higher(x: &[u16], top: u16, j: usize, held: usize) -> usize

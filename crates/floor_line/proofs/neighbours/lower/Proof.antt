@@ -1,9 +1,9 @@
--- `floor_points::neighbours::lower` meets its contract. Each return is one way out of `takesHigh`. Assumes nothing.
-use Rattle.floor_points.proofs.Choosing.{high-not-above, high-not-less, high-takes}
+-- `floor_line::neighbours::lower` meets its contract. Each return is one way out of `takesHigh`. Assumes nothing.
+use Rattle.floor_line.proofs.Choosing.{high-not-above, high-not-less, high-takes}
 use native.Mathlib.Omega.{arith}
 use borrow.Author.Needs.{needs}
-use Rattle.floor_points.proofs.neighbours.lower.Statement.{statement}
-use Rattle.floor_points.proofs.neighbours.lower.Tie as tie
+use Rattle.floor_line.proofs.neighbours.lower.Statement.{statement}
+use Rattle.floor_line.proofs.neighbours.lower.Tie as tie
 
 mul-if1 : tie.Need-mul-if1
 mul-if1 c = search needs

@@ -1,9 +1,9 @@
--- `floor_points::lines::offset` meets its contract. The product of two 32-bit numbers fits 64 bits, and a part of a number fits where the number does; each return is one law of the offset. Assumes nothing.
-use Rattle.floor_points.proofs.LineLaws.{offset-none, offset-left, offset-whole, offset-part, product-fits, small-part}
+-- `floor_line::lines::offset` meets its contract. The product of two 32-bit numbers fits 64 bits, and a part of a number fits where the number does; each return is one law of the offset. Assumes nothing.
+use Rattle.floor_line.proofs.LineLaws.{offset-none, offset-left, offset-whole, offset-part, product-fits, small-part}
 use native.Mathlib.Omega.{arith}
 use borrow.Author.Needs.{needs}
-use Rattle.floor_points.proofs.lines.offset.Statement.{statement}
-use Rattle.floor_points.proofs.lines.offset.Tie as tie
+use Rattle.floor_line.proofs.lines.offset.Statement.{statement}
+use Rattle.floor_line.proofs.lines.offset.Tie as tie
 
 returns : tie.Need-returns
 returns c = offset-none _ _ _ _ (omega arith)
