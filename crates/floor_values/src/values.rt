@@ -1,8 +1,8 @@
 // The values of a floor (004, "packet decode").
-use super::partition;
 use bits::Cursor;
 use bits::Field;
 use bits::Step;
+use floor_partition::partition;
 use floor_tables::table;
 use floors::numbers;
 ghost use mathlib.Core.Path.{_≡_};
@@ -14,8 +14,10 @@ ghost use Rattle.reading.specs.Table.{table, putRow};
 ghost use Rattle.bits.specs.Field.{field};
 ghost use Rattle.bits.specs.Cursors.{position, Wrote};
 ghost use Rattle.floors.specs.Cell.{cell};
-ghost use Rattle.floor_values.specs.Values.{firstBits, partitionOf, whole, usedValues, floorValues, held};
-ghost use Rattle.floor_values.specs.Lying.{lengthsIn, floorIn, FloorLies};
+ghost use Rattle.floor_partition.specs.Partition.{whole};
+ghost use Rattle.floor_partition.specs.Lying.{lengthsIn};
+ghost use Rattle.floor_values.specs.Values.{firstBits, partitionOf, usedValues, floorValues, held};
+ghost use Rattle.floor_values.specs.Lying.{floorIn, FloorLies};
 ghost use Rattle.floor_values.specs.Claims.{FloorValues};
 
 fn byte(x: u16) -> u8

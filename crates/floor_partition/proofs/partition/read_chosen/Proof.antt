@@ -1,10 +1,10 @@
--- `floor_values::partition::read_chosen` meets its contract: what is left to read, written into the list as it is, is the whole (proofs/ChosenLaws). Assumes nothing.
+-- `floor_partition::partition::read_chosen` meets its contract: what is left to read, written into the list as it is, is the whole (proofs/ChosenLaws). Assumes nothing.
 use Prim.Native.Nat.{_-_}
 use native.Mathlib.Omega.{arith}
-use Rattle.floor_values.proofs.ChosenLaws.{subclasses-few, Choosing, choose-start, base-low, digit-few, place-lies, choose-refused, choose-next, choose-done}
+use Rattle.floor_partition.proofs.ChosenLaws.{subclasses-few, Choosing, choose-start, base-low, digit-few, place-lies, choose-refused, choose-next, choose-done}
 use borrow.Author.Needs.{needs}
-use Rattle.floor_values.proofs.partition.read_chosen.Statement.{statement}
-use Rattle.floor_values.proofs.partition.read_chosen.Tie as tie
+use Rattle.floor_partition.proofs.partition.read_chosen.Statement.{statement}
+use Rattle.floor_partition.proofs.partition.read_chosen.Tie as tie
 
 abbrev Inv-loop : tie.InvT-loop
 Inv-loop packet floors floor class class-value books lengths words values₀ at count base next₀ left₀ i₀ values next left i = Choosing packet floors books lengths words floor class class-value values₀ at next₀ count base values next left i

@@ -1,8 +1,8 @@
--- `floor_values::partition::read_partition` meets its contract (proofs/PartitionLaws). Assumes nothing.
-use Rattle.floor_values.proofs.PartitionLaws.{partition-cut, partition-read}
+-- `floor_partition::partition::read_partition` meets its contract (proofs/PartitionLaws). Assumes nothing.
+use Rattle.floor_partition.proofs.PartitionLaws.{partition-cut, partition-read}
 use borrow.Author.Needs.{needs}
-use Rattle.floor_values.proofs.partition.read_partition.Statement.{statement}
-use Rattle.floor_values.proofs.partition.read_partition.Tie as tie
+use Rattle.floor_partition.proofs.partition.read_partition.Statement.{statement}
+use Rattle.floor_partition.proofs.partition.read_partition.Tie as tie
 
 read-class-value-requires : tie.Need-read-class-value-requires
 read-class-value-requires c κs = c .before .before .before .before .before .before .pre .1

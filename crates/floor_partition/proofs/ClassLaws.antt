@@ -24,8 +24,8 @@ use Rattle.book.specs.Layout.{entriesAt, firstEntryAt}
 use Rattle.book_codeword.specs.Lying.{entriesOf, BookLies}
 use Rattle.floors.specs.Cell.{cell}
 use Rattle.floors.specs.Decode.{classAt}
-use Rattle.floor_values.specs.Values.{classValue, value}
-use Rattle.floor_values.specs.Lying.{lengthsIn, classIn, Readable, PlaceLies, ClassLies}
+use Rattle.floor_partition.specs.Partition.{classValue, value}
+use Rattle.floor_partition.specs.Lying.{lengthsIn, classIn, Readable, PlaceLies, ClassLies}
 
 -- 1 << e, as the machine computes it
 pub one-shifted : (e : ℕ) → e ≤ 3 → (1 * 2 ^ e) % 2 ^ 32 ≡ 2 ^ e

@@ -1,8 +1,8 @@
--- `floor_values::partition::read_class_value` meets its contract: a law for each way out (proofs/ClassLaws). Assumes nothing.
-use Rattle.floor_values.proofs.ClassLaws.{class-none, master-low, master-lies, class-read}
+-- `floor_partition::partition::read_class_value` meets its contract: a law for each way out (proofs/ClassLaws). Assumes nothing.
+use Rattle.floor_partition.proofs.ClassLaws.{class-none, master-low, master-lies, class-read}
 use borrow.Author.Needs.{needs}
-use Rattle.floor_values.proofs.partition.read_class_value.Statement.{statement}
-use Rattle.floor_values.proofs.partition.read_class_value.Tie as tie
+use Rattle.floor_partition.proofs.partition.read_class_value.Statement.{statement}
+use Rattle.floor_partition.proofs.partition.read_class_value.Tie as tie
 
 class-subclasses-requires : tie.Need-class-subclasses-requires
 class-subclasses-requires c κs = (c .before .before .before .before .before .pre .floor-few, c .before .before .before .before .before .pre .class-few)

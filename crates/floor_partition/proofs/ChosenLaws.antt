@@ -27,8 +27,8 @@ use Rattle.bits.proofs.Steps.{wrote-refused, wrote-next, wrote-bad, wrote-ok}
 use Rattle.floors.specs.Cell.{cell}
 use Rattle.floors.specs.Content.{Class}
 use Rattle.floors.specs.Decode.{classAt}
-use Rattle.floor_values.specs.Values.{chosen, value}
-use Rattle.floor_values.specs.Lying.{lengthsIn, classIn, PlaceLies, ClassLies}
+use Rattle.floor_partition.specs.Partition.{chosen, value}
+use Rattle.floor_partition.specs.Lying.{lengthsIn, classIn, PlaceLies, ClassLies}
 
 pub all-get : (f : ℕ → Bool) (l : List ℕ) (i : ℕ) → all f l ≡ true → i < length l → f (getD l i 0) ≡ true
 unfolding all

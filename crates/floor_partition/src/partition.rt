@@ -10,8 +10,8 @@ ghost use Rattle.reading.specs.Reader.{each, into, into1};
 ghost use Rattle.reading.specs.Table.{table, putRow};
 ghost use Rattle.bits.specs.Cursors.{position, outcome, Wrote};
 ghost use Rattle.floors.specs.Cell.{cell};
-ghost use Rattle.floor_values.specs.Values.{classValue, chosen, value, partition, whole};
-ghost use Rattle.floor_values.specs.Lying.{lengthsIn, classIn, PlaceLies, ClassLies};
+ghost use Rattle.floor_partition.specs.Partition.{classValue, chosen, value, partition, whole};
+ghost use Rattle.floor_partition.specs.Lying.{lengthsIn, classIn, PlaceLies, ClassLies};
 
 pub fn wide(x: u16) -> usize
     ensures { λ r. ⌜ r ≡ x ⌝ }

@@ -1,8 +1,8 @@
--- `floor_values::partition::read_value` meets its contract: a law for each way out (proofs/ClassLaws). Assumes nothing.
-use Rattle.floor_values.proofs.ClassLaws.{value-none, value-low, value-lies, value-cut, value-fits, value-read}
+-- `floor_partition::partition::read_value` meets its contract: a law for each way out (proofs/ClassLaws). Assumes nothing.
+use Rattle.floor_partition.proofs.ClassLaws.{value-none, value-low, value-lies, value-cut, value-fits, value-read}
 use borrow.Author.Needs.{needs}
-use Rattle.floor_values.proofs.partition.read_value.Statement.{statement}
-use Rattle.floor_values.proofs.partition.read_value.Tie as tie
+use Rattle.floor_partition.proofs.partition.read_value.Statement.{statement}
+use Rattle.floor_partition.proofs.partition.read_value.Tie as tie
 
 put-u16-requires : tie.Need-put-u16-requires
 put-u16-requires c κs = search needs
