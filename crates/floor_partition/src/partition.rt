@@ -2,7 +2,6 @@
 use bits::Cursor;
 use bits::Field;
 use bits::Step;
-use floor_tables::table;
 use reading::buffers;
 ghost use mathlib.Core.Path.{_≡_};
 ghost use Prim.Native.Nat.{_+_, _^_, _<_, _≤_};
@@ -87,10 +86,10 @@ fn read_class_value(
     requires { ⌜ ClassLies (now floors) (now books) (now lengths) (now words) floor class ⌝ }
     ensures { λ r. ⌜ outcome r ≡ classValue (lengthsIn (now (books .entry)) (now (lengths .entry))) (classIn (now (floors .entry)) floor class) (now (packet .entry)) (position from) ⌝ }
 {
-    if table::class_subclasses(floors, floor, class) == 0 {
+    if floor_row::class_subclasses(floors, floor, class) == 0 {
         return Field::Value(0, from);
     }
-    let master = long(table::class_master(floors, floor, class));
+    let master = long(floor_row::class_master(floors, floor, class));
     book_codeword::read_entry(packet, from, master - 1, books, lengths, words)
 }
 
@@ -111,13 +110,13 @@ fn read_chosen(
     requires { ⌜ (at ≤ 65535) × ClassLies (now floors) (now books) (now lengths) (now words) floor class ⌝ }
     ensures { λ r. ⌜ Wrote (into (putRow cell) (each (value (lengthsIn (now (books .entry)) (now (lengths .entry)))) (chosen (classIn (now (floors .entry)) floor class) «class_value» (classIn (now (floors .entry)) floor class .dimensions)) (now (packet .entry)) (position from)) (table (now (values .entry)) at)) r (table (now (values .exit)) (at + classIn (now (floors .entry)) floor class .dimensions)) ⌝ }
 {
-    let count = wide(table::class_dimensions(floors, floor, class));
-    let base = choices(table::class_subclasses(floors, floor, class));
+    let count = wide(floor_row::class_dimensions(floors, floor, class));
+    let base = choices(floor_row::class_subclasses(floors, floor, class));
     let mut next = from;
     let mut left = class_value;
     let mut i: usize = 0;
     while i < count {
-        let place = table::subclass_book(floors, floor, class, index(left % base));
+        let place = floor_row::subclass_book(floors, floor, class, index(left % base));
         match read_value(packet, next, place, books, lengths, words, values, at + i) {
             Step::Refused(z) => {
                 return Step::Refused(z);

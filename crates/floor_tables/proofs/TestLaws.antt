@@ -4,7 +4,8 @@ use native.Mathlib.Nat.{sub-zero}
 use native.Mathlib.Omega.{arith}
 use native.Mathlib.Numerals.{add-one}
 use borrow.Author.Needs.{needs}
-use borrow.Author.Tests.{not-true, not-false}
+use borrow.Author.Tests.{not-true, not-false, eq-eqb, eqb-true}
+use lib.Dec.{eqb}
 use mathlib.Core.Bool.{Bool, true, false, not}
 use mathlib.Core.List.{List, [], _∷_}
 use mathlib.Core.Logic.{_↔_, _⊎_, ⊎-elim}
@@ -16,7 +17,7 @@ use Rattle.reading.specs.Lists.{distinct}
 use Rattle.reading.proofs.Least.{below-suc}
 use Rattle.floors.specs.Pieces.{classesTo, valuesTo}
 use Rattle.floors.specs.Valid.{MasterFits}
-use Rattle.floor_tables.specs.Rules.{Below, BookRules, ClassRules, ClassesRules, PartitionRules, NamedRules, HeadRules, ListRules, FloorRules, FloorsRules}
+use Rattle.floor_tables.specs.Rules.{Below, BookRules, ClassRules, ClassesRules, PartitionRules, NamedRules, CountRules, HeadRules, ListRules, FloorRules, FloorsRules}
 
 -- a test that failed, and one that passed
 pub fails : {P : Type 0} → (P → ⊥) → (false ≡ true) ↔ P
@@ -190,7 +191,25 @@ module _ (books : ℕ) (t : List ℕ) (at : ℕ) {n : ℕ} (q : n ≡ getD t (at
 
 pub ruleset named-laws = (needs, named-many, named-other, named-not, named-end)
 
--- multiplier, range bits, count of X values
+-- count of X values
+module _ (t : List ℕ) (at : ℕ) {v : ℕ} (q₄ : v ≡ getD t (at + 4) 0) where
+  pub count-many : 65 < v → (false ≡ true) ↔ CountRules t at
+  count-many h = fails (λ r. let k = r .few in omega arith)
+
+  pub count-few : v < 2 → (false ≡ true) ↔ CountRules t at
+  count-few h = fails (λ r. let k = r .values in omega arith)
+
+  module _ (y₃ : v ≤ 65) (y₄ : 2 ≤ v) {n : ℕ} (q₀ : n ≡ getD t at 0) {k : ℕ} (q : k ≡ valuesTo (take (at + 212 - (at + 36)) (drop (at + 36) t)) (take (at + 36 - (at + 5)) (drop (at + 5) t)) n) where
+    count : k ≡ valuesTo (slice (at + 36) (at + 212) t) (slice (at + 5) (at + 36) t) (getD t at 0)
+    count = q ∙ (λ j. valuesTo (part-slice (at + 36) (at + 212) t j) (part-slice (at + 5) (at + 36) t j) (q₀ j))
+
+    pub count-end : (eqb (v - 2) k ≡ true) ↔ CountRules t at
+    count-end = let w = count in (
+      λ e. let d = eqb-true (v - 2) k e in record { values = omega arith; few = rw q₄ at y₃ },
+      λ r. let s = r .values in eq-eqb (v - 2) k (omega arith),
+    )
+
+-- multiplier, range bits
 module _ (t : List ℕ) (at : ℕ) {m : ℕ} (q₂ : m ≡ getD t (at + 2) 0) where
   pub head-low : m < 1 → (false ≡ true) ↔ HeadRules t at
   head-low h = fails (λ r. let k = r .low in omega arith)
@@ -202,24 +221,8 @@ module _ (t : List ℕ) (at : ℕ) {m : ℕ} (q₂ : m ≡ getD t (at + 2) 0) wh
     pub head-range : 15 < b → (false ≡ true) ↔ HeadRules t at
     head-range h = fails (λ r. let k = r .rangebits in omega arith)
 
-    module _ (y₂ : b ≤ 15) {v : ℕ} (q₄ : v ≡ getD t (at + 4) 0) where
-      pub head-many : 65 < v → (false ≡ true) ↔ HeadRules t at
-      head-many h = fails (λ r. let k = r .few in omega arith)
-
-      pub head-few : v < 2 → (false ≡ true) ↔ HeadRules t at
-      head-few h = fails (λ r. let k = r .values in omega arith)
-
-      module _ (y₃ : v ≤ 65) (y₄ : 2 ≤ v) {n : ℕ} (q₀ : n ≡ getD t at 0) {k : ℕ} (q : k ≡ valuesTo (take (at + 212 - (at + 36)) (drop (at + 36) t)) (take (at + 36 - (at + 5)) (drop (at + 5) t)) n) where
-        count : k ≡ valuesTo (slice (at + 36) (at + 212) t) (slice (at + 5) (at + 36) t) (getD t at 0)
-        count = q ∙ (λ j. valuesTo (part-slice (at + 36) (at + 212) t j) (part-slice (at + 5) (at + 36) t j) (q₀ j))
-
-        pub head-other : (v - 2 ≡ k → ⊥) → (false ≡ true) ↔ HeadRules t at
-        head-other h = fails (λ r. let s = r .values in let w = count in h (omega arith))
-
-        pub head-end : v - 2 ≡ k → (true ≡ true) ↔ HeadRules t at
-        head-end e =
-            let w = count in
-            passes (record { low = rw q₂ at y₀; high = rw q₂ at y₁; rangebits = rw q₃ at y₂; values = omega arith; few = rw q₄ at y₃ })
+    pub head-end : b ≤ 15 → {c : Bool} → (c ≡ true) ↔ CountRules t at → (c ≡ true) ↔ HeadRules t at
+    head-end y₂ p = (λ e. record { low = rw q₂ at y₀; high = rw q₂ at y₁; rangebits = rw q₃ at y₂; count = p .0 e }, λ r. p .1 (r .count))
 
 -- the X list
 module _ (t : List ℕ) (at : ℕ) {b : ℕ} (q₃ : b ≡ getD t (at + 3) 0) {x n : ℕ} (power : x ≡ 2 ^ b) (wide : n ≡ x) {v : ℕ} (q₄ : v ≡ getD t (at + 4) 0) {f : ℕ} (q₅ : f ≡ getD t (at + 212) 0) where
@@ -283,6 +286,6 @@ pub head-range-known : {t : List ℕ} {at : ℕ} {b : Bool} → (b ≡ true) ↔
 head-range-known p y = shown p y .rangebits
 
 pub head-values-known : {t : List ℕ} {at : ℕ} {b : Bool} → (b ≡ true) ↔ HeadRules t at → not b ≡ false → getD t (at + 4) 0 ≤ 65
-head-values-known p y = shown p y .few
+head-values-known p y = shown p y .count .few
 
 pub ruleset floor-test-laws = (needs, floor-partitions, floor-few, floor-classes, floor-head, floor-end, head-range-known, head-values-known)

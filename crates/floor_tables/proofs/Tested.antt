@@ -29,7 +29,7 @@ use Rattle.floors.proofs.ListLaws.{rows-length}
 use Rattle.floors.proofs.RowLaws.{class-long, class-count-most, classes-counted, values-counted}
 use Rattle.floors.proofs.Decoded.{floor-long, ClassLies, class-lies, FloorLies, floor-lies, xs-lie}
 use Rattle.floors.proofs.Laws.{floors-row}
-use Rattle.floor_tables.proofs.Laws.{class-row}
+use Rattle.floor_row.proofs.Laws.{class-row}
 use Rattle.floor_tables.proofs.TestLaws.{fails, refuted, shown}
 
 -- ---- tests of every number, place by place
@@ -252,8 +252,8 @@ module _ (books : ℕ) (t : List ℕ) where
       let v = getD t (at + 4) 0 in
       let n≤ : n ≤ 31 = r .partitions .few in
       let m≤ : m ≤ 16 = r .classes .few in
-      let v≤ : v ≤ 65 = r .head .few in
-      let ve = r .head .values in
+      let v≤ : v ≤ 65 = r .head .count .few in
+      let ve = r .head .count .values in
       let ps = slice (at + 5) (at + 5 + n) t in
       let pl : length ps ≡ n = slice-long t (at + 5) n (omega arith) in
       let named : all (λ c. ltb c 16) ps ≡ true = slice-below (at + 5) n 16 (omega arith) (r .partitions .named) in
@@ -350,8 +350,7 @@ module _ (books : ℕ) (t : List ℕ) where
           low = rw (k .multiplier) (v .multiplier-low);
           high = rw (k .multiplier) (v .multiplier-high);
           rangebits = rw (k .rangebits) (v .rangebits);
-          values = omega arith;
-          few = omega arith;
+          count = record { values = omega arith; few = omega arith };
         };
         list = list-tested at f v k;
       }

@@ -44,13 +44,17 @@ pub record NamedRules (books : ℕ) (t : List ℕ) (at : ℕ) : Type 0 where
   pub classes : ClassesRules books t (at + 36) (getD t (at + 1) 0)
   pub zeros : Below t (at + 36 + 11 * getD t (at + 1) 0) (at + 212) 1
 
+-- its count of X values, the two implied ones included
+pub record CountRules (t : List ℕ) (at : ℕ) : Type 0 where
+  pub values : getD t (at + 4) 0 ≡ 2 + valuesTo (slice (at + 36) (at + 212) t) (slice (at + 5) (at + 36) t) (getD t at 0)
+  pub few : getD t (at + 4) 0 ≤ 65
+
 -- its multiplier, range bits, count of X values
 pub record HeadRules (t : List ℕ) (at : ℕ) : Type 0 where
   pub low : 1 ≤ getD t (at + 2) 0
   pub high : getD t (at + 2) 0 ≤ 4
   pub rangebits : getD t (at + 3) 0 ≤ 15
-  pub values : getD t (at + 4) 0 ≡ 2 + valuesTo (slice (at + 36) (at + 212) t) (slice (at + 5) (at + 36) t) (getD t at 0)
-  pub few : getD t (at + 4) 0 ≤ 65
+  pub count : CountRules t at
 
 -- its X list
 pub record ListRules (t : List ℕ) (at : ℕ) : Type 0 where

@@ -8,7 +8,7 @@ ghost use mathlib.Core.Logic.{_↔_};
 ghost use Prim.Native.Nat.{_+_, _^_, _<_, _≤_};
 ghost use lib.ListN.{length, getD};
 ghost use Rattle.floors.specs.Valid.{MasterFits};
-ghost use Rattle.floor_tables.specs.Rules.{Below, BookRules, ClassRules, ClassesRules, PartitionRules, NamedRules, HeadRules, ListRules, FloorRules, FloorsRules};
+ghost use Rattle.floor_tables.specs.Rules.{Below, BookRules, ClassRules, ClassesRules, PartitionRules, NamedRules, CountRules, HeadRules, ListRules, FloorRules, FloorsRules};
 ghost use Rattle.floor_tables.specs.Stand.{FloorsStand};
 
 // A place of the table.
@@ -140,6 +140,26 @@ fn are_named(floors: &[u16], at: usize, books: usize) -> bool
     are_below(floors, at + 36 + 11 * count, at + 212, 1)
 }
 
+// Whether its count of X values stands.
+fn is_counted(floors: &[u16], at: usize) -> bool
+    requires { ⌜ (at ≤ 17451) × (at + 277 ≤ length (now floors)) × (getD (now floors) at 0 ≤ 31) ⌝ }
+    ensures { λ r. ⌜ (r ≡ true) ↔ CountRules (now (floors .entry)) at ⌝ }
+{
+    let values = number(floors, at + 4);
+    if 65 < values {
+        return false;
+    }
+    if values < 2 {
+        return false;
+    }
+    let read = floor::value_count(
+        &floors[at + 5..at + 36],
+        number(floors, at),
+        &floors[at + 36..at + 212],
+    );
+    values - 2 == read
+}
+
 // Whether its multiplier, range bits and count of X values stand.
 fn is_head(floors: &[u16], at: usize) -> bool
     requires { ⌜ (at ≤ 17451) × (at + 277 ≤ length (now floors)) × (getD (now floors) at 0 ≤ 31) ⌝ }
@@ -155,22 +175,7 @@ fn is_head(floors: &[u16], at: usize) -> bool
     if 15 < number(floors, at + 3) {
         return false;
     }
-    let values = number(floors, at + 4);
-    if 65 < values {
-        return false;
-    }
-    let read = floor::value_count(
-        &floors[at + 5..at + 36],
-        number(floors, at),
-        &floors[at + 36..at + 212],
-    );
-    if values < 2 {
-        return false;
-    }
-    if values - 2 != read {
-        return false;
-    }
-    true
+    is_counted(floors, at)
 }
 
 // Whether its X list stands.

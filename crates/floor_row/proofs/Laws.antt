@@ -1,4 +1,4 @@
--- Which number of a floor each place of its row holds: with `floors-lie` of the crate floors, what the functions of table.rt give.
+-- Which number of a floor each place of its row holds: with `floors-lie` of the crate floors, what the functions of src/lib.rt give.
 -- Assumes nothing.
 use Prim.Native.Nat.{ℕ, zero, suc, _+_, _*_, _≤_, _<_}
 use native.Mathlib.Omega.{arith}
