@@ -1,10 +1,10 @@
--- `book_tables::clear::zeros_u32` meets its contract. Assumes nothing.
+-- `reading::zeros::zeros_u16` meets its contract, by Stands. Assumes nothing.
 use Prim.Native.Nat.{_-_}
 use lib.ListN.{length}
 use Rattle.reading.proofs.Stands.{Zeroing, zeroing}
 use borrow.Author.Needs.{needs}
-use Rattle.book_tables.proofs.clear.zeros_u32.Statement.{statement}
-use Rattle.book_tables.proofs.clear.zeros_u32.Tie as tie
+use Rattle.reading.proofs.zeros.zeros_u16.Statement.{statement}
+use Rattle.reading.proofs.zeros.zeros_u16.Tie as tie
 
 abbrev Inv-loop : tie.InvT-loop
 Inv-loop buffer from i₀ i = Zeroing buffer from i
@@ -36,8 +36,8 @@ loop-again c = search zeroing
 returns-2 : tie.Need-returns-2 Inv-loop μ-loop
 returns-2 c = search zeroing
 
-pub zeros-u32-spec : {M : Type 1} → statement M
-zeros-u32-spec =
+pub zeros-u16-spec : {M : Type 1} → statement M
+zeros-u16-spec =
     tie.close
     (tie.spec
     Inv-loop
