@@ -1,21 +1,17 @@
 -- Laws of the steps of final Y, for heights. Assumes nothing.
 use Prim.Native.Nat.{ℕ, zero, suc, _+_, _-_, _≤_, _<_}
-use native.Mathlib.Nat.{eq-or-lt-of-le}
 use native.Mathlib.Numerals.{add-one}
-use native.Mathlib.Decide.{ℕ-discrete}
 use native.Mathlib.Omega.{arith}
 use mathlib.Core.List.{List, [], _∷_, map}
-use mathlib.Core.Logic.{_⊎_, ⊎-elim}
 use mathlib.Core.Path.{_≡_, refl, sym, ap, _∙_}
 use lib.IntN.{ℤ, pos}
-use lib.ListN.{length, getD, set, length-set, length-map, replicate}
-use lib.Seq.{getD-set-same, getD-set-other}
+use lib.ListN.{length, getD, set, replicate}
 use Rattle.floor_line.specs.Line.{line}
 use Rattle.floor_points.specs.FinalY.{Points, predicted, unwrapped, flagged, step, steps, begun, points, clamped}
-use Rattle.floor_line.specs.LineHeight.{difference, lineHeight}
+use Rattle.floor_line.specs.LineHeight.{lineHeight}
 use Rattle.floor_line.specs.Neighbours.{lowNeighbour, highNeighbour}
 use Rattle.floor_points.specs.Heights.{yOf, heightOf, clampedHeight, pointsOf, Bounded, Ready}
-use Rattle.floor_line.proofs.Integers.{same-difference, pos-difference, lt-or-le}
+use Rattle.floor_line.proofs.Integers.{same-difference, pos-difference}
 use Rattle.floor_line.proofs.LineLaws.{line-height, height-le}
 use Rattle.floor_points.proofs.Filling.{Filling, fill-end, getD-map, map-set}
 

@@ -1,7 +1,6 @@
 -- `floor_points::heights::step` meets its contract. The parts make one step of the definition, and the height stored stays below 131,072. Assumes nothing.
-use Prim.Native.Nat.{ℕ, _+_, _≤_, _<_, _-_}
+use Prim.Native.Nat.{_-_}
 use native.Mathlib.Omega.{arith}
-use mathlib.Core.Path.{_≡_, _∙_}
 use Rattle.floor_points.proofs.Stepping.{step-made, set-bounded}
 use borrow.Author.Needs.{needs}
 use Rattle.floor_points.proofs.heights.step.Statement.{statement}
