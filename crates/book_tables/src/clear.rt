@@ -3,34 +3,7 @@ ghost use mathlib.Core.Bool.{true};
 ghost use mathlib.Core.Logic.{_↔_};
 ghost use mathlib.Core.Path.{_≡_};
 ghost use lib.ListN.{drop};
-ghost use Rattle.reading.specs.Stand.{Zeros};
 ghost use Rattle.book_tables.specs.Stand.{Clear};
-
-fn zeros_u16(buffer: &[u16], from: usize) -> bool
-    ensures { λ r. ⌜ (r ≡ true) ↔ Zeros (drop from (now (buffer .entry))) ⌝ }
-{
-    let mut i = from;
-    while i < buffer.len() {
-        if buffer[i] != 0 {
-            return false;
-        }
-        i = i + 1;
-    }
-    true
-}
-
-pub fn zeros_u32(buffer: &[u32], from: usize) -> bool
-    ensures { λ r. ⌜ (r ≡ true) ↔ Zeros (drop from (now (buffer .entry))) ⌝ }
-{
-    let mut i = from;
-    while i < buffer.len() {
-        if buffer[i] != 0 {
-            return false;
-        }
-        i = i + 1;
-    }
-    true
-}
 
 // `rows` numbers of rows, and so many entries and multiplicands, are written.
 pub fn are_clear(
@@ -44,14 +17,14 @@ pub fn are_clear(
 ) -> bool
     ensures { λ r. ⌜ (r ≡ true) ↔ Clear (drop rows (now (books .entry))) (drop entries (now (lengths .entry))) (drop entries (now (words .entry))) (drop values (now (multiplicands .entry))) ⌝ }
 {
-    if !zeros_u32(books, rows) {
+    if !reading::zeros::zeros_u32(books, rows) {
         return false;
     }
     if !reading::zeros::zeros_u8(lengths, entries) {
         return false;
     }
-    if !zeros_u32(words, entries) {
+    if !reading::zeros::zeros_u32(words, entries) {
         return false;
     }
-    zeros_u16(multiplicands, values)
+    reading::zeros::zeros_u16(multiplicands, values)
 }

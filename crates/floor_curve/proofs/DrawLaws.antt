@@ -8,11 +8,11 @@ use mathlib.Core.Path.{_≡_, refl, sym, ap, _∙_}
 use lib.IntN.{pos}
 use lib.ListN.{length, getD, set, length-set}
 use lib.Seq.{getD-set-same, getD-set-other, ext-getD}
-use Rattle.floor_points.specs.Heights.{lineHeight}
-use Rattle.floor_points.proofs.Integers.{lt-or-le}
-use Rattle.floor_points.proofs.LineLaws.{line-pos, height-le}
-use Rattle.floor_points.specs.RenderLine.{renderLine}
-use Rattle.floor_points.proofs.RenderLaws.{render-is-line}
+use Rattle.floor_line.specs.LineHeight.{lineHeight}
+use Rattle.floor_line.proofs.Integers.{lt-or-le}
+use Rattle.floor_line.proofs.LineLaws.{line-pos, height-le}
+use Rattle.floor_line.specs.RenderLine.{renderLine}
+use Rattle.floor_line.proofs.RenderLaws.{render-is-line}
 use Rattle.floor_curve.specs.Curve.{natural, lineAt, heightAt, places}
 use Rattle.floor_curve.specs.Drawing.{Drawn, Flat}
 

@@ -10,9 +10,9 @@ use mathlib.Core.Path.{_≡_, refl, sym, ap, _∙_}
 use lib.Dec.{eqb, leb, ltb}
 use lib.ListN.{length, getD}
 use borrow.Author.Tests.{lt-ltb, le-ltb, le-leb, lt-leb, eq-eqb, ne-eqb, ltb-true, ltb-false, leb-true, leb-false, eqb-true, eqb-false}
-use Rattle.floor_points.specs.Search.{searched}
-use Rattle.floor_points.proofs.Searching.{search-keeps, search-same, search-best}
-use Rattle.floor_points.proofs.Integers.{lt-or-le, same-leb, same-ltb}
+use Rattle.floor_line.specs.Search.{searched}
+use Rattle.floor_line.proofs.Searching.{search-keeps, search-same, search-best}
+use Rattle.floor_line.proofs.Integers.{lt-or-le, same-leb, same-ltb}
 use Rattle.floor_curve.specs.Curve.{isSet, xOr, takesLeft, takesRight, lastAt, nextAfter, IsLast, IsNext}
 
 -- a list read past its end gives what is asked for there, and else does not mind

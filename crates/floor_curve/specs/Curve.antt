@@ -8,8 +8,8 @@ use mathlib.Core.Path.{_≡_}
 use lib.Dec.{eqb, leb, ltb}
 use lib.IntN.{ℤ, pos, negsuc}
 use lib.ListN.{length, getD, replicate}
-use Rattle.floor_points.specs.Line.{line}
-use Rattle.floor_points.specs.Search.{searched}
+use Rattle.floor_line.specs.Line.{line}
+use Rattle.floor_line.specs.Search.{searched}
 
 -- a flag is set where it is not 0
 abbrev pub isSet : List ℕ → ℕ → Bool

@@ -4,7 +4,7 @@ use mathlib.Core.List.{List}
 use mathlib.Core.Path.{_≡_}
 use lib.IntN.{pos}
 use lib.ListN.{length, getD}
-use Rattle.floor_points.specs.RenderLine.{renderLine}
+use Rattle.floor_line.specs.RenderLine.{renderLine}
 use Rattle.floor_curve.specs.Curve.{lineAt}
 
 -- the line from (x0, y0) up to, and without, (x1, y1) is drawn, as far as there are places; the other places are as before

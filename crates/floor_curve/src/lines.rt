@@ -1,5 +1,5 @@
 // Drawing into the lent part: one line, and the flat part past the last point.
-use floor_points::lines::line_height;
+use floor_line::lines::line_height;
 ghost use mathlib.Core.Path.{_≡_};
 ghost use Prim.Native.Nat.{_≤_, _<_, min};
 ghost use lib.ListN.{length};

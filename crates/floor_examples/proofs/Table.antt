@@ -1,8 +1,9 @@
 -- Every figure holds, by computation. Assumes nothing.
 use mathlib.Core.Path.{refl}
-use Rattle.floor_points.specs.Line.{offset, line}
-use Rattle.floor_points.specs.Search.{searched}
-use Rattle.floor_points.specs.FinalY.{rangeOf, takesLow, takesHigh, lowNeighbour, highNeighbour, predicted, room, unwrapped, flagged, step, steps, begun, points, clamped, fitting, finalYs}
+use Rattle.floor_line.specs.Line.{offset, line}
+use Rattle.floor_line.specs.Search.{searched}
+use Rattle.floor_line.specs.Neighbours.{takesLow, takesHigh, lowNeighbour, highNeighbour}
+use Rattle.floor_points.specs.FinalY.{rangeOf, predicted, room, unwrapped, flagged, step, steps, begun, points, clamped, fitting, finalYs}
 use Rattle.floor_curve.specs.Curve.{takesLeft, takesRight, lastAt, nextAfter, heightAt, natural, lineAt, between, curveAt}
 use Rattle.floor_examples.specs.Figures.{holds, every, xs004, read004, final004, flags004, figures}
 

@@ -4,7 +4,7 @@ use mathlib.Core.List.{List, [], _∷_}
 use mathlib.Core.Path.{_≡_}
 use lib.IntN.{pos}
 use lib.ListN.{length}
-use Rattle.floor_points.specs.Line.{line}
+use Rattle.floor_line.specs.Line.{line}
 use Rattle.floor_points.specs.FinalY.{unwrapped, finalYs}
 use Rattle.floor_curve.specs.Curve.{curveAt}
 

@@ -1,20 +1,18 @@
 -- Laws of the steps of final Y, for heights. Assumes nothing.
 use Prim.Native.Nat.{ℕ, zero, suc, _+_, _-_, _≤_, _<_}
-use native.Mathlib.Nat.{eq-or-lt-of-le}
 use native.Mathlib.Numerals.{add-one}
-use native.Mathlib.Decide.{ℕ-discrete}
 use native.Mathlib.Omega.{arith}
 use mathlib.Core.List.{List, [], _∷_, map}
-use mathlib.Core.Logic.{_⊎_, ⊎-elim}
 use mathlib.Core.Path.{_≡_, refl, sym, ap, _∙_}
 use lib.IntN.{ℤ, pos}
-use lib.ListN.{length, getD, set, length-set, length-map, replicate}
-use lib.Seq.{getD-set-same, getD-set-other}
-use Rattle.floor_points.specs.Line.{line}
-use Rattle.floor_points.specs.FinalY.{Points, predicted, unwrapped, flagged, step, steps, begun, points, clamped, lowNeighbour, highNeighbour}
-use Rattle.floor_points.specs.Heights.{difference, lineHeight, yOf, heightOf, clampedHeight, pointsOf, Bounded, Ready}
-use Rattle.floor_points.proofs.Integers.{same-difference, pos-difference, lt-or-le}
-use Rattle.floor_points.proofs.LineLaws.{line-height, height-le}
+use lib.ListN.{length, getD, set, replicate}
+use Rattle.floor_line.specs.Line.{line}
+use Rattle.floor_points.specs.FinalY.{Points, predicted, unwrapped, flagged, step, steps, begun, points, clamped}
+use Rattle.floor_line.specs.LineHeight.{lineHeight}
+use Rattle.floor_line.specs.Neighbours.{lowNeighbour, highNeighbour}
+use Rattle.floor_points.specs.Heights.{yOf, heightOf, clampedHeight, pointsOf, Bounded, Ready}
+use Rattle.floor_line.proofs.Integers.{same-difference, pos-difference}
+use Rattle.floor_line.proofs.LineLaws.{line-height, height-le}
 use Rattle.floor_points.proofs.Filling.{Filling, fill-end, getD-map, map-set}
 
 -- ---- heights stay bounded
@@ -63,6 +61,11 @@ module _ (range : ℕ) (xs vals hs fs fs′ : List ℕ) (i low high p r : ℕ) w
       the l = record { ys = l; flags = fs′ }
 
 -- ---- the steps
+-- lists that are ready stay so where heights and flags keep their places
+pub ready-kept : {xs vals hs fs hs′ fs′ : List ℕ} {range : ℕ} → Ready xs vals range hs fs → length hs′ ≡ length hs → length fs′ ≡ length fs → Ready xs vals range hs′ fs′
+ready-kept r lh lf =
+    record { places = r .places; values = r .values; tall = lh ∙ r .tall; flagged = lf ∙ r .flagged; some = r .some; small = r .small }
+
 module _ (range : ℕ) (xs vals : List ℕ) where
   pub steps-end : (i n : ℕ) (s : Points) → n ≤ i → steps range xs vals i (n - i) s ≡ s
   unfolding steps
@@ -89,7 +92,7 @@ module _ (xs vals : List ℕ) (range : ℕ) (hs₀ fs₀ : List ℕ) where
         → Bounded hs′ → length hs′ ≡ length hs → length fs′ ≡ length fs → Going xs vals range hs₀ fs₀ hs′ fs′ (i + 1)
     going-turn hs′ fs′ i g h e b lh lf =
         record {
-          ready = record { places = g .ready .places; values = g .ready .values; tall = lh ∙ g .ready .tall; flagged = lf ∙ g .ready .flagged; some = g .ready .some; small = g .ready .small };
+          ready = ready-kept (g .ready) lh lf;
           bounded = b;
           from = omega (arith, g .from);
           within = omega arith;

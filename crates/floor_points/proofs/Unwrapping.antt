@@ -13,8 +13,19 @@ use lib.IntN.{ℤ, pos, negsuc, _+ℤ_, _-ℤ_, _*ℤ_, -ℤ-+ℤ-cancel}
 use lib.Signed.{ltZ, leZ}
 use borrow.Author.Tests.{lt-ltb, le-ltb, le-leb, lt-leb, eq-eqb, ne-eqb}
 use Rattle.floor_points.specs.FinalY.{room, unwrapped, clamped, flagged}
-use Rattle.floor_points.specs.Heights.{difference, yOf}
-use Rattle.floor_points.proofs.Integers.{lt-or-le, same-ltb, same-leb, below, above, same-difference, pos-difference, add-difference, twice-difference, ltZ-difference, leZ-difference, plus, minus, from}
+use Rattle.floor_line.specs.LineHeight.{difference}
+use Rattle.floor_points.specs.Heights.{yOf, movedHeight}
+use Rattle.floor_line.proofs.Integers.{lt-or-le, same-ltb, same-leb, below, above, same-difference, pos-difference, add-difference, twice-difference, ltZ-difference, leZ-difference, plus, minus, from}
+
+-- a height moved by half a value
+module _ (h val : ℕ) where
+  pub moved-down : val % 2 ≡ 1 → h - (val + 1) / 2 ≡ movedHeight h val
+  unfolding movedHeight
+  moved-down o = rw (eq-eqb (val % 2) 1 o)
+
+  pub moved-up : (val % 2 ≡ 1 → ⊥) → h + val / 2 ≡ movedHeight h val
+  unfolding movedHeight
+  moved-up o = rw (ne-eqb (val % 2) 1 o)
 
 module _ (range p : ℕ) where
   -- the rooms compare as twice the height with the height at which they are equal
@@ -75,7 +86,7 @@ module _ (range p : ℕ) where
         ∙ ap (λ (z : ℤ). z -ℤ pos 1)
         (sym (add-difference p (65536 + val) (range + 65536) p) ∙ ap (λ (z : ℤ). z +ℤ difference (range + 65536) p) (sym (minus p 65536 val)) ∙ ap (λ (z : ℤ). yOf p -ℤ pos val +ℤ z) (sym (from range p 65536))))
 
-    -- 25 and 26: the value is less than the room
+    -- 24 to 26: the value is less than the room
     near-odd : (val ≡ 0 → ⊥) → leZ (room range (yOf p)) (pos val) ≡ false → val % 2 ≡ 1 → (val + 1) / 2 ≤ p → yOf (p - (val + 1) / 2) ≡ unwrapped range (yOf p) val
     unfolding unwrapped
     near-odd n f o l =
@@ -85,17 +96,17 @@ module _ (range p : ℕ) where
     unfolding unwrapped
     near-even n f o = rw (ne-eqb val 0 n, f, ne-eqb (val % 2) 1 o) (sym (plus p 65536 (val / 2)))
 
-    pub unwrap-odd-low : (val ≡ 0 → ⊥) → 2 * p < range + 131072 → val + 131072 < 2 * p → val % 2 ≡ 1 → yOf (p - (val + 1) / 2) ≡ unwrapped range (yOf p) val
-    unwrap-odd-low n h f o = near-odd n (fills-low (omega arith) ∙ lt-leb (2 * p) (val + 131072) f) o (omega arith)
+    near : (val ≡ 0 → ⊥) → leZ (room range (yOf p)) (pos val) ≡ false → (val + 1) / 2 ≤ p → yOf (movedHeight p val) ≡ unwrapped range (yOf p) val
+    near n f l =
+        ⊎-elim (λ (h : val % 2 < 1). let o : val % 2 ≡ 1 → ⊥ = omega arith in rw (← moved-up p val o) (near-even n f o))
+        (λ (h : 1 ≤ val % 2). let o : val % 2 ≡ 1 = omega arith in rw (← moved-down p val o) (near-odd n f o l))
+        (lt-or-le (val % 2) 1)
 
-    pub unwrap-even-low : (val ≡ 0 → ⊥) → 2 * p < range + 131072 → val + 131072 < 2 * p → (val % 2 ≡ 1 → ⊥) → yOf (p + val / 2) ≡ unwrapped range (yOf p) val
-    unwrap-even-low n h f o = near-even n (fills-low (omega arith) ∙ lt-leb (2 * p) (val + 131072) f) o
+    pub unwrap-near-low : (r : ℕ) → (val ≡ 0 → ⊥) → 2 * p < range + 131072 → val + 131072 < 2 * p → r ≡ movedHeight p val → yOf r ≡ unwrapped range (yOf p) val
+    unwrap-near-low r n h f e = rw e (near n (fills-low (omega arith) ∙ lt-leb (2 * p) (val + 131072) f) (omega arith))
 
-    pub unwrap-odd-high : (val ≡ 0 → ⊥) → range + 131072 ≤ 2 * p → val + 2 * p < 2 * range + 131072 → val % 2 ≡ 1 → yOf (p - (val + 1) / 2) ≡ unwrapped range (yOf p) val
-    unwrap-odd-high n h f o = near-odd n (fills-high h ∙ lt-leb (2 * range + 131072) (val + 2 * p) f) o (omega arith)
-
-    pub unwrap-even-high : (val ≡ 0 → ⊥) → range + 131072 ≤ 2 * p → val + 2 * p < 2 * range + 131072 → (val % 2 ≡ 1 → ⊥) → yOf (p + val / 2) ≡ unwrapped range (yOf p) val
-    unwrap-even-high n h f o = near-even n (fills-high h ∙ lt-leb (2 * range + 131072) (val + 2 * p) f) o
+    pub unwrap-near-high : (r : ℕ) → (val ≡ 0 → ⊥) → range + 131072 ≤ 2 * p → val + 2 * p < 2 * range + 131072 → (val + 1) / 2 ≤ p → r ≡ movedHeight p val → yOf r ≡ unwrapped range (yOf p) val
+    unwrap-near-high r n h f l e = rw e (near n (fills-high h ∙ lt-leb (2 * range + 131072) (val + 2 * p) f) l)
 
 -- ---- clamping
 module _ (range h : ℕ) where

@@ -1,49 +1,18 @@
 -- Final Y and the step 2 flags (004, "curve computation", step 1; 01, "Audio order" 3). The numbers in comments are 004's steps.
 -- Assumes nothing: these are definitions.
-use Prim.Native.Nat.{ℕ, zero, suc, _+_, _-_, _*_, _/_, _%_, _≤_, _<_, min}
+use Prim.Native.Nat.{ℕ, zero, suc, _+_, _-_, _*_, _/_, _%_, _≤_, min}
 use mathlib.Core.Bool.{Bool, true, false, _&&_, cond}
 use mathlib.Core.List.{List, map}
 use lib.ListN.{length, getD, set, replicate}
-use lib.Dec.{eqb, ltb, leb}
+use lib.Dec.{eqb, ltb}
 use lib.IntN.{ℤ, pos, negsuc, _+ℤ_, _-ℤ_, _*ℤ_}
 use lib.Signed.{ltZ, leZ}
-use Rattle.floor_points.specs.Line.{line}
-use Rattle.floor_points.specs.Search.{searched}
+use Rattle.floor_line.specs.Line.{line}
+use Rattle.floor_line.specs.Neighbours.{xAt, lowNeighbour, highNeighbour}
 
 -- 1: the range that goes with a multiplier; 0 where there is no such multiplier
 unfoldable pub rangeOf : ℕ → ℕ
 rangeOf m = cond (eqb m 1) 256 (cond (eqb m 2) 128 (cond (eqb m 3) 86 (cond (eqb m 4) 64 0)))
-
--- X at a place of the list
-abbrev pub xAt : List ℕ → ℕ → ℕ
-xAt xs j = getD xs j 0
-
--- X at j is below x, and greater than that at the place held; or above x, and less
-unfoldable pub takesLow : List ℕ → ℕ → ℕ → ℕ → Bool
-takesLow xs x j held = ltb (xAt xs j) x && ltb (xAt xs held) (xAt xs j)
-
-unfoldable pub takesHigh : List ℕ → ℕ → ℕ → ℕ → Bool
-takesHigh xs x j held = ltb x (xAt xs j) && ltb (xAt xs j) (xAt xs held)
-
--- 7, low_neighbor: of the places before i, that of the greatest X below the X of i. The search begins at place 0, which holds the least X of a floor
-unfoldable pub lowNeighbour : List ℕ → ℕ → ℕ
-lowNeighbour xs i = searched (takesLow xs (xAt xs i)) 0 0 i
-
--- 8, high_neighbor: of the places before i, that of the least X above the X of i. The search begins at place 1, which holds the greatest X of a floor
-unfoldable pub highNeighbour : List ℕ → ℕ → ℕ
-highNeighbour xs i = searched (takesHigh xs (xAt xs i)) 1 0 i
-
--- the neighbours in 01's words: an earlier place, with an X below and none greater among such; with an X above and none less. It is shown where the first X
--- is the least and the second the greatest
-pub record IsLow (xs : List ℕ) (i r : ℕ) : Type 0 where
-  pub earlier : r < i
-  pub below : xAt xs r < xAt xs i
-  pub greatest : (j : ℕ) → j < i → xAt xs j < xAt xs i → xAt xs j ≤ xAt xs r
-
-pub record IsHigh (xs : List ℕ) (i r : ℕ) : Type 0 where
-  pub earlier : r < i
-  pub above : xAt xs i < xAt xs r
-  pub least : (j : ℕ) → j < i → xAt xs i < xAt xs j → xAt xs r ≤ xAt xs j
 
 -- the points so far: a Y value for each place, and a flag, 1 where it is set
 pub record Points : Type 0 where

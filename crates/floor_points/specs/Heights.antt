@@ -1,25 +1,21 @@
--- How the program holds Y values, which may be negative: as heights, numbers counted from -z, so that height h is the Y value h - z. Assumes nothing: these are definitions.
-use Prim.Native.Nat.{ℕ, _+_, _-_, _≤_, _<_}
+-- How the program holds Y values, which may be negative: as heights, numbers counted from -65,536. Assumes nothing: these are definitions.
+use Prim.Native.Nat.{ℕ, _+_, _-_, _/_, _%_, _≤_, _<_}
 use mathlib.Core.Bool.{cond}
 use mathlib.Core.List.{List, map}
 use mathlib.Core.Path.{_≡_}
-use lib.Dec.{ltb}
-use lib.IntN.{ℤ, subℕ}
+use lib.Dec.{eqb}
+use lib.IntN.{ℤ}
 use lib.ListN.{length, getD}
-use Rattle.floor_points.specs.Line.{offset}
+use Rattle.floor_line.specs.LineHeight.{difference}
 use Rattle.floor_points.specs.FinalY.{Points, clamped}
-
--- a - b, as an integer
-unfoldable pub difference : ℕ → ℕ → ℤ
-difference a b = subℕ a b
-
--- the height at x on the line from (x0, h0) to (x1, h1), from whatever number heights are counted
-unfoldable pub lineHeight : ℕ → ℕ → ℕ → ℕ → ℕ → ℕ
-lineHeight x0 h0 x1 h1 x = cond (ltb h1 h0) (h0 - offset x0 x1 (h0 - h1) x) (h0 + offset x0 x1 (h1 - h0) x)
 
 -- the Y value of a height counted from -65,536. Every Y value on the way is greater, since a value read is below 65,536
 abbrev pub yOf : ℕ → ℤ
 yOf h = difference h 65536
+
+-- a height moved by half a value: down where the value is odd, up where it is even (004, steps 24 to 26)
+unfoldable pub movedHeight : ℕ → ℕ → ℕ
+movedHeight h val = cond (eqb (val % 2) 1) (h - (val + 1) / 2) (h + val / 2)
 
 -- the points that heights and flags stand for
 abbrev pub pointsOf : List ℕ → List ℕ → Points

@@ -1,5 +1,2 @@
-pub mod Line
-pub mod Search
 pub mod FinalY
 pub mod Heights
-pub mod RenderLine

@@ -1,20 +1,33 @@
 // Y values as heights counted from -65,536, since they may be negative before they are clamped (specs/Heights.antt).
 ghost use mathlib.Core.Path.{_≡_};
 ghost use mathlib.Core.List.{map};
-ghost use Prim.Native.Nat.{_+_, _-_, _≤_, _<_};
-ghost use lib.ListN.{length, replicate, set};
+ghost use Prim.Native.Nat.{_+_, _-_, _/_, _≤_, _<_};
+ghost use lib.ListN.{length, replicate, set, getD};
+ghost use Rattle.floor_line.specs.LineHeight.{lineHeight};
+ghost use Rattle.floor_line.specs.Neighbours.{xAt};
 ghost use Rattle.floor_points.specs.FinalY.{unwrapped, clamped, points, flagged};
 ghost use Rattle.floor_points.specs.FinalY as final;
-ghost use Rattle.floor_points.specs.Heights.{yOf, heightOf, clampedHeight, pointsOf, Bounded, Ready};
-use crate::lines::line_height;
-use crate::neighbours::high_neighbour;
-use crate::neighbours::low_neighbour;
+ghost use Rattle.floor_points.specs.Heights.{yOf, movedHeight, heightOf, clampedHeight, pointsOf, Bounded, Ready};
+use floor_line::lines::line_height;
+use floor_line::neighbours::high_neighbour;
+use floor_line::neighbours::low_neighbour;
 use reading::buffers::clear_u8;
 
 fn wide(x: u16) -> u32
     ensures { λ r. ⌜ r ≡ x ⌝ }
 {
     x as u32
+}
+
+// A height moved by half a value: down where the value is odd, up where it is even (004, steps 24 to 26).
+fn moved(height: u32, value: u32) -> u32
+    requires { ⌜ (height < 131072) × (value < 65536) × ((value + 1) / 2 ≤ height) ⌝ }
+    ensures { λ r. ⌜ (r ≡ movedHeight height value) × (r ≤ height + value / 2) ⌝ }
+{
+    if value % 2 == 1 {
+        return height - (value + 1) / 2;
+    }
+    height + value / 2
 }
 
 // The height that a predicted one and the value read give (004, steps 10 to 28). Highroom is greater than lowroom where twice the height is below
@@ -31,18 +44,12 @@ fn unwrap(range: u32, predicted: u32, value: u16) -> u32
         if 2 * predicted <= v + 131072 {
             return 65536 + v;
         }
-        if v % 2 == 1 {
-            return predicted - (v + 1) / 2;
-        }
-        return predicted + v / 2;
+        return moved(predicted, v);
     }
     if 2 * range + 131072 <= v + 2 * predicted {
         return 65535 + range - v;
     }
-    if v % 2 == 1 {
-        return predicted - (v + 1) / 2;
-    }
-    predicted + v / 2
+    moved(predicted, v)
 }
 
 // Clamped to 0..range-1.
@@ -95,6 +102,20 @@ fn begin_flags(flags: &mut [u8])
     flags[1] = 1;
 }
 
+// The height at place i on the line between its neighbours (004, step 9).
+fn predict(x: &[u16], heights: &[u32], low: usize, high: usize, i: usize) -> u32
+    requires { ⌜ Bounded (now heights) × (length (now heights) ≡ length (now x)) × (low < length (now x)) × (high < length (now x)) × (i < length (now x)) ⌝ }
+    ensures { λ r. ⌜ (r ≡ lineHeight (xAt (now (x .entry)) low) (getD (now (heights .entry)) low 0) (xAt (now (x .entry)) high) (getD (now (heights .entry)) high 0) (xAt (now (x .entry)) i)) × (r < 131072) ⌝ }
+{
+    line_height(
+        wide(x[low]),
+        heights[low],
+        wide(x[high]),
+        heights[high],
+        wide(x[i]),
+    )
+}
+
 // Place i (004, steps 7 to 28).
 fn step(x: &[u16], values: &[u16], range: u32, i: usize, heights: &mut [u32], flags: &mut [u8])
     requires { ⌜ Ready (now x) (now values) range (now heights) (now flags) × Bounded (now heights) × (1 < i) × (i < length (now x)) ⌝ }
@@ -102,13 +123,7 @@ fn step(x: &[u16], values: &[u16], range: u32, i: usize, heights: &mut [u32], fl
 {
     let low = low_neighbour(x, i);
     let high = high_neighbour(x, i);
-    let predicted = line_height(
-        wide(x[low]),
-        heights[low],
-        wide(x[high]),
-        heights[high],
-        wide(x[i]),
-    );
+    let predicted = predict(x, heights, low, high, i);
     let value = values[i];
     heights[i] = unwrap(range, predicted, value);
     flag(value, low, high, i, flags);

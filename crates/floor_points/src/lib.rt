@@ -1,7 +1,5 @@
 // Floor 1: the final Y values and the step 2 flags of a list of X and the values read (004, "curve computation", step 1).
 mod heights;
-pub mod lines;
-mod neighbours;
 
 use heights::final_points;
 use reading::buffers::clear_u8;

@@ -1,137 +1,23 @@
--- The tests along a table, as the code asks them: one law for each way out of a function. Assumes nothing.
-use Prim.Native.Nat.{ℕ, zero, suc, _+_, _-_, _*_, _^_, _≤_, _<_}
-use native.Mathlib.Nat.{sub-zero}
+-- The tests of floors along a table, as the code asks them: one law for each way out of a function. Assumes nothing.
+use Prim.Native.Nat.{ℕ, _+_, _-_, _*_, _^_, _≤_, _<_}
 use native.Mathlib.Omega.{arith}
 use native.Mathlib.Numerals.{add-one}
 use borrow.Author.Needs.{needs}
-use borrow.Author.Tests.{not-true, not-false}
+use borrow.Author.Tests.{eq-eqb, eqb-true}
+use lib.Dec.{eqb}
 use mathlib.Core.Bool.{Bool, true, false, not}
-use mathlib.Core.List.{List, [], _∷_}
+use mathlib.Core.List.{List}
 use mathlib.Core.Logic.{_↔_, _⊎_, ⊎-elim}
-use mathlib.Core.Path.{_≡_, refl, sym, ap, _∙_}
-use lib.ListN.{length, getD, take, drop}
-use lib.Pow.{pow-mono}
-use lib.Seq.{slice, take-nil}
+use mathlib.Core.Path.{_≡_, sym, ap, _∙_}
+use lib.ListN.{getD, take, drop}
+use lib.Seq.{slice}
 use Rattle.reading.specs.Lists.{distinct}
 use Rattle.reading.proofs.Least.{below-suc}
+use Rattle.reading.proofs.Parts.{part-slice}
 use Rattle.floors.specs.Pieces.{classesTo, valuesTo}
-use Rattle.floor_class.specs.Valid.{MasterFits}
-use Rattle.floor_tables.specs.Rules.{Below, BookRules, ClassRules, ClassesRules, PartitionRules, NamedRules, HeadRules, ListRules, FloorRules, FloorsRules}
-
--- a test that failed, and one that passed
-pub fails : {P : Type 0} → (P → ⊥) → (false ≡ true) ↔ P
-fails n = (λ e. let z : _≡_ {A = ℕ} 0 1 = cc in absurd (omega arith), λ p. absurd (n p))
-
-pub passes : {P : Type 0} → P → (true ≡ true) ↔ P
-passes p = (λ e. p, λ q. refl)
-
-pub refuted : {b : Bool} {P : Type 0} → (b ≡ true) ↔ P → not b ≡ true → P → ⊥
-refuted {b} f n p = let t = f .1 p in let z : _≡_ {A = ℕ} 0 1 = let g = not-true b n in cc in omega arith
-
-pub shown : {b : Bool} {P : Type 0} → (b ≡ true) ↔ P → not b ≡ false → P
-shown {b} f n = f .0 (not-false b n)
-
--- a part of a slice, as the code takes it
-pub part-slice : (from to : ℕ) (t : List ℕ) → take (to - from) (drop from t) ≡ slice from to t
-part-slice zero to t = rw sub-zero
-part-slice (suc from) zero t = let e : 0 - suc from ≡ 0 = omega arith in rw e
-part-slice (suc from) (suc to) [] = take-nil (suc to - suc from)
-part-slice (suc from) (suc to) (x ∷ t) = let e : suc to - suc from ≡ to - from = omega arith in rw e (part-slice from to t)
-
--- numbers below a limit
-module _ (t : List ℕ) (limit : ℕ) where
-  pub below-none : (from : ℕ) → Below t from from limit
-  below-none from = record { each = λ i h k. absurd (omega arith) }
-
-  pub below-next : (from i : ℕ) {v : ℕ} → Below t from i limit → v ≡ getD t i 0 → v < limit → Below t from (i + 1) limit
-  below-next from i {v} b e h =
-      record { each = λ j a k. ⊎-elim (λ (l : j < i). b .each j a l) (λ (q : j ≡ i). rw (q, ← e) h) (below-suc (rw add-one at k)) }
-
-  pub below-not : (from to i : ℕ) {v : ℕ} → from ≤ i → i < to → v ≡ getD t i 0 → limit ≤ v → (false ≡ true) ↔ Below t from to limit
-  below-not from to i {v} a k e h = fails (λ b. let l = b .each i a k in omega arith)
-
-  pub below-all : (from to i : ℕ) → to ≤ i → Below t from i limit → (true ≡ true) ↔ Below t from to limit
-  below-all from to i h b = passes (record { each = λ j a k. b .each j a (omega arith) })
-
-pub ruleset below-laws = (needs, below-none, below-next, below-not, below-all)
-
--- the master book
-module _ (books subclasses master : ℕ) where
-  pub master-high : books < master → (false ≡ true) ↔ MasterFits books subclasses master
-  master-high h = fails (λ m. let k = m .most in omega arith)
-
-  module _ (most : master ≤ books) where
-    pub no-bits-none : subclasses ≡ 0 → master ≡ 0 → (true ≡ true) ↔ MasterFits books subclasses master
-    no-bits-none e f = passes (record { none = λ z. f; some = λ n. absurd (n e); most = most })
-
-    pub no-bits-some : subclasses ≡ 0 → (master ≡ 0 → ⊥) → (false ≡ true) ↔ MasterFits books subclasses master
-    no-bits-some e f = fails (λ m. f (m .none e))
-
-    pub bits-none : (subclasses ≡ 0 → ⊥) → master < 1 → (false ≡ true) ↔ MasterFits books subclasses master
-    bits-none n h = fails (λ m. let k = m .some n in omega arith)
-
-    pub bits-some : (subclasses ≡ 0 → ⊥) → 1 ≤ master → (true ≡ true) ↔ MasterFits books subclasses master
-    bits-some n h = passes (record { none = λ z. absurd (n z); some = λ z. h; most = most })
-
-pub ruleset master-test-laws = (needs, master-high, no-bits-none, no-bits-some, bits-none, bits-some)
-
--- the subclass books
-module _ (books : ℕ) (t : List ℕ) (at count : ℕ) {b₁ : Bool} (p₁ : (b₁ ≡ true) ↔ Below t at (at + count) (books + 1)) where
-  pub books-unset : not b₁ ≡ true → (false ≡ true) ↔ BookRules books t at count
-  books-unset n = fails (λ r. refuted p₁ n (r .set-up))
-
-  module _ (y₁ : not b₁ ≡ false) {b₂ : Bool} (p₂ : (b₂ ≡ true) ↔ Below t at (at + count) 256) where
-    pub books-large : not b₂ ≡ true → (false ≡ true) ↔ BookRules books t at count
-    books-large n = fails (λ r. refuted p₂ n (r .carried))
-
-    pub books-end : not b₂ ≡ false → {b₃ : Bool} → (b₃ ≡ true) ↔ Below t (at + count) (at + 8) 1 → (b₃ ≡ true) ↔ BookRules books t at count
-    books-end y₂ p₃ = (λ e. record { set-up = shown p₁ y₁; carried = shown p₂ y₂; zeros = p₃ .0 e }, λ r. p₃ .1 (r .zeros))
-
--- a class
-module _ (books : ℕ) (t : List ℕ) (at : ℕ) {d : ℕ} (q₀ : d ≡ getD t at 0) where
-  pub class-low : d < 1 → (false ≡ true) ↔ ClassRules books t at
-  class-low h = fails (λ r. let k = r .low in omega arith)
-
-  pub class-high : 8 < d → (false ≡ true) ↔ ClassRules books t at
-  class-high h = fails (λ r. let k = r .high in omega arith)
-
-  module _ (y₀ : 1 ≤ d) (y₁ : d ≤ 8) {e : ℕ} (q₁ : e ≡ getD t (at + 1) 0) where
-    pub class-many : 3 < e → (false ≡ true) ↔ ClassRules books t at
-    class-many h = fails (λ r. let k = r .few in omega arith)
-
-    module _ (y₂ : e ≤ 3) {e′ : ℕ} (w : e′ ≡ e) {m : ℕ} (q₂ : m ≡ getD t (at + 2) 0) {b : Bool} (p : (b ≡ true) ↔ MasterFits books e′ m) where
-      fits : (b ≡ true) ↔ MasterFits books (getD t (at + 1) 0) (getD t (at + 2) 0)
-      fits = rw (w ∙ q₁, q₂) at p
-
-      pub class-master-not : not b ≡ true → (false ≡ true) ↔ ClassRules books t at
-      class-master-not n = fails (λ r. refuted fits n (r .master))
-
-      pub class-end : not b ≡ false → {x n : ℕ} → x ≡ 2 ^ e → n ≡ x → {b₂ : Bool} → (b₂ ≡ true) ↔ BookRules books t (at + 3) n → (b₂ ≡ true) ↔ ClassRules books t at
-      class-end y₃ g h p₂ =
-          let f : (_ ≡ true) ↔ BookRules books t (at + 3) (2 ^ getD t (at + 1) 0) = rw (h ∙ g, q₁) at p₂ in
-          (λ s. record { low = rw q₀ at y₀; high = rw q₀ at y₁; few = rw q₁ at y₂; master = shown fits y₃; list = f .0 s }, λ r. f .1 (r .list))
-
-pub power-few : {e x n : ℕ} → e ≤ 3 → x ≡ 2 ^ e → n ≡ x → n ≤ 8
-power-few h g k = rw (k, g) (pow-mono h)
-
-pub ruleset class-test-laws = (needs, class-low, class-high, class-many, class-master-not, class-end, power-few)
-
--- classes
-module _ (books : ℕ) (t : List ℕ) (at : ℕ) where
-  pub classes-start : ClassesRules books t at 0
-  classes-start = record { each = λ c h. absurd (omega arith) }
-
-  module _ (c : ℕ) {p : ℕ} (e : p ≡ at + 11 * c) {b : Bool} (q : (b ≡ true) ↔ ClassRules books t p) where
-    pub classes-not : (count : ℕ) → c < count → not b ≡ true → (false ≡ true) ↔ ClassesRules books t at count
-    classes-not count h n = fails (λ r. refuted q n (rw e (r .each c h)))
-
-    pub classes-more : not b ≡ false → ClassesRules books t at c → ClassesRules books t at (c + 1)
-    classes-more n r =
-        let here : ClassRules books t (at + 11 * c) = rw e at (shown q n) in
-        record { each = λ j k. ⊎-elim (λ (l : j < c). r .each j l) (λ (s : j ≡ c). rw s here) (below-suc (rw add-one at k)) }
-
-  pub classes-all : (c count : ℕ) → count ≤ c → ClassesRules books t at c → (true ≡ true) ↔ ClassesRules books t at count
-  classes-all c count h r = passes (record { each = λ j k. r .each j (omega arith) })
+use Rattle.floor_class_tables.specs.Rules.{Below, ClassesRules}
+use Rattle.floor_class_tables.proofs.TestLaws.{fails, passes, refuted, shown}
+use Rattle.floor_tables.specs.Rules.{PartitionRules, NamedRules, CountRules, HeadRules, ListRules, FloorRules, FloorsRules}
 
 -- floors
 module _ (books : ℕ) (t : List ℕ) where
@@ -190,7 +76,25 @@ module _ (books : ℕ) (t : List ℕ) (at : ℕ) {n : ℕ} (q : n ≡ getD t (at
 
 pub ruleset named-laws = (needs, named-many, named-other, named-not, named-end)
 
--- multiplier, range bits, count of X values
+-- count of X values
+module _ (t : List ℕ) (at : ℕ) {v : ℕ} (q₄ : v ≡ getD t (at + 4) 0) where
+  pub count-many : 65 < v → (false ≡ true) ↔ CountRules t at
+  count-many h = fails (λ r. let k = r .few in omega arith)
+
+  pub count-few : v < 2 → (false ≡ true) ↔ CountRules t at
+  count-few h = fails (λ r. let k = r .values in omega arith)
+
+  module _ (y₃ : v ≤ 65) (y₄ : 2 ≤ v) {n : ℕ} (q₀ : n ≡ getD t at 0) {k : ℕ} (q : k ≡ valuesTo (take (at + 212 - (at + 36)) (drop (at + 36) t)) (take (at + 36 - (at + 5)) (drop (at + 5) t)) n) where
+    count : k ≡ valuesTo (slice (at + 36) (at + 212) t) (slice (at + 5) (at + 36) t) (getD t at 0)
+    count = q ∙ (λ j. valuesTo (part-slice (at + 36) (at + 212) t j) (part-slice (at + 5) (at + 36) t j) (q₀ j))
+
+    pub count-end : (eqb (v - 2) k ≡ true) ↔ CountRules t at
+    count-end = let w = count in (
+      λ e. let d = eqb-true (v - 2) k e in record { values = omega arith; few = rw q₄ at y₃ },
+      λ r. let s = r .values in eq-eqb (v - 2) k (omega arith),
+    )
+
+-- multiplier, range bits
 module _ (t : List ℕ) (at : ℕ) {m : ℕ} (q₂ : m ≡ getD t (at + 2) 0) where
   pub head-low : m < 1 → (false ≡ true) ↔ HeadRules t at
   head-low h = fails (λ r. let k = r .low in omega arith)
@@ -202,24 +106,8 @@ module _ (t : List ℕ) (at : ℕ) {m : ℕ} (q₂ : m ≡ getD t (at + 2) 0) wh
     pub head-range : 15 < b → (false ≡ true) ↔ HeadRules t at
     head-range h = fails (λ r. let k = r .rangebits in omega arith)
 
-    module _ (y₂ : b ≤ 15) {v : ℕ} (q₄ : v ≡ getD t (at + 4) 0) where
-      pub head-many : 65 < v → (false ≡ true) ↔ HeadRules t at
-      head-many h = fails (λ r. let k = r .few in omega arith)
-
-      pub head-few : v < 2 → (false ≡ true) ↔ HeadRules t at
-      head-few h = fails (λ r. let k = r .values in omega arith)
-
-      module _ (y₃ : v ≤ 65) (y₄ : 2 ≤ v) {n : ℕ} (q₀ : n ≡ getD t at 0) {k : ℕ} (q : k ≡ valuesTo (take (at + 212 - (at + 36)) (drop (at + 36) t)) (take (at + 36 - (at + 5)) (drop (at + 5) t)) n) where
-        count : k ≡ valuesTo (slice (at + 36) (at + 212) t) (slice (at + 5) (at + 36) t) (getD t at 0)
-        count = q ∙ (λ j. valuesTo (part-slice (at + 36) (at + 212) t j) (part-slice (at + 5) (at + 36) t j) (q₀ j))
-
-        pub head-other : (v - 2 ≡ k → ⊥) → (false ≡ true) ↔ HeadRules t at
-        head-other h = fails (λ r. let s = r .values in let w = count in h (omega arith))
-
-        pub head-end : v - 2 ≡ k → (true ≡ true) ↔ HeadRules t at
-        head-end e =
-            let w = count in
-            passes (record { low = rw q₂ at y₀; high = rw q₂ at y₁; rangebits = rw q₃ at y₂; values = omega arith; few = rw q₄ at y₃ })
+    pub head-end : b ≤ 15 → {c : Bool} → (c ≡ true) ↔ CountRules t at → (c ≡ true) ↔ HeadRules t at
+    head-end y₂ p = (λ e. record { low = rw q₂ at y₀; high = rw q₂ at y₁; rangebits = rw q₃ at y₂; count = p .0 e }, λ r. p .1 (r .count))
 
 -- the X list
 module _ (t : List ℕ) (at : ℕ) {b : ℕ} (q₃ : b ≡ getD t (at + 3) 0) {x n : ℕ} (power : x ≡ 2 ^ b) (wide : n ≡ x) {v : ℕ} (q₄ : v ≡ getD t (at + 4) 0) {f : ℕ} (q₅ : f ≡ getD t (at + 212) 0) where
@@ -283,6 +171,6 @@ pub head-range-known : {t : List ℕ} {at : ℕ} {b : Bool} → (b ≡ true) ↔
 head-range-known p y = shown p y .rangebits
 
 pub head-values-known : {t : List ℕ} {at : ℕ} {b : Bool} → (b ≡ true) ↔ HeadRules t at → not b ≡ false → getD t (at + 4) 0 ≤ 65
-head-values-known p y = shown p y .few
+head-values-known p y = shown p y .count .few
 
 pub ruleset floor-test-laws = (needs, floor-partitions, floor-few, floor-classes, floor-head, floor-end, head-range-known, head-values-known)

@@ -8,28 +8,7 @@ use lib.ListN.{getD}
 use lib.Seq.{slice}
 use Rattle.reading.specs.Lists.{distinct}
 use Rattle.floors.specs.Pieces.{classesTo, valuesTo}
-use Rattle.floor_class.specs.Valid.{MasterFits}
-
--- every number from place `from` up to `to` is below the limit: below 1 it is 0
-pub record Below (t : List ℕ) (from to limit : ℕ) : Type 0 where
-  pub each : (i : ℕ) → from ≤ i → i < to → getD t i 0 < limit
-
--- `count` subclass books from place `at` on, and zeros in what is left of 8 places
-pub record BookRules (books : ℕ) (t : List ℕ) (at count : ℕ) : Type 0 where
-  pub set-up : Below t at (at + count) (books + 1)
-  pub carried : Below t at (at + count) 256
-  pub zeros : Below t (at + count) (at + 8) 1
-
--- a class, whose row begins at place `at`
-pub record ClassRules (books : ℕ) (t : List ℕ) (at : ℕ) : Type 0 where
-  pub low : 1 ≤ getD t at 0
-  pub high : getD t at 0 ≤ 8
-  pub few : getD t (at + 1) 0 ≤ 3
-  pub master : MasterFits books (getD t (at + 1) 0) (getD t (at + 2) 0)
-  pub list : BookRules books t (at + 3) (2 ^ getD t (at + 1) 0)
-
-pub record ClassesRules (books : ℕ) (t : List ℕ) (at count : ℕ) : Type 0 where
-  pub each : (c : ℕ) → c < count → ClassRules books t (at + 11 * c)
+use Rattle.floor_class_tables.specs.Rules.{Below, ClassesRules}
 
 -- a floor's partitions, where its row begins at place `at`
 pub record PartitionRules (t : List ℕ) (at : ℕ) : Type 0 where
@@ -44,13 +23,17 @@ pub record NamedRules (books : ℕ) (t : List ℕ) (at : ℕ) : Type 0 where
   pub classes : ClassesRules books t (at + 36) (getD t (at + 1) 0)
   pub zeros : Below t (at + 36 + 11 * getD t (at + 1) 0) (at + 212) 1
 
+-- its count of X values, the two implied ones included
+pub record CountRules (t : List ℕ) (at : ℕ) : Type 0 where
+  pub values : getD t (at + 4) 0 ≡ 2 + valuesTo (slice (at + 36) (at + 212) t) (slice (at + 5) (at + 36) t) (getD t at 0)
+  pub few : getD t (at + 4) 0 ≤ 65
+
 -- its multiplier, range bits, count of X values
 pub record HeadRules (t : List ℕ) (at : ℕ) : Type 0 where
   pub low : 1 ≤ getD t (at + 2) 0
   pub high : getD t (at + 2) 0 ≤ 4
   pub rangebits : getD t (at + 3) 0 ≤ 15
-  pub values : getD t (at + 4) 0 ≡ 2 + valuesTo (slice (at + 36) (at + 212) t) (slice (at + 5) (at + 36) t) (getD t at 0)
-  pub few : getD t (at + 4) 0 ≤ 65
+  pub count : CountRules t at
 
 -- its X list
 pub record ListRules (t : List ℕ) (at : ℕ) : Type 0 where

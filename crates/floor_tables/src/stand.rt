@@ -1,110 +1,16 @@
 // Whether a table of floors that anyone hands in is the writing-out of floors that meet every rule.
+use floor_class_tables::below::are_below;
+use floor_class_tables::below::number;
+use floor_class_tables::classes::are_classes;
 use floors::floor;
 use reading::buffers;
 ghost use mathlib.Core.Path.{_≡_};
 ghost use mathlib.Core.Bool.{true};
 ghost use mathlib.Core.Logic.{_↔_};
-ghost use Prim.Native.Nat.{_+_, _^_, _<_, _≤_};
+ghost use Prim.Native.Nat.{_+_, _≤_};
 ghost use lib.ListN.{length, getD};
-ghost use Rattle.floor_class.specs.Valid.{MasterFits};
-ghost use Rattle.floor_tables.specs.Rules.{Below, BookRules, ClassRules, ClassesRules, PartitionRules, NamedRules, HeadRules, ListRules, FloorRules, FloorsRules};
+ghost use Rattle.floor_tables.specs.Rules.{PartitionRules, NamedRules, CountRules, HeadRules, ListRules, FloorRules, FloorsRules};
 ghost use Rattle.floor_tables.specs.Stand.{FloorsStand};
-
-// A place of the table.
-fn number(floors: &[u16], at: usize) -> usize
-    ensures { λ r. ⌜ (r ≡ getD (now (floors .entry)) at 0) × (r < 65536) ⌝ }
-{
-    numbers::wide(buffers::get_u16(floors, at))
-}
-
-// Whether every number from place `from` up to `to` is below the limit. Past the end there are zeros.
-fn are_below(floors: &[u16], from: usize, to: usize, limit: usize) -> bool
-    ensures { λ r. ⌜ (r ≡ true) ↔ Below (now (floors .entry)) from to limit ⌝ }
-{
-    let mut i = from;
-    while i < to {
-        if limit <= number(floors, i) {
-            return false;
-        }
-        i = i + 1;
-    }
-    true
-}
-
-// Whether there is a master book exactly where there are subclass bits, and it is set up.
-fn is_master(books: usize, subclasses: usize, master: usize) -> bool
-    ensures { λ r. ⌜ (r ≡ true) ↔ MasterFits books subclasses master ⌝ }
-{
-    if books < master {
-        return false;
-    }
-    if subclasses == 0 {
-        if master == 0 {
-            return true;
-        }
-        return false;
-    }
-    if master < 1 {
-        return false;
-    }
-    true
-}
-
-// Whether the subclass books of a class lie from place `at` on, `count` of them, and zeros behind.
-fn are_books(floors: &[u16], at: usize, books: usize, count: usize) -> bool
-    requires { ⌜ (at ≤ 65535) × (books ≤ 256) × (count ≤ 8) ⌝ }
-    ensures { λ r. ⌜ (r ≡ true) ↔ BookRules books (now (floors .entry)) at count ⌝ }
-{
-    if !are_below(floors, at, at + count, books + 1) {
-        return false;
-    }
-    if !are_below(floors, at, at + count, 256) {
-        return false;
-    }
-    are_below(floors, at + count, at + 8, 1)
-}
-
-// Whether the row of a class begins at place `at`.
-fn is_class(floors: &[u16], at: usize, books: usize) -> bool
-    requires { ⌜ (at ≤ 65524) × (books ≤ 256) ⌝ }
-    ensures { λ r. ⌜ (r ≡ true) ↔ ClassRules books (now (floors .entry)) at ⌝ }
-{
-    let dimensions = number(floors, at);
-    if dimensions < 1 {
-        return false;
-    }
-    if 8 < dimensions {
-        return false;
-    }
-    let subclasses = buffers::get_u16(floors, at + 1);
-    if 3 < subclasses {
-        return false;
-    }
-    if !is_master(books, numbers::wide(subclasses), number(floors, at + 2)) {
-        return false;
-    }
-    are_books(
-        floors,
-        at + 3,
-        books,
-        numbers::wide(numbers::power(subclasses as u32)),
-    )
-}
-
-// Whether the rows of `count` classes lie from place `at` on.
-fn are_classes(floors: &[u16], at: usize, count: usize, books: usize) -> bool
-    requires { ⌜ (at ≤ 20000) × (count ≤ 16) × (books ≤ 256) ⌝ }
-    ensures { λ r. ⌜ (r ≡ true) ↔ ClassesRules books (now (floors .entry)) at count ⌝ }
-{
-    let mut c: usize = 0;
-    while c < count {
-        if !is_class(floors, at + 11 * c, books) {
-            return false;
-        }
-        c = c + 1;
-    }
-    true
-}
 
 // Whether the partitions of the floor at place `at` stand.
 fn are_partitions(floors: &[u16], at: usize) -> bool
@@ -139,6 +45,26 @@ fn are_named(floors: &[u16], at: usize, books: usize) -> bool
     are_below(floors, at + 36 + 11 * count, at + 212, 1)
 }
 
+// Whether its count of X values stands.
+fn is_counted(floors: &[u16], at: usize) -> bool
+    requires { ⌜ (at ≤ 17451) × (at + 277 ≤ length (now floors)) × (getD (now floors) at 0 ≤ 31) ⌝ }
+    ensures { λ r. ⌜ (r ≡ true) ↔ CountRules (now (floors .entry)) at ⌝ }
+{
+    let values = number(floors, at + 4);
+    if 65 < values {
+        return false;
+    }
+    if values < 2 {
+        return false;
+    }
+    let read = floor::value_count(
+        &floors[at + 5..at + 36],
+        number(floors, at),
+        &floors[at + 36..at + 212],
+    );
+    values - 2 == read
+}
+
 // Whether its multiplier, range bits and count of X values stand.
 fn is_head(floors: &[u16], at: usize) -> bool
     requires { ⌜ (at ≤ 17451) × (at + 277 ≤ length (now floors)) × (getD (now floors) at 0 ≤ 31) ⌝ }
@@ -154,22 +80,7 @@ fn is_head(floors: &[u16], at: usize) -> bool
     if 15 < number(floors, at + 3) {
         return false;
     }
-    let values = number(floors, at + 4);
-    if 65 < values {
-        return false;
-    }
-    let read = floor::value_count(
-        &floors[at + 5..at + 36],
-        number(floors, at),
-        &floors[at + 36..at + 212],
-    );
-    if values < 2 {
-        return false;
-    }
-    if values - 2 != read {
-        return false;
-    }
-    true
+    is_counted(floors, at)
 }
 
 // Whether its X list stands.

@@ -17,7 +17,8 @@ use Rattle.codebook.proofs.Laws.{codeword-cut-packet}
 use Rattle.floor_class.specs.Content.{Class}
 use Rattle.floors.specs.Content.{Floor}
 use Rattle.floor_class.specs.Decode.{noClass}
-use Rattle.floor_values.specs.Values.{firstBits, classValue, chosen, value, partition, partitionOf, whole, usedValues, floorValues}
+use Rattle.floor_partition.specs.Partition.{classValue, chosen, value, partition, whole}
+use Rattle.floor_values.specs.Values.{firstBits, partitionOf, usedValues, floorValues}
 use Rattle.floor_values.specs.Claims.{SameOrCut}
 
 same : {A : Type 0} (o : Outcome A) → SameOrCut o o

@@ -28,7 +28,8 @@ use Rattle.bits.proofs.Written.{wrote-through}
 use Rattle.numbers.specs.Cell.{cell}
 use Rattle.floors.specs.Content.{Floor}
 use Rattle.numbers.proofs.Collected.{rows-cell, wrote-as, many-length}
-use Rattle.floor_values.specs.Values.{firstBits, partitionOf, whole, usedValues, floorValues, held}
+use Rattle.floor_partition.specs.Partition.{whole}
+use Rattle.floor_values.specs.Values.{firstBits, partitionOf, usedValues, floorValues, held}
 
 -- the later values behind the first two
 behind : (entry list ys : List ℕ) → sets entry 0 ys ≡ list → length ys ≡ 2 → (o : Outcome (List (List ℕ) × ℕ))

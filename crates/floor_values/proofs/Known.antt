@@ -21,15 +21,17 @@ use Rattle.bits.specs.Field.{field}
 use Rattle.bits.proofs.Fields.{field-ok}
 use Rattle.codebook.specs.Codeword.{codeword}
 use Rattle.floor_class.specs.Content.{Class}
-use Rattle.floor_x_list.specs.Content.{xList}
 use Rattle.floors.specs.Content.{Floor, valueCount}
+use Rattle.floor_x_list.specs.Content.{xList}
 use Rattle.floor_class.specs.Decode.{noClass}
 use Rattle.floor_class.specs.Valid.{ValidClasses}
 use Rattle.floors.specs.Valid.{ValidFloor}
-use Rattle.floor_values.specs.Values.{firstBits, classValue, chosen, value, partition, partitionOf, whole, usedValues, floorValues}
-use Rattle.floor_values.specs.Lying.{lengthsIn, floorIn, FloorLies}
+use Rattle.floor_partition.specs.Partition.{classValue, chosen, value, partition, whole}
+use Rattle.floor_values.specs.Values.{firstBits, partitionOf, usedValues, floorValues}
+use Rattle.floor_partition.specs.Lying.{lengthsIn}
+use Rattle.floor_values.specs.Lying.{floorIn, FloorLies}
 use Rattle.floor_values.specs.Claims.{FloorValues}
-use Rattle.floor_values.proofs.ClassLaws.{entry-small}
+use Rattle.floor_partition.proofs.ClassLaws.{entry-small}
 use Rattle.floor_values.proofs.FirstLaws.{bits-known}
 use Rattle.floor_values.proofs.Cuts.{floor-cuts}
 use Rattle.floor_values.proofs.Refused.{floor-refused}

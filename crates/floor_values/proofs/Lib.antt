@@ -1,5 +1,3 @@
-pub mod ClassLaws
-pub mod ChosenLaws
 pub mod FirstLaws
 pub mod PartitionLaws
 pub mod FloorLaws

@@ -1,4 +1,4 @@
--- Laws of reading one partition, and of the loop over the partitions of a floor, as the code asks them. Assumes nothing.
+-- Laws of the loop over the partitions of a floor, as the code asks them. Assumes nothing.
 use Prim.Native.Nat.{ℕ, zero, suc, _+_, _*_, _≤_, _<_}
 use native.Mathlib.Omega.{arith}
 use mathlib.Core.List.{List, [], _∷_}
@@ -6,48 +6,27 @@ use mathlib.Core.Path.{_≡_, refl, sym, ap, _∙_}
 use lib.ListN.{length, getD, take, drop, length-take, length-drop}
 use lib.Seq.{sets, getD-take, getD-drop}
 use Rattle.reading.specs.Lists.{rows}
-use Rattle.reading.specs.Outcome.{Outcome, ok, bad}
+use Rattle.reading.specs.Outcome.{Outcome}
 use Rattle.reading.specs.Reader.{each, mapped, puts, into, into1}
 use Rattle.reading.specs.Table.{Table, table, putRow}
 use Rattle.reading.proofs.Tables.{puts-rows}
 use Rattle.bits.specs.declared.Cursor.{Cursor}
 use Rattle.bits.specs.declared.Refusal.{Refusal}
-use Rattle.bits.specs.declared.Field.{Field}
-use Rattle.bits.specs.declared.Field.the-variants.{Value, Refused}
 use Rattle.bits.specs.declared.Step.{Step}
 use Rattle.bits.specs.declared.Step.the-variants as S
-use Rattle.bits.specs.Cursors.{position, outcome, Wrote}
-use Rattle.bits.proofs.Answers.{value-is, refused-is}
-use Rattle.bits.proofs.Steps.{wrote-refused, EachRest, each-loop-start, each-loop-next, each-loop-refused, each-loop-done}
+use Rattle.bits.specs.Cursors.{position, Wrote}
+use Rattle.bits.proofs.Steps.{EachRest, each-loop-start, each-loop-next, each-loop-refused, each-loop-done}
 use Rattle.bits.proofs.Written.{wrote-through}
-use Rattle.numbers.specs.Cell.{cell}
 use Rattle.floor_class.specs.Content.{Class}
 use Rattle.floors.specs.Content.{classCount}
 use Rattle.floor_class.specs.Decode.{noClass, classAt, classesAt}
 use Rattle.floors.specs.Decode.{floorAt}
 use Rattle.floor_class.specs.Valid.{ValidClass, ValidClasses}
-use Rattle.numbers.proofs.Collected.{rows-cell, wrote-as}
 use Rattle.floors.proofs.RowLaws.{class-count-most}
-use Rattle.floor_values.specs.Values.{classValue, chosen, value, partition, partitionOf, whole}
-use Rattle.floor_values.specs.Lying.{lengthsIn, floorIn, classIn, ClassLies, FloorLies}
-
--- numbers written one by one, and as one run
-pub as-run : (o : Outcome (List ℕ × ℕ)) (l : List ℕ) (i : ℕ) → into (putRow cell) o (table l i) ≡ into1 (putRow whole) o (table l i)
-unfolding into into1 mapped putRow whole
-as-run (ok x) l i = ap (λ (t : Table). ok (t, x .1)) (puts-rows cell (x .0) l i ∙ ap (λ (ys : List ℕ). table (sets l i ys) (i + length ys)) (rows-cell (x .0)))
-as-run (bad z) l i = refl
-
--- one partition
-module _ (lengthsOf : ℕ → List ℕ) (c : Class) (s : List ℕ) (k : Cursor) (list : List ℕ) (at : ℕ) (r : Field) (p : outcome r ≡ classValue lengthsOf c s (position k)) where
-  pub partition-cut : {z : Refusal} → r ≡ Refused z → (u : Table) → Wrote (into1 (putRow whole) (partition lengthsOf c s (position k)) (table list at)) (S.Refused z) u
-  unfolding into1 mapped partition
-  partition-cut q u = wrote-refused u (rw (refused-is p q))
-
-  pub partition-read : {v : ℕ} {k₁ : Cursor} → r ≡ Value v k₁ → {st : Step} {u : Table}
-      → Wrote (into (putRow cell) (each (value lengthsOf) (chosen c v (c .dimensions)) s (position k₁)) (table list at)) st u
-      → Wrote (into1 (putRow whole) (partition lengthsOf c s (position k)) (table list at)) st u
-  unfolding partition
-  partition-read {v} {k₁} q w = rw (value-is p q) (wrote-as (as-run (each (value lengthsOf) (chosen c v (c .dimensions)) s (position k₁)) list at) w)
+use Rattle.floor_partition.specs.Partition.{partition, whole}
+use Rattle.floor_values.specs.Values.{partitionOf}
+use Rattle.floor_partition.specs.Lying.{lengthsIn, classIn, ClassLies}
+use Rattle.floor_values.specs.Lying.{floorIn, FloorLies}
 
 -- the classes of a floor, as they lie in the table
 pub classes-long : (t : List ℕ) (at n : ℕ) → length (classesAt t at n) ≡ n

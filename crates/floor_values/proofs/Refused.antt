@@ -15,7 +15,8 @@ use Rattle.codebook.specs.Codeword.{bitsAt, entryOf, orGoOn, matching, firstUse
 use Rattle.floor_class.specs.Content.{Class}
 use Rattle.floors.specs.Content.{Floor}
 use Rattle.floor_class.specs.Decode.{noClass}
-use Rattle.floor_values.specs.Values.{firstBits, classValue, chosen, value, partition, partitionOf, whole, usedValues, floorValues}
+use Rattle.floor_partition.specs.Partition.{classValue, chosen, value, partition, whole}
+use Rattle.floor_values.specs.Values.{firstBits, partitionOf, usedValues, floorValues}
 
 -- a value, or the cut
 abbrev Cut : {A : Type 0} → Outcome A → Type 0

@@ -13,7 +13,8 @@ use Rattle.floor_tables.specs.Stand.{FloorsStand}
 use Rattle.floors.proofs.Decoded.{floor-long, floor-decoded-at}
 use Rattle.numbers.proofs.Lies.{Lies}
 use Rattle.floors.proofs.Laws.{floors-row}
-use Rattle.floor_values.specs.Lying.{floorIn, Readable, FloorLies}
+use Rattle.floor_partition.specs.Lying.{Readable}
+use Rattle.floor_values.specs.Lying.{floorIn, FloorLies}
 
 valid-floor : (b : ℕ) (fs : List Floor) (n : ℕ) → n < length fs → ValidFloors b fs → ValidFloor b (getD fs n noFloor)
 unfolding ValidFloors

@@ -13,7 +13,8 @@ use Rattle.codespace.specs.Book.{used, isUsed, isLone}
 use Rattle.codebook.specs.Codeword.{codeword, firstUsed}
 use Rattle.floors.specs.Content.{Floor}
 use Rattle.floor_points.specs.FinalY.{rangeOf}
-use Rattle.floor_values.specs.Values.{firstBits, classValue, chosen, value, partition, partitionOf, whole, usedValues, floorValues}
+use Rattle.floor_partition.specs.Partition.{classValue, chosen, value, partition, whole}
+use Rattle.floor_values.specs.Values.{firstBits, partitionOf, usedValues, floorValues}
 
 abbrev lengthsOf : ℕ → List ℕ
 lengthsOf zero = 0 ∷ 0 ∷ 1 ∷ []

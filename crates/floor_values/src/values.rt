@@ -1,9 +1,8 @@
 // The values of a floor (004, "packet decode").
-use super::partition;
 use bits::Cursor;
 use bits::Field;
 use bits::Step;
-use floor_tables::table;
+use floor_partition::partition;
 ghost use mathlib.Core.Path.{_≡_};
 ghost use Prim.Native.Nat.{_<_};
 ghost use lib.Seq.{sets};
@@ -13,8 +12,10 @@ ghost use Rattle.reading.specs.Table.{table, putRow};
 ghost use Rattle.bits.specs.Field.{field};
 ghost use Rattle.bits.specs.Cursors.{position, Wrote};
 ghost use Rattle.numbers.specs.Cell.{cell};
-ghost use Rattle.floor_values.specs.Values.{firstBits, partitionOf, whole, usedValues, floorValues, held};
-ghost use Rattle.floor_values.specs.Lying.{lengthsIn, floorIn, FloorLies};
+ghost use Rattle.floor_partition.specs.Partition.{whole};
+ghost use Rattle.floor_partition.specs.Lying.{lengthsIn};
+ghost use Rattle.floor_values.specs.Values.{firstBits, partitionOf, usedValues, floorValues, held};
+ghost use Rattle.floor_values.specs.Lying.{floorIn, FloorLies};
 ghost use Rattle.floor_values.specs.Claims.{FloorValues};
 
 fn byte(x: u16) -> u8
@@ -38,7 +39,7 @@ fn read_first_two(
     requires { ⌜ FloorLies (now floors) (now books) (now lengths) (now words) floor ⌝ }
     ensures { λ r. ⌜ Wrote (into (putRow cell) (many (field (firstBits (floorIn (now (floors .entry)) floor .multiplier))) 2 (now (packet .entry)) (position from)) (table (now (values .entry)) 0)) r (table (now (values .exit)) 2) ⌝ }
 {
-    let range = floor_points::range_of(byte(table::multiplier(floors, floor)));
+    let range = floor_points::range_of(byte(floor_row::multiplier(floors, floor)));
     let width = bits::ilog::ilog(range - 1);
     numbers::read_numbers(packet, from, width, 2, values, 0)
 }
@@ -57,12 +58,12 @@ fn read_partitions(
     requires { ⌜ FloorLies (now floors) (now books) (now lengths) (now words) floor ⌝ }
     ensures { λ r. ⌜ Wrote (mapped (λ l. sets (now (values .entry)) 2 (rows whole l)) (each (partitionOf (lengthsIn (now (books .entry)) (now (lengths .entry))) (floorIn (now (floors .entry)) floor)) (floorIn (now (floors .entry)) floor .partitions) (now (packet .entry)) (position from))) r (now (values .exit)) ⌝ }
 {
-    let count = partition::wide(table::partition_count(floors, floor));
+    let count = partition::wide(floor_row::partition_count(floors, floor));
     let mut next = from;
     let mut at: usize = 2;
     let mut i: usize = 0;
     while i < count {
-        let class = partition::wide(table::partition_class(floors, floor, i));
+        let class = partition::wide(floor_row::partition_class(floors, floor, i));
         match partition::read_partition(
             packet,
             next,
@@ -82,7 +83,7 @@ fn read_partitions(
                 next = after;
             }
         }
-        at = at + partition::wide(table::class_dimensions(floors, floor, class));
+        at = at + partition::wide(floor_row::class_dimensions(floors, floor, class));
         i = i + 1;
     }
     Step::Next(next)

@@ -10,3 +10,4 @@ pub mod Stands
 pub mod Accepted
 pub mod PairRows
 pub mod Runs
+pub mod Parts

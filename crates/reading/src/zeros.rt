@@ -17,3 +17,29 @@ pub fn zeros_u8(buffer: &[u8], from: usize) -> bool
     }
     true
 }
+
+pub fn zeros_u16(buffer: &[u16], from: usize) -> bool
+    ensures { λ r. ⌜ (r ≡ true) ↔ Zeros (drop from (now (buffer .entry))) ⌝ }
+{
+    let mut i = from;
+    while i < buffer.len() {
+        if buffer[i] != 0 {
+            return false;
+        }
+        i = i + 1;
+    }
+    true
+}
+
+pub fn zeros_u32(buffer: &[u32], from: usize) -> bool
+    ensures { λ r. ⌜ (r ≡ true) ↔ Zeros (drop from (now (buffer .entry))) ⌝ }
+{
+    let mut i = from;
+    while i < buffer.len() {
+        if buffer[i] != 0 {
+            return false;
+        }
+        i = i + 1;
+    }
+    true
+}

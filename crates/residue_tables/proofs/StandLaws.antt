@@ -1,16 +1,19 @@
 -- Laws of recognising residues in the tables, as the code asks them. Assumes nothing.
-use Prim.Native.Nat.{ℕ, suc, _+_, _-_, _*_, _^_, _≤_, _<_}
+use Prim.Native.Nat.{ℕ, zero, suc, _+_, _-_, _*_, _^_, _≤_, _<_}
 use native.Mathlib.Nat.{sub-zero}
 use native.Mathlib.Omega.{arith}
-use borrow.Author.Needs.{needs}
-use borrow.Author.Tests.{le-leb, lt-leb, lt-ltb, le-ltb, not-true, not-false}
+use borrow.Author.Tests.{le-leb, lt-leb, lt-ltb, le-ltb, eqb-true, not-true, not-false}
 use mathlib.Core.Bool.{Bool, true, false, not, _&&_}
-use mathlib.Core.List.{List}
-use mathlib.Core.Path.{_≡_, sym, ap, _∙_}
+use mathlib.Core.List.{List, [], _∷_}
+use mathlib.Core.Logic.{_↔_}
+use mathlib.Core.Path.{_≡_, refl, sym, ap, _∙_}
 use lib.Dec.{eqb, leb}
-use lib.ListN.{length, take, drop, length-drop}
-use lib.Seq.{getD-drop, drop-drop, take-all}
+use lib.ListN.{length, take, drop, replicate}
+use lib.Seq.{getD-drop, drop-drop}
 use Rattle.reading.specs.Lists.{all}
+use Rattle.reading.specs.Stand.{Zeros}
+use Rattle.reading.proofs.Least.{and-split}
+use Rattle.reading.proofs.Parts.{part-slice}
 use Rattle.residues.specs.Reading.{Books, Head, placeFits}
 use Rattle.residues.specs.FromTable.{booksOf}
 use Rattle.residues.specs.Heads.{headOf}
@@ -83,6 +86,32 @@ head-dropped l i =
       classbook = getD-drop (6 * i) l 5 0 j;
     }
 
+-- zeros alone, as a test of each number
+zeros-tested : (n : ℕ) → all (λ b. eqb b 0) (replicate n 0) ≡ true
+unfolding all
+zeros-tested zero = refl
+zeros-tested (suc n) = zeros-tested n
+
+tested-zeros : (l : List ℕ) → all (λ b. eqb b 0) l ≡ true → Zeros l
+unfolding all
+tested-zeros [] e = refl
+tested-zeros (x ∷ l) e =
+    let a = and-split (eqb x 0) (all (λ b. eqb b 0) l) e in
+    let b : x ≡ 0 = eqb-true x 0 (a .0) in
+    let c = tested-zeros l (a .1) in
+    λ j. b j ∷ c j
+
+judge : (r : Bool) (l : List ℕ) → (r ≡ true) ↔ Zeros l → r ≡ all (λ b. eqb b 0) l
+judge true l p = sym (ap (all (λ b. eqb b 0)) (p .0 refl) ∙ zeros-tested (length l))
+judge false l p = go (all (λ b. eqb b 0) l) refl
+  where
+    go : (t : Bool) → all (λ b. eqb b 0) l ≡ t → false ≡ t
+    go false e = refl
+    go true e = p .1 (tested-zeros l e)
+
+pub judged : {r : Bool} {l : List ℕ} → (r ≡ true) ↔ Zeros l → r ≡ all (λ b. eqb b 0) l
+judged {r} {l} p = judge r l p
+
 -- one residue: the test in the parts that the code takes it in
 module _ (count : ℕ) (t residues plans : List ℕ) (i : ℕ) (h : D.Head) (e : headOf h ≡ headAt residues i) where
   abbrev whole : Bool
@@ -102,6 +131,13 @@ module _ (count : ℕ) (t residues plans : List ℕ) (i : ℕ) (h : D.Head) (e :
         ap (λ (x : Head). headTest (booksOf count t) x && placesTest (booksOf count t) x (drop (512 * i) plans)) same
         ∙ rw (a, b, ew, ec, ← drop-drop (8 * h .classifications) (512 * i) plans)
 
+    -- what lies behind the places in use, of the 512 of a plan
+    behind-used : drop (8 * c) (take (512 * w + 512 - 512 * w) (drop (512 * w) plans)) ≡ take (512 * w + 512 - (512 * w + 8 * c)) (drop (512 * w + 8 * c) plans)
+    behind-used =
+        let a : 512 * w + 512 - 512 * w ≡ 512 = omega arith in
+        let b : 512 * w + 512 - (512 * w + 8 * c) ≡ 512 - 8 * c = omega arith in
+        rw (a, b, ← drop-drop (8 * c) (512 * w) plans) (sym (part-slice (8 * c) 512 (drop (512 * w) plans)))
+
     module _ {rh : Bool} (ph : rh ≡ headTest (booksOf count t) (headOf h)) where
       pub head-fails : not rh ≡ true → false ≡ whole
       head-fails q = sym (parts ∙ rw (← ph, not-true rh q))
@@ -115,8 +151,10 @@ module _ (count : ℕ) (t residues plans : List ℕ) (i : ℕ) (h : D.Head) (e :
           pub fits-fails : not r₂ ≡ true → false ≡ whole
           fits-fails q = sym (parts ∙ rw (← ph, not-false rh qh, ← p₁, not-false r₁ q₁, ← p₂, not-true r₂ q))
 
-          pub stands-whole : not r₂ ≡ false → (r₃ : Bool) → r₃ ≡ all (λ b. eqb b 0) (take (512 * w + 512 - (512 * w + 8 * c)) (drop (512 * w + 8 * c) plans)) → r₃ ≡ whole
-          stands-whole q r₃ p₃ = sym (parts ∙ rw (← ph, not-false rh qh, ← p₁, not-false r₁ q₁, ← p₂, not-false r₂ q, ← p₃))
+          pub stands-whole : not r₂ ≡ false → (r₃ : Bool) → (r₃ ≡ true) ↔ Zeros (drop (8 * c) (take (512 * w + 512 - 512 * w) (drop (512 * w) plans))) → r₃ ≡ whole
+          stands-whole q r₃ z =
+              let p₃ : r₃ ≡ all (λ b. eqb b 0) (take (512 * w + 512 - (512 * w + 8 * c)) (drop (512 * w + 8 * c) plans)) = judged z ∙ ap (all (λ b. eqb b 0)) behind-used in
+              sym (parts ∙ rw (← ph, not-false rh qh, ← p₁, not-false r₁ q₁, ← p₂, not-false r₂ q, ← p₃))
 
 -- all residues: i are done
 module _ (books : Books) (n : ℕ) (residues plans : List ℕ) where
@@ -151,23 +189,24 @@ module _ (books : Books) (n : ℕ) (residues plans : List ℕ) where
     -- the zeros behind the last residue
     module _ (h : n ≤ i) {m : ℕ} (em : m ≡ n) where
       behind : residuesTest books n residues plans
-          ≡ all (λ b. eqb b 0) (take (length residues - 6 * m) (drop (6 * m) residues)) && all (λ b. eqb b 0) (take (length plans - 512 * m) (drop (512 * m) plans))
+          ≡ all (λ b. eqb b 0) (drop (6 * m) residues) && all (λ b. eqb b 0) (drop (512 * m) plans)
       unfolding residuesTest
       behind =
           let a = w .within in
           let x : n - i ≡ 0 = omega arith in
           let y : i ≡ m = omega arith in
-          let u : take (length residues - 6 * m) (drop (6 * m) residues) ≡ drop (6 * m) residues = take-all (length residues - 6 * m) (drop (6 * m) residues) (simp length-drop (omega arith)) in
-          let v : take (length plans - 512 * m) (drop (512 * m) plans) ≡ drop (512 * m) plans = take-all (length plans - 512 * m) (drop (512 * m) plans) (simp length-drop (omega arith)) in
-          sym (w .rest) ∙ rw (x, y, u, v)
+          sym (w .rest) ∙ rw (x, y)
 
-      module _ {r : Bool} (p : r ≡ all (λ b. eqb b 0) (take (length residues - 6 * m) (drop (6 * m) residues))) where
+      module _ {r : Bool} (z : (r ≡ true) ↔ Zeros (drop (6 * m) residues)) where
+        p : r ≡ all (λ b. eqb b 0) (drop (6 * m) residues)
+        p = judged z
+
         pub tail-failed : not r ≡ true → residuesTest books n residues plans ≡ false
         tail-failed q = behind ∙ rw (← p, not-true r q)
 
-        pub tail-judged : not r ≡ false → {m₂ : ℕ} → m₂ ≡ n → {r₂ : Bool} → r₂ ≡ all (λ b. eqb b 0) (take (length plans - 512 * m₂) (drop (512 * m₂) plans))
+        pub tail-judged : not r ≡ false → {m₂ : ℕ} → m₂ ≡ n → {r₂ : Bool} → (r₂ ≡ true) ↔ Zeros (drop (512 * m₂) plans)
             → residuesTest books n residues plans ≡ r₂
-        tail-judged q {m₂} e {r₂} p₂ =
-            let s : r₂ ≡ all (λ b. eqb b 0) (take (length plans - 512 * m) (drop (512 * m) plans)) =
-            p₂ ∙ ap (λ (k : ℕ). all (λ b. eqb b 0) (take (length plans - 512 * k) (drop (512 * k) plans))) (e ∙ sym em) in
+        tail-judged q {m₂} e {r₂} z₂ =
+            let s : r₂ ≡ all (λ b. eqb b 0) (drop (512 * m) plans) =
+            judged z₂ ∙ ap (λ (k : ℕ). all (λ b. eqb b 0) (drop (512 * k) plans)) (e ∙ sym em) in
             behind ∙ rw (← p, not-false r q) (sym s)

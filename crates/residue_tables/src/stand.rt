@@ -4,8 +4,8 @@ ghost use mathlib.Core.Path.{_≡_};
 ghost use mathlib.Core.Bool.{true};
 ghost use mathlib.Core.Logic.{_↔_};
 ghost use Prim.Native.Nat.{_-_, _*_, _≤_};
-ghost use lib.Dec.{eqb, leb};
-ghost use lib.ListN.{take, drop};
+ghost use lib.Dec.{leb};
+ghost use lib.ListN.{length, take, drop};
 ghost use Rattle.reading.specs.Lists.{all};
 ghost use Rattle.residues.specs.FromTable.{booksOf};
 ghost use Rattle.residues.specs.Heads.{headOf};
@@ -21,39 +21,6 @@ fn wider(x: u16) -> u32
     ensures { λ r. ⌜ r ≡ x ⌝ }
 {
     x as u32
-}
-
-// The numbers from `from` up to `to` are all zero; past the table's end there is none.
-fn zeros(places: &[u16], from: usize, to: usize) -> bool
-    ensures { λ r. ⌜ r ≡ all (λ b. eqb b 0) (take (to - from) (drop from (now (places .entry)))) ⌝ }
-{
-    let mut i = from;
-    while i < to {
-        if places.len() <= i {
-            return true;
-        }
-        if places[i] != 0 {
-            return false;
-        }
-        i = i + 1;
-    }
-    true
-}
-
-fn zeros_wide(numbers: &[u32], from: usize, to: usize) -> bool
-    ensures { λ r. ⌜ r ≡ all (λ b. eqb b 0) (take (to - from) (drop from (now (numbers .entry)))) ⌝ }
-{
-    let mut i = from;
-    while i < to {
-        if numbers.len() <= i {
-            return true;
-        }
-        if numbers[i] != 0 {
-            return false;
-        }
-        i = i + 1;
-    }
-    true
 }
 
 // The places from `from` up to `to` name books that are set up.
@@ -108,7 +75,7 @@ fn head_stands(head: Head, count: u32, books: &[u32]) -> bool
 
 // Residue `index` of the tables meets every rule.
 fn stands(residues: &[u32], plans: &[u16], index: u32, count: u32, books: &[u32]) -> bool
-    requires { ⌜ index ≤ 63 ⌝ }
+    requires { ⌜ (index ≤ 63) × (32768 ≤ length (now plans)) ⌝ }
     ensures { λ r. ⌜ r ≡ residueTest (booksOf count (now (books .entry))) (drop (6 * index) (now (residues .entry))) (drop (512 * index) (now (plans .entry))) ⌝ }
 {
     let head = crate::table::head(residues, index);
@@ -116,14 +83,15 @@ fn stands(residues: &[u32], plans: &[u16], index: u32, count: u32, books: &[u32]
         return false;
     }
     let first = 512 * wide(index);
-    let last = first + 8 * wide(head.classifications);
+    let used = 8 * wide(head.classifications);
+    let last = first + used;
     if !places_set_up(plans, first, last, count) {
         return false;
     }
     if !residues::fits::places_fit(plans, first, last, head.size, books) {
         return false;
     }
-    zeros(plans, last, first + 512)
+    reading::zeros::zeros_u16(&plans[first..first + 512], used)
 }
 
 // Whether the tables are those of `n` residues.
@@ -145,8 +113,8 @@ pub fn are_residues(residues: &[u32], plans: &[u16], n: u32, count: u32, books: 
         }
         i = i + 1;
     }
-    if !zeros_wide(residues, 6 * wide(n), residues.len()) {
+    if !reading::zeros::zeros_u32(residues, 6 * wide(n)) {
         return false;
     }
-    zeros(plans, 512 * wide(n), plans.len())
+    reading::zeros::zeros_u16(plans, 512 * wide(n))
 }

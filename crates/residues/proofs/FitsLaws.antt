@@ -88,16 +88,6 @@ module _ (f : ℕ → Bool) (l : List ℕ) (from to : ℕ) where
 
 pub ruleset testing-laws = (needs, test-start, test-done, test-past, test-failed, test-next)
 
--- the same where the test is that a number is zero
-module _ (l : List ℕ) (from to : ℕ) {i : ℕ} (w : Testing (λ b. eqb b 0) l from to i) (h : i < to) (g : i < length l) where
-  pub zero-failed : (getD l i 0 ≡ 0 → ⊥) → false ≡ all (λ b. eqb b 0) (take (to - from) (drop from l))
-  zero-failed n = test-failed (λ b. eqb b 0) l from to w h g {v = getD l i 0} refl {r = eqb (getD l i 0) 0} refl (ap not (ne-eqb (getD l i 0) 0 n))
-
-  pub zero-next : getD l i 0 ≡ 0 → Testing (λ b. eqb b 0) l from to (i + 1)
-  zero-next e = test-next (λ b. eqb b 0) l from to w h g {v = getD l i 0} refl {r = eqb (getD l i 0) 0} refl (ap not (eq-eqb (getD l i 0) 0 e))
-
-pub ruleset zero-laws = (needs, test-start, test-done, test-past, zero-failed, zero-next)
-
 -- a test of the first rows of a grid
 module _ (f : ℕ → Bool) (plan : List (List ℕ)) (classes : ℕ) where
   pub record TestingRows (i : ℕ) : Type 0 where

@@ -16,8 +16,10 @@ use Rattle.rules.proofs.Laws.{accepted-meets, meets-accepted}
 use Rattle.book.specs.Content.{Book}
 use Rattle.books.specs.Reading.{Before, andThis}
 use Rattle.books.specs.Valid.{ValidBook, ValidBooks}
-use Rattle.floors.specs.Content.{Class, Floor}
-use Rattle.floors.specs.Valid.{ValidClass, ValidClasses, ValidFloor}
+use Rattle.floor_class.specs.Content.{Class}
+use Rattle.floors.specs.Content.{Floor}
+use Rattle.floor_class.specs.Valid.{ValidClass, ValidClasses}
+use Rattle.floors.specs.Valid.{ValidFloor}
 use Rattle.residues.specs.Content.{Residue}
 use Rattle.residues.specs.Reading.{Books}
 use Rattle.residues.specs.Valid.{ValidResidue}

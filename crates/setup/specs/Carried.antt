@@ -10,7 +10,8 @@ use Rattle.reading.specs.Lists.{all}
 use Rattle.reading.specs.Stand.{Each}
 use Rattle.book.specs.Content.{Book}
 use Rattle.books.specs.Valid.{NoLookup, SomeLookup}
-use Rattle.floors.specs.Content.{Class, Floor, classCount, valueCount}
+use Rattle.floor_class.specs.Content.{Class}
+use Rattle.floors.specs.Content.{Floor, classCount, valueCount}
 use Rattle.residues.specs.Content.{Residue}
 use Rattle.residues.specs.Valid.{Rows8}
 use Rattle.mappings.specs.Content.{Mapping}

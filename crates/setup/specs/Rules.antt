@@ -11,7 +11,9 @@ use Rattle.reading.specs.Stand.{Each}
 use Rattle.limits.specs.declared.Limits.{Limits}
 use Rattle.rules.specs.Rules as Rule
 use Rattle.book.specs.Content.{Book}
-use Rattle.floors.specs.Content.{Class, Floor, xList}
+use Rattle.floor_class.specs.Content.{Class}
+use Rattle.floors.specs.Content.{Floor}
+use Rattle.floor_x_list.specs.Content.{xList}
 use Rattle.residues.specs.Content.{Residue}
 use Rattle.residues.specs.Reading.{Books, residueFits}
 use Rattle.mappings.specs.Content.{Coupling, Submap, Mapping}

@@ -51,7 +51,7 @@ pub fn are_counts(counts: &[u32]) -> bool
     if !is_count(counts, 4, 64) {
         return false;
     }
-    book_tables::clear::zeros_u32(counts, 5)
+    reading::zeros::zeros_u32(counts, 5)
 }
 
 // Each kind's tables with its count.

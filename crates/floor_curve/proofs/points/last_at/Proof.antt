@@ -3,8 +3,8 @@ use Prim.Native.Nat.{ℕ, _+_, _-_, _≤_, _<_}
 use native.Mathlib.Omega.{arith}
 use mathlib.Core.Path.{_≡_, _∙_}
 use lib.ListN.{length}
-use Rattle.floor_points.proofs.Searching.{turned, turned-below, ended}
-use Rattle.floor_points.specs.Search.{searched}
+use Rattle.floor_line.proofs.Searching.{turned, turned-below, ended}
+use Rattle.floor_line.specs.Search.{searched}
 use Rattle.floor_curve.specs.Curve.{takesLeft, lastAt}
 use Rattle.floor_curve.proofs.PointLaws.{left-begun, is-last}
 use borrow.Author.Needs.{needs}

@@ -1,5 +1,6 @@
 -- `floor_points::heights::final_points` meets its contract. The parts, one after the other, are the definition. Assumes nothing.
-use Rattle.floor_points.proofs.Stepping.{made-points, made-y, made-flags}
+use Rattle.floor_points.proofs.Stepping.{ready-kept, made-points, made-y, made-flags}
+use native.Mathlib.Omega.{arith}
 use borrow.Author.Needs.{needs}
 use Rattle.floor_points.proofs.heights.final_points.Statement.{statement}
 use Rattle.floor_points.proofs.heights.final_points.Tie as tie
@@ -11,7 +12,7 @@ begin-flags-requires : tie.Need-begin-flags-requires
 begin-flags-requires c κs = search needs
 
 steps-requires : tie.Need-steps-requires
-steps-requires c κs = search needs
+steps-requires c κs = (ready-kept (c .before .before .before .before .before .before .before .before .before .before .before .before .before .before .before .pre .0) (omega arith) (omega arith), c .before .before .before .before .before .before .before .before .begin-heights .ensures .1)
 
 clamp-all-requires : tie.Need-clamp-all-requires
 clamp-all-requires c κs = search needs

@@ -40,26 +40,26 @@ loop-again c = standing-next _ _ _ _ (c .before .before .before .loop .inv) (sea
 wide-requires : tie.Need-wide-requires Inv-loop μ-loop
 wide-requires c κs = search needs
 
-mul-zeros-wide : tie.Need-mul-zeros-wide Inv-loop μ-loop
-mul-zeros-wide c = search needs
+mul-zeros-u32 : tie.Need-mul-zeros-u32 Inv-loop μ-loop
+mul-zeros-u32 c = search needs
 
-zeros-wide-requires : tie.Need-zeros-wide-requires Inv-loop μ-loop
-zeros-wide-requires c κs = search needs
+zeros-u32-requires : tie.Need-zeros-u32-requires Inv-loop μ-loop
+zeros-u32-requires c κs = search needs
 
 returns-4 : tie.Need-returns-4 Inv-loop μ-loop
-returns-4 c = (stand-iff (booksOf (c .before .before .before .before .before .before .before .before .before .before .args .count) (c .before .before .before .before .before .before .before .before .before .before .args .books .now)) (c .before .before .before .before .before .before .before .before .before .before .args .n) (c .before .before .before .before .before .before .before .before .before .before .args .residues .now) (c .before .before .before .before .before .before .before .before .before .before .args .plans .now) (c .before .before .before .before .before .before .before .before .before .before .pre) (search needs) (search needs) (tail-failed _ _ _ _ (c .before .before .before .before .loop .inv) (search needs) (c .before .before .wide .ensures) (c .before .zeros-wide .ensures) (c .if4 .taken)), one-content (booksOf (c .before .before .before .before .before .before .before .before .before .before .args .count) (c .before .before .before .before .before .before .before .before .before .before .args .books .now)) (c .before .before .before .before .before .before .before .before .before .before .args .n) (c .before .before .before .before .before .before .before .before .before .before .args .residues .now) (c .before .before .before .before .before .before .before .before .before .before .args .plans .now) (c .before .before .before .before .before .before .before .before .before .before .pre))
+returns-4 c = (stand-iff (booksOf (c .before .before .before .before .before .before .before .before .before .before .args .count) (c .before .before .before .before .before .before .before .before .before .before .args .books .now)) (c .before .before .before .before .before .before .before .before .before .before .args .n) (c .before .before .before .before .before .before .before .before .before .before .args .residues .now) (c .before .before .before .before .before .before .before .before .before .before .args .plans .now) (c .before .before .before .before .before .before .before .before .before .before .pre) (search needs) (search needs) (tail-failed _ _ _ _ (c .before .before .before .before .loop .inv) (search needs) (c .before .before .wide .ensures) (c .before .zeros-u32 .ensures) (c .if4 .taken)), one-content (booksOf (c .before .before .before .before .before .before .before .before .before .before .args .count) (c .before .before .before .before .before .before .before .before .before .before .args .books .now)) (c .before .before .before .before .before .before .before .before .before .before .args .n) (c .before .before .before .before .before .before .before .before .before .before .args .residues .now) (c .before .before .before .before .before .before .before .before .before .before .args .plans .now) (c .before .before .before .before .before .before .before .before .before .before .pre))
 
 wide-requires-2 : tie.Need-wide-requires-2 Inv-loop μ-loop
 wide-requires-2 c κs = search needs
 
-mul-zeros : tie.Need-mul-zeros Inv-loop μ-loop
-mul-zeros c = search needs
+mul-zeros-u16 : tie.Need-mul-zeros-u16 Inv-loop μ-loop
+mul-zeros-u16 c = search needs
 
-zeros-requires : tie.Need-zeros-requires Inv-loop μ-loop
-zeros-requires c κs = search needs
+zeros-u16-requires : tie.Need-zeros-u16-requires Inv-loop μ-loop
+zeros-u16-requires c κs = search needs
 
 returns-5 : tie.Need-returns-5 Inv-loop μ-loop
-returns-5 c = (stand-iff (booksOf (c .before .before .before .before .before .before .before .before .before .before .before .before .args .count) (c .before .before .before .before .before .before .before .before .before .before .before .before .args .books .now)) (c .before .before .before .before .before .before .before .before .before .before .before .before .args .n) (c .before .before .before .before .before .before .before .before .before .before .before .before .args .residues .now) (c .before .before .before .before .before .before .before .before .before .before .before .before .args .plans .now) (c .before .before .before .before .before .before .before .before .before .before .before .before .pre) (search needs) (search needs) (tail-judged _ _ _ _ (c .before .before .before .before .before .before .loop .inv) (search needs) (c .before .before .before .before .wide .ensures) (c .before .before .before .zeros-wide .ensures) (c .before .before .if4 .left) (c .before .wide2 .ensures) (c .zeros .ensures)), one-content (booksOf (c .before .before .before .before .before .before .before .before .before .before .before .before .args .count) (c .before .before .before .before .before .before .before .before .before .before .before .before .args .books .now)) (c .before .before .before .before .before .before .before .before .before .before .before .before .args .n) (c .before .before .before .before .before .before .before .before .before .before .before .before .args .residues .now) (c .before .before .before .before .before .before .before .before .before .before .before .before .args .plans .now) (c .before .before .before .before .before .before .before .before .before .before .before .before .pre))
+returns-5 c = (stand-iff (booksOf (c .before .before .before .before .before .before .before .before .before .before .before .before .args .count) (c .before .before .before .before .before .before .before .before .before .before .before .before .args .books .now)) (c .before .before .before .before .before .before .before .before .before .before .before .before .args .n) (c .before .before .before .before .before .before .before .before .before .before .before .before .args .residues .now) (c .before .before .before .before .before .before .before .before .before .before .before .before .args .plans .now) (c .before .before .before .before .before .before .before .before .before .before .before .before .pre) (search needs) (search needs) (tail-judged _ _ _ _ (c .before .before .before .before .before .before .loop .inv) (search needs) (c .before .before .before .before .wide .ensures) (c .before .before .before .zeros-u32 .ensures) (c .before .before .if4 .left) (c .before .wide2 .ensures) (c .zeros-u16 .ensures)), one-content (booksOf (c .before .before .before .before .before .before .before .before .before .before .before .before .args .count) (c .before .before .before .before .before .before .before .before .before .before .before .before .args .books .now)) (c .before .before .before .before .before .before .before .before .before .before .before .before .args .n) (c .before .before .before .before .before .before .before .before .before .before .before .before .args .residues .now) (c .before .before .before .before .before .before .before .before .before .before .before .before .args .plans .now) (c .before .before .before .before .before .before .before .before .before .before .before .before .pre))
 
 pub are-residues-spec : {M : Type 1} → statement M
 are-residues-spec =
@@ -76,10 +76,10 @@ are-residues-spec =
     loop-less
     loop-again
     wide-requires
-    mul-zeros-wide
-    zeros-wide-requires
+    mul-zeros-u32
+    zeros-u32-requires
     returns-4
     wide-requires-2
-    mul-zeros
-    zeros-requires
+    mul-zeros-u16
+    zeros-u16-requires
     returns-5)

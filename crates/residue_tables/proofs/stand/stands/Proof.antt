@@ -23,8 +23,8 @@ mul-first c = search needs
 wide-requires-2 : tie.Need-wide-requires-2
 wide-requires-2 c κs = search needs
 
-mul-last : tie.Need-mul-last
-mul-last c = search needs
+mul-used : tie.Need-mul-used
+mul-used c = search needs
 
 add-last : tie.Need-add-last
 add-last c = search needs
@@ -41,14 +41,26 @@ places-fit-requires c κs = search needs
 returns-3 : tie.Need-returns-3
 returns-3 c = fits-fails (c .before .before .before .before .before .before .before .before .before .before .before .before .args .count) (c .before .before .before .before .before .before .before .before .before .before .before .before .args .books .now) (c .before .before .before .before .before .before .before .before .before .before .before .before .args .residues .now) (c .before .before .before .before .before .before .before .before .before .before .before .before .args .plans .now) (c .before .before .before .before .before .before .before .before .before .before .before .before .args .index) (c .before .before .before .before .before .before .before .before .head .result) (c .before .before .before .before .before .before .before .before .head .ensures) (c .before .before .before .before .before .wide .ensures) (c .before .before .before .before .wide2 .ensures) (c .before .before .before .before .before .before .before .head-stands .ensures) (c .before .before .before .before .before .before .if1 .left) (c .before .before .before .places-set-up .ensures) (c .before .before .if2 .left) (c .before .places-fit .ensures) (c .if3 .taken)
 
-add-zeros : tie.Need-add-zeros
-add-zeros c = search needs
+add-zeros-u16 : tie.Need-add-zeros-u16
+add-zeros-u16 c = search needs
 
-zeros-requires : tie.Need-zeros-requires
-zeros-requires c κs = search needs
+mul-zeros-u16 : tie.Need-mul-zeros-u16
+mul-zeros-u16 c = search needs
+
+sub-zeros-u16 : tie.Need-sub-zeros-u16
+sub-zeros-u16 c = search needs
+
+part-zeros-u16-start : tie.Need-part-zeros-u16-start
+part-zeros-u16-start c = search needs
+
+part-zeros-u16-end : tie.Need-part-zeros-u16-end
+part-zeros-u16-end c = search needs
+
+zeros-u16-requires : tie.Need-zeros-u16-requires
+zeros-u16-requires c κs = search needs
 
 returns-4 : tie.Need-returns-4
-returns-4 c = stands-whole (c .before .before .before .before .before .before .before .before .before .before .before .before .before .args .count) (c .before .before .before .before .before .before .before .before .before .before .before .before .before .args .books .now) (c .before .before .before .before .before .before .before .before .before .before .before .before .before .args .residues .now) (c .before .before .before .before .before .before .before .before .before .before .before .before .before .args .plans .now) (c .before .before .before .before .before .before .before .before .before .before .before .before .before .args .index) (c .before .before .before .before .before .before .before .before .before .head .result) (c .before .before .before .before .before .before .before .before .before .head .ensures) (c .before .before .before .before .before .before .wide .ensures) (c .before .before .before .before .before .wide2 .ensures) (c .before .before .before .before .before .before .before .before .head-stands .ensures) (c .before .before .before .before .before .before .before .if1 .left) (c .before .before .before .before .places-set-up .ensures) (c .before .before .before .if2 .left) (c .before .before .places-fit .ensures) (c .before .if3 .left) _ (c .zeros .ensures)
+returns-4 c = stands-whole (c .before .before .before .before .before .before .before .before .before .before .before .before .before .before .args .count) (c .before .before .before .before .before .before .before .before .before .before .before .before .before .before .args .books .now) (c .before .before .before .before .before .before .before .before .before .before .before .before .before .before .args .residues .now) (c .before .before .before .before .before .before .before .before .before .before .before .before .before .before .args .plans .now) (c .before .before .before .before .before .before .before .before .before .before .before .before .before .before .args .index) (c .before .before .before .before .before .before .before .before .before .before .head .result) (c .before .before .before .before .before .before .before .before .before .before .head .ensures) (c .before .before .before .before .before .before .before .wide .ensures) (c .before .before .before .before .before .before .wide2 .ensures) (c .before .before .before .before .before .before .before .before .before .head-stands .ensures) (c .before .before .before .before .before .before .before .before .if1 .left) (c .before .before .before .before .before .places-set-up .ensures) (c .before .before .before .before .if2 .left) (c .before .before .before .places-fit .ensures) (c .before .before .if3 .left) _ (c .zeros-u16 .ensures)
 
 pub stands-spec : {M : Type 1} → statement M
 stands-spec =
@@ -60,12 +72,16 @@ stands-spec =
     wide-requires
     mul-first
     wide-requires-2
-    mul-last
+    mul-used
     add-last
     places-set-up-requires
     returns-2
     places-fit-requires
     returns-3
-    add-zeros
-    zeros-requires
+    add-zeros-u16
+    mul-zeros-u16
+    sub-zeros-u16
+    part-zeros-u16-start
+    part-zeros-u16-end
+    zeros-u16-requires
     returns-4)

@@ -1,0 +1,5 @@
+pub mod Integers
+pub mod LineLaws
+pub mod RenderLaws
+pub mod Searching
+pub mod Choosing

@@ -1,0 +1,5 @@
+pub mod Line
+pub mod LineHeight
+pub mod RenderLine
+pub mod Search
+pub mod Neighbours

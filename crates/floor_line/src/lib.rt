@@ -1,0 +1,3 @@
+// Floor 1: the line rule, and the neighbours of a place, between which a line is drawn (01, "Audio order" 3).
+pub mod lines;
+pub mod neighbours;

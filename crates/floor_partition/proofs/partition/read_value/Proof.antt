@@ -1,0 +1,62 @@
+-- `floor_partition::partition::read_value` meets its contract: a law for each way out (proofs/ClassLaws). Assumes nothing.
+use Rattle.floor_partition.proofs.ClassLaws.{value-none, value-low, value-lies, value-cut, value-fits, value-read}
+use borrow.Author.Needs.{needs}
+use Rattle.floor_partition.proofs.partition.read_value.Statement.{statement}
+use Rattle.floor_partition.proofs.partition.read_value.Tie as tie
+
+put-u16-requires : tie.Need-put-u16-requires
+put-u16-requires c κs = search needs
+
+same-length : tie.Need-same-length
+same-length c = search needs
+
+returns : tie.Need-returns
+returns c = search (needs, value-none)
+
+long-requires : tie.Need-long-requires
+long-requires c κs = search needs
+
+sub-read-entry : tie.Need-sub-read-entry
+sub-read-entry c = search (needs, value-low)
+
+read-entry-requires : tie.Need-read-entry-requires
+read-entry-requires c κs = search (needs, value-lies)
+
+enum-known-z : tie.Need-enum-known-z
+enum-known-z c = search needs
+
+enum-known-entry : tie.Need-enum-known-entry
+enum-known-entry c = search needs
+
+narrow-requires : tie.Need-narrow-requires
+narrow-requires c κs = value-fits (c .before .before .before .before .before .before .before .before .before .before .before .before .pre) _ _ (c .before .before .before .before .before .before .if1 .left) (c .before .before .before .before .before .long .ensures) _ (c .before .before .before .before .read-entry .ensures .0) (c .before .before .entry .given .1)
+
+put-u16-requires-2 : tie.Need-put-u16-requires-2
+put-u16-requires-2 c κs = search needs
+
+returns-2 : tie.Need-returns-2
+returns-2 c = value-cut (c .before .before .before .before .before .before .before .before .before .before .before .pre) _ _ (c .before .before .before .before .before .if1 .left) (c .before .before .before .before .long .ensures) _ (c .before .before .before .read-entry .ensures .0) (c .before .z .given .1) _ _ _
+
+same-length-2 : tie.Need-same-length-2
+same-length-2 c = search needs
+
+returns-3 : tie.Need-returns-3
+returns-3 c = value-read (c .before .before .before .before .before .before .before .before .before .before .before .before .before .before .before .before .pre) _ _ (c .before .before .before .before .before .before .before .before .before .before .if1 .left) (c .before .before .before .before .before .before .before .before .before .long .ensures) _ (c .before .before .before .before .before .before .before .before .read-entry .ensures .0) (c .before .before .before .before .before .before .entry .given .1) (c .before .before .before .narrow .ensures) _ _ _ (c .before .before .put-u162 .ensures)
+
+pub read-value-spec : {M : Type 1} → statement M
+read-value-spec =
+    tie.close
+    (tie.spec
+    put-u16-requires
+    same-length
+    returns
+    long-requires
+    sub-read-entry
+    read-entry-requires
+    enum-known-z
+    enum-known-entry
+    narrow-requires
+    put-u16-requires-2
+    returns-2
+    same-length-2
+    returns-3)
