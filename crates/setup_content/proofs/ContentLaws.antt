@@ -1,124 +1,74 @@
 -- Laws of a packet's content in all tables, as the code asks them. Assumes nothing.
-use Prim.Native.Nat.{ℕ, _+_, _*_, _≤_, _<_}
+use Prim.Native.Nat.{ℕ, _≤_}
 use native.Mathlib.Omega.{arith}
-use borrow.Author.Needs.{needs}
 use mathlib.Core.Bool.{true}
 use mathlib.Core.List.{List, [], _∷_}
-use mathlib.Core.Path.{_≡_, refl, sym, ap, subst, _∙_}
-use lib.ListN.{length, replicate}
-use lib.Seq.{sets}
-use Rattle.reading.specs.Outcome.{Outcome, ok, bad, then}
+use mathlib.Core.Path.{_≡_, ap, subst, _∙_}
+use lib.ListN.{length}
 use Rattle.reading.specs.Pad.{pad}
-use Rattle.reading.specs.Stand.{Zeros}
-use Rattle.reading.proofs.Tables.{sets-cleared}
 use Rattle.bits.specs.declared.Cursor.{Cursor}
 use Rattle.bits.specs.declared.Refusal.{Refusal}
-use Rattle.bits.specs.declared.Field.{Field}
-use Rattle.bits.specs.declared.Field.the-variants as F
 use Rattle.bits.specs.declared.Step.{Step}
 use Rattle.bits.specs.declared.Step.the-variants as S
-use Rattle.bits.specs.Cursors.{position, outcome, stepped}
-use Rattle.bits.proofs.Answers.{value-is, refused-is}
-use Rattle.bits.proofs.Steps.{next-is, stop-is}
-use Rattle.header.specs.Header.{commonHeader, framing}
+use Rattle.bits.specs.Cursors.{position}
 use Rattle.limits.specs.declared.Limits.{Limits}
+use Rattle.books.specs.Lent.{Lent}
 use Rattle.residues.specs.Reading.{Books}
 use Rattle.residues.specs.FromTable.{booksOf}
 use Rattle.setup.specs.Content.{Setup, booksKnown}
-use Rattle.setup.specs.Layout.{Tables, tables, layout, hasRoom, writtenOut, cleared}
-use Rattle.setup.specs.Parts.{Laid, BooksLie, BooksLent, BehindLie, RestLie, Ready, Small, WrittenOut, bookPart, behindBooks, restPart, setupWith, behindHeader, packetPart}
+use Rattle.setup.specs.Layout.{tables, layout, hasRoom, writtenOut}
+use Rattle.setup.specs.Parts.{Laid, BooksLie, BooksLent, RestLie, Small, WrittenOut, bookPart, restPart, setupWith, behindHeader}
 use Rattle.setup.proofs.LaidLaws.{laid-bad, laid-ok, laid-refused}
 use Rattle.setup.proofs.TableLaws.{room-parts}
-use Rattle.setup_parts.proofs.PartLaws.{skipped, followed}
+use Rattle.setup_parts.proofs.PartLaws.{followed}
 use Rattle.setup.proofs.BookLinks.{books-link}
+use Rattle.setup_lent.specs.Blank.{Blank}
+use Rattle.setup_lent.proofs.BlankLaws.{cleared-long, cleared-zeros, relent}
 
--- the framing bit, of which the position stays
-module _ (s : List ℕ) (k : Cursor) {r : Field} (p : outcome r ≡ framing s (position k)) where
-  pub framing-bad : {z : Refusal} → r ≡ F.Refused z → stepped (S.Refused z) ≡ then (framing s (position k)) (λ x. ok (x .1))
-  unfolding stepped
-  framing-bad q = rw (refused-is p q)
-
-  pub framing-set : {v : ℕ} {c : Cursor} → r ≡ F.Value v c → stepped (S.Next c) ≡ then (framing s (position k)) (λ x. ok (x .1))
-  unfolding stepped
-  framing-set q = rw (value-is p q)
-
-pub ruleset framing-laws = (needs, framing-bad, framing-set)
-
--- what tables that are ready are lent as
-module _ {limits : Limits} {channels : ℕ} {c b l w m f r p a o : List ℕ} (y : Ready limits channels (tables c b l w m f r p a o)) where
-  pub ready-books : BooksLent limits b l w m
-  unfolding cleared
-  ready-books =
-      let t = tables c b l w m f r p a o in
-      let d = room-parts limits t (y .room) in
+-- the books' tables, which are cleared before they are filled
+module _ (limits : Limits) {b b₁ l l₁ w w₁ m m₁ : List ℕ} (e0 : Blank b b₁) (e1 : Blank l l₁) (e2 : Blank w w₁) (e3 : Blank m m₁) where
+  pub books-ready : Lent limits b l w m → BooksLent limits b₁ l₁ w₁ m₁
+  books-ready y =
+      let g0 = cleared-long e0 in
+      let g1 = cleared-long e1 in
+      let g2 = cleared-long e2 in
+      let g3 = cleared-long e3 in
       record {
-        lent = record { books-long = d .books; lengths-long = d .lengths; words-long = d .codewords; multiplicands-long = d .multiplicands; few-entries = y .small .few-entries; few-values = y .small .few-values };
-        no-books = ap (λ (t : Tables). t .books) (y .clear);
-        no-lengths = ap (λ (t : Tables). t .lengths) (y .clear);
-        no-words = ap (λ (t : Tables). t .codewords) (y .clear);
-        no-multiplicands = ap (λ (t : Tables). t .multiplicands) (y .clear);
+        lent = record {
+          books-long = let h = y .books-long in omega arith;
+          lengths-long = let h = y .lengths-long in omega arith;
+          words-long = let h = y .words-long in omega arith;
+          multiplicands-long = let h = y .multiplicands-long in omega arith;
+          few-entries = y .few-entries;
+          few-values = y .few-values;
+        };
+        no-books = cleared-zeros e0;
+        no-lengths = cleared-zeros e1;
+        no-words = cleared-zeros e2;
+        no-multiplicands = cleared-zeros e3;
       }
 
-  pub no-floors : Zeros f
-  unfolding cleared
-  no-floors = ap (λ (t : Tables). t .floors) (y .clear)
+  pub books-cleared : (s : List ℕ) (k : Cursor) {st : Step} {n : ℕ} {b′ l′ w′ m′ : List ℕ} → Laid (bookPart limits s (position k)) st (BooksLie n b₁ b′ l₁ l′ w₁ w′ m₁ m′)
+      → Laid (bookPart limits s (position k)) st (BooksLie n b b′ l l′ w w′ m m′)
+  books-cleared s k h =
+      record {
+        step = h .step;
+        lies = λ x g.
+            let i = h .lies x g in
+            record {
+              count = i .count;
+              books = relent _ e0 (i .books);
+              lengths = relent _ e1 (i .lengths);
+              codewords = relent _ e2 (i .codewords);
+              multiplicands = relent _ e3 (i .multiplicands);
+            };
+      }
 
-  pub no-residues : Zeros r
-  unfolding cleared
-  no-residues = ap (λ (t : Tables). t .residues) (y .clear)
-
-  pub no-plans : Zeros p
-  unfolding cleared
-  no-plans = ap (λ (t : Tables). t .plans) (y .clear)
-
-  pub no-mappings : Zeros a
-  unfolding cleared
-  no-mappings = ap (λ (t : Tables). t .mappings) (y .clear)
-
-  pub no-modes : Zeros o
-  unfolding cleared
-  no-modes = ap (λ (t : Tables). t .modes) (y .clear)
-
-  pub no-counts : Zeros c
-  unfolding cleared
-  no-counts = ap (λ (t : Tables). t .counts) (y .clear)
-
-  pub one-channel : 1 ≤ channels
-  one-channel = y .some-channel
-
-  pub few-channels : channels ≤ 255
-  few-channels = y .few-channels
-
--- what follows the books
-module _ (channels : ℕ) (books : Books) (s : List ℕ) (k : Cursor) {st : Step} {n₁ n₂ n₃ n₄ : ℕ} {f f′ r r′ p p′ a a′ o o′ : List ℕ}
-    (h : Laid (behindBooks channels books s (position k)) st (BehindLie n₁ n₂ n₃ n₄ f f′ r r′ p p′ a a′ o o′)) where
-  pub rest-refused : {z : Refusal} {L : _ → Type 0} → st ≡ S.Refused z → Laid (restPart channels books s (position k)) (S.Refused z) L
-  unfolding restPart
-  rest-refused q = laid-refused (rw (laid-bad h q))
-
-  pub rest-read : {n : ℕ} {c c′ : List ℕ} {at : Cursor} (answer : Step) → Zeros c → c′ ≡ sets c 0 (n ∷ n₁ ∷ n₂ ∷ n₃ ∷ n₄ ∷ []) → st ≡ S.Next at
-      → stepped answer ≡ then (framing s (position at)) (λ x. ok (x .1))
-      → Laid (restPart channels books s (position k)) answer (RestLie n c c′ f f′ r r′ p p′ a a′ o o′)
-  unfolding restPart
-  rest-read {n} {c} {c′} {at} answer zeros e q g =
-      let x = laid-ok h q in
-      let u = x .2 .floor-part in
-      let t = x .2 .mapping-part in
-      let numbers : (n ∷ n₁ ∷ n₂ ∷ n₃ ∷ n₄ ∷ []) ≡ (n ∷ length (x .0 .0 .0) ∷ length (x .0 .0 .1) ∷ length (x .0 .1 .0) ∷ length (x .0 .1 .1) ∷ [])
-      = λ j. n ∷ u .floor-rows .count j ∷ u .residue-rows .count j ∷ t .mapping-rows .count j ∷ t .mode-rows .count j ∷ [] in
-      rw (x .1)
-      (skipped (x .0) (framing s (position at))
-      (record {
-        counts = e ∙ ap (λ (z : List ℕ). sets z 0 (n ∷ n₁ ∷ n₂ ∷ n₃ ∷ n₄ ∷ [])) zeros ∙ sets-cleared (length c) (n ∷ n₁ ∷ n₂ ∷ n₃ ∷ n₄ ∷ []) ∙ ap (pad (length c)) numbers;
-        floors = u .floor-rows .cells;
-        residues = u .residue-rows .residues;
-        plans = u .residue-rows .plans;
-        mappings = t .mapping-rows .cells;
-        modes = t .mode-rows .cells;
-      })
-      g)
-
-pub ruleset rest-laws = (needs, rest-refused, rest-read)
+-- tables with room have room for the books
+pub room-books : (limits : Limits) (c b l w m f r p a o : List ℕ) → hasRoom limits (tables c b l w m f r p a o) ≡ true → Small limits → Lent limits b l w m
+room-books limits c b l w m f r p a o room small =
+    let d = room-parts limits (tables c b l w m f r p a o) room in
+    record { books-long = d .books; lengths-long = d .lengths; words-long = d .codewords; multiplicands-long = d .multiplicands; few-entries = small .few-entries; few-values = small .few-values }
 
 -- what follows the header
 module _ (limits : Limits) (channels : ℕ) (s : List ℕ) (k : Cursor) {st : Step} {n : ℕ} {b b′ l l′ w w′ m m′ : List ℕ}
@@ -127,12 +77,12 @@ module _ (limits : Limits) (channels : ℕ) (s : List ℕ) (k : Cursor) {st : St
   unfolding behindHeader
   content-refused q = laid-refused (rw (laid-bad h q))
 
-  module _ {c f r p a o : List ℕ} (y : Ready limits channels (tables c b l w m f r p a o)) (few : n ≤ 256) where
+  module _ (c f r p a o : List ℕ) (room : hasRoom limits (tables c b l w m f r p a o) ≡ true) (few : n ≤ 256) where
     -- the books that were read are those of the table
     linked : (bs : _) → BooksLie n b b′ l l′ w w′ m m′ bs → booksOf n b′ ≡ booksKnown bs
     linked bs i =
         let e = i .count in
-        let d = room-parts limits (tables c b l w m f r p a o) (y .room) .books in
+        let d = room-parts limits (tables c b l w m f r p a o) room .books in
         ap (booksOf n) (i .books) ∙ books-link (length b) n bs e (omega arith)
 
     out : {c′ f′ r′ p′ a′ o′ : List ℕ} (bs : _) (x : _) → BooksLie n b b′ l l′ w w′ m m′ bs → RestLie n c c′ f f′ r r′ p p′ a a′ o o′ x
@@ -150,17 +100,3 @@ module _ (limits : Limits) (channels : ℕ) (s : List ℕ) (k : Cursor) {st : St
         let x = laid-ok h q in
         let h₃ = subst (λ (z : Books). Laid (restPart channels z s (position at)) answer (RestLie n c c′ f f′ r r′ p p′ a a′ o o′)) (linked (x .0) (x .2)) h₂ in
         rw (x .1) (followed (setupWith (x .0)) (restPart channels (booksKnown (x .0)) s (position at)) h₃ (λ z v. out (x .0) z (x .2) v))
-
-pub ruleset content-laws = (needs, ready-books, no-counts, no-floors, no-residues, no-plans, no-mappings, no-modes, one-channel, few-channels, content-refused, content-read)
-
--- the whole packet
-module _ (limits : Limits) (channels : ℕ) (s : List ℕ) {st : Step} (h : stepped st ≡ commonHeader 5 s) where
-  pub packet-refused : {z : Refusal} {L : Setup → Type 0} → st ≡ S.Refused z → Laid (packetPart limits channels s) (S.Refused z) L
-  unfolding packetPart
-  packet-refused q = laid-refused (rw (stop-is h q))
-
-  pub packet-read : {c : Cursor} {answer : Step} {L : Setup → Type 0} → st ≡ S.Next c → Laid (behindHeader limits channels s (position c)) answer L → Laid (packetPart limits channels s) answer L
-  unfolding packetPart
-  packet-read q l = rw (next-is h q) l
-
-pub ruleset packet-laws = (needs, packet-refused, packet-read)

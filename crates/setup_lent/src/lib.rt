@@ -1,8 +1,13 @@
-// All ten tables of a setup: whether they have room, and clearing them.
+// All ten tables of a setup: whether they have room, clearing them, and how a call leaves them.
+use bits::Refusal;
+use bits::Step;
 use limits::Limits;
 use reading::buffers;
 ghost use mathlib.Core.Path.{_≡_};
 ghost use Rattle.setup.specs.Layout.{hasRoom, cleared, tables};
+ghost use Rattle.setup.specs.Call.{left};
+ghost use Rattle.setup_lent.specs.Blank.{Blank};
+ghost use Rattle.setup_lent.specs.Settled.{settled};
 
 fn wide(x: u32) -> usize
     ensures { λ r. ⌜ r ≡ x ⌝ }
@@ -59,6 +64,39 @@ pub fn have_room(
     true
 }
 
+// The four tables of the books.
+pub fn clear_books(
+    books: &mut [u32],
+    lengths: &mut [u8],
+    words: &mut [u32],
+    multiplicands: &mut [u16],
+)
+    ensures { λ _. ⌜ Blank (now (books .entry)) (now (books .exit)) × Blank (now (lengths .entry)) (now (lengths .exit)) × Blank (now (words .entry)) (now (words .exit)) × Blank (now (multiplicands .entry)) (now (multiplicands .exit)) ⌝ }
+{
+    buffers::clear_u32(books);
+    buffers::clear_u8(lengths);
+    buffers::clear_u32(words);
+    buffers::clear_u16(multiplicands);
+}
+
+// The tables of all that follows the books.
+pub fn clear_behind(
+    floors: &mut [u16],
+    residues: &mut [u32],
+    plans: &mut [u16],
+    mappings: &mut [u8],
+    modes: &mut [u8],
+)
+    ensures { λ _. ⌜ Blank (now (floors .entry)) (now (floors .exit)) × Blank (now (residues .entry)) (now (residues .exit)) × Blank (now (plans .entry)) (now (plans .exit)) × Blank (now (mappings .entry)) (now (mappings .exit)) × Blank (now (modes .entry)) (now (modes .exit)) ⌝ }
+{
+    buffers::clear_u16(floors);
+    buffers::clear_u32(residues);
+    buffers::clear_u16(plans);
+    buffers::clear_u8(mappings);
+    buffers::clear_u8(modes);
+}
+
+// All ten.
 pub fn clear(
     counts: &mut [u32],
     books: &mut [u32],
@@ -74,13 +112,49 @@ pub fn clear(
     ensures { λ _. ⌜ tables (now (counts .exit)) (now (books .exit)) (now (lengths .exit)) (now (words .exit)) (now (multiplicands .exit)) (now (floors .exit)) (now (residues .exit)) (now (plans .exit)) (now (mappings .exit)) (now (modes .exit)) ≡ cleared (tables (now (counts .entry)) (now (books .entry)) (now (lengths .entry)) (now (words .entry)) (now (multiplicands .entry)) (now (floors .entry)) (now (residues .entry)) (now (plans .entry)) (now (mappings .entry)) (now (modes .entry))) ⌝ }
 {
     buffers::clear_u32(counts);
-    buffers::clear_u32(books);
-    buffers::clear_u8(lengths);
-    buffers::clear_u32(words);
-    buffers::clear_u16(multiplicands);
-    buffers::clear_u16(floors);
-    buffers::clear_u32(residues);
-    buffers::clear_u16(plans);
-    buffers::clear_u8(mappings);
-    buffers::clear_u8(modes);
+    clear_books(books, lengths, words, multiplicands);
+    clear_behind(floors, residues, plans, mappings, modes);
+}
+
+fn number_of(refusal: Refusal) -> u32
+    ensures { λ r. ⌜ r ≡ refusal .number ⌝ }
+{
+    refusal.number as u32
+}
+
+// 0 where the packet was read through: the tables stay as they are. Else the number of the refusal, and every table is all zero.
+pub fn settle(
+    answer: Step,
+    counts: &mut [u32],
+    books: &mut [u32],
+    lengths: &mut [u8],
+    words: &mut [u32],
+    multiplicands: &mut [u16],
+    floors: &mut [u16],
+    residues: &mut [u32],
+    plans: &mut [u16],
+    mappings: &mut [u8],
+    modes: &mut [u8],
+) -> u32
+    ensures { λ r. ⌜ left r (tables (now (counts .exit)) (now (books .exit)) (now (lengths .exit)) (now (words .exit)) (now (multiplicands .exit)) (now (floors .exit)) (now (residues .exit)) (now (plans .exit)) (now (mappings .exit)) (now (modes .exit))) ≡ settled answer (tables (now (counts .entry)) (now (books .entry)) (now (lengths .entry)) (now (words .entry)) (now (multiplicands .entry)) (now (floors .entry)) (now (residues .entry)) (now (plans .entry)) (now (mappings .entry)) (now (modes .entry))) ⌝ }
+{
+    match answer {
+        Step::Next(_) => 0,
+        Step::Refused(refusal) => {
+            let number = number_of(refusal);
+            clear(
+                counts,
+                books,
+                lengths,
+                words,
+                multiplicands,
+                floors,
+                residues,
+                plans,
+                mappings,
+                modes,
+            );
+            number
+        }
+    }
 }

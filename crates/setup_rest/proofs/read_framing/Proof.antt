@@ -1,8 +1,8 @@
--- `setup_content::read_framing` meets its contract, by ContentLaws. Assumes nothing.
-use Rattle.setup_content.proofs.ContentLaws.{framing-laws}
+-- `setup_rest::read_framing` meets its contract, by RestLaws. Assumes nothing.
+use Rattle.setup_rest.proofs.RestLaws.{framing-laws}
 use borrow.Author.Needs.{needs}
-use Rattle.setup_content.proofs.read_framing.Statement.{statement}
-use Rattle.setup_content.proofs.read_framing.Tie as tie
+use Rattle.setup_rest.proofs.read_framing.Statement.{statement}
+use Rattle.setup_rest.proofs.read_framing.Tie as tie
 
 framing-requires : tie.Need-framing-requires
 framing-requires c κs = search needs

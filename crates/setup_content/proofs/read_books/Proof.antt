@@ -1,0 +1,39 @@
+-- `setup_content::read_books` meets its contract, by ContentLaws. Assumes nothing.
+use mathlib.Core.Path.{_∙_}
+use Rattle.setup_content.proofs.ContentLaws.{books-ready, books-cleared}
+use borrow.Author.Needs.{needs}
+use Rattle.setup_content.proofs.read_books.Statement.{statement}
+use Rattle.setup_content.proofs.read_books.Tie as tie
+
+clear-books-requires : tie.Need-clear-books-requires
+clear-books-requires c κs = search needs
+
+read-book-part-requires : tie.Need-read-book-part-requires
+read-book-part-requires c κs = books-ready _ (c .before .before .before .before .before .before .before .before .before .before .before .before .clear-books .ensures .0) (c .before .before .before .before .before .before .before .before .before .before .before .before .clear-books .ensures .1) (c .before .before .before .before .before .before .before .before .before .before .before .before .clear-books .ensures .2) (c .before .before .before .before .before .before .before .before .before .before .before .before .clear-books .ensures .3) (c .before .before .before .before .before .before .before .before .before .before .before .before .before .before .before .before .before .before .before .before .before .before .pre)
+
+same-length : tie.Need-same-length
+same-length c = c .before .before .before .before .before .before .before .books2 .given ∙ c .before .before .before .before .before .before .before .before .before .before .before .before .before .before .before .before .before .before .before .before .books .given
+
+same-length-2 : tie.Need-same-length-2
+same-length-2 c = c .before .before .before .before .before .lengths2 .given ∙ c .before .before .before .before .before .before .before .before .before .before .before .before .before .before .before .before .before .before .lengths .given
+
+same-length-3 : tie.Need-same-length-3
+same-length-3 c = c .before .before .before .words2 .given ∙ c .before .before .before .before .before .before .before .before .before .before .before .before .before .before .before .before .words .given
+
+same-length-4 : tie.Need-same-length-4
+same-length-4 c = c .before .multiplicands2 .given ∙ c .before .before .before .before .before .before .before .before .before .before .before .before .before .before .multiplicands .given
+
+returns : tie.Need-returns
+returns c = (books-cleared _ (c .before .before .before .before .before .before .before .before .before .before .before .before .before .before .before .before .before .before .before .before .before .clear-books .ensures .0) (c .before .before .before .before .before .before .before .before .before .before .before .before .before .before .before .before .before .before .before .before .before .clear-books .ensures .1) (c .before .before .before .before .before .before .before .before .before .before .before .before .before .before .before .before .before .before .before .before .before .clear-books .ensures .2) (c .before .before .before .before .before .before .before .before .before .before .before .before .before .before .before .before .before .before .before .before .before .clear-books .ensures .3) _ _ (c .before .before .before .before .before .before .before .before .read-book-part .ensures .0), c .before .before .before .before .before .before .before .before .read-book-part .ensures .1)
+
+pub read-books-spec : {M : Type 1} → statement M
+read-books-spec =
+    tie.close
+    (tie.spec
+    clear-books-requires
+    read-book-part-requires
+    same-length
+    same-length-2
+    same-length-3
+    same-length-4
+    returns)
