@@ -73,11 +73,11 @@ module _ (l : Limits) (s : List ℕ) (n k : ℕ) (bk₀ lens₀ wds₀ m₀ : Li
           few-values = lent .few-values;
         }
 
-    pub books-done : n ≤ index → Wrote whole (Next c) (tables bk lens wds m n entries values)
-    books-done h =
+    pub books-done : {st : Step} → st ≡ Next c → n ≤ index → Wrote whole st (tables bk lens wds m n entries values)
+    books-done q h =
         let i = w .within in
         let e : index ≡ n = omega arith in
-        wrote-next (sym (w .rest) ∙ books-none l s here (n - index) (omega arith) ∙ ap (λ (x : ℕ). ok (tables bk lens wds m x entries values, position c)) e)
+        rw q (wrote-next (sym (w .rest) ∙ books-none l s here (n - index) (omega arith) ∙ ap (λ (x : ℕ). ok (tables bk lens wds m x entries values, position c)) e))
 
     module _ (h : index < n) {st : Step} {t′ : Tables} (one : Wrote (into1 putBook (book l (totals entries values) s (position c)) here) st t′) where
       pub books-refused : {z : Refusal} → st ≡ Refused z → (u : Tables) → Wrote whole st u

@@ -187,36 +187,31 @@ pub fn read_books(
     ensures { λ r. ⌜ (r .entries ≤ limits .entries) × (r .values ≤ limits .multiplicands) ⌝ }
 {
     let mut at = from;
-    let mut entries: u32 = 0;
-    let mut values: u32 = 0;
+    let mut read = BooksRead {
+        step: Step::Next(from),
+        entries: 0,
+        values: 0,
+    };
     let mut index: u32 = 0;
     while index < count {
-        let b = read_book(
+        read = read_book(
             packet,
             at,
             limits,
             index,
-            entries,
-            values,
+            read.entries,
+            read.values,
             books,
             lengths,
             words,
             multiplicands,
         );
-        entries = b.entries;
-        values = b.values;
-        let step = b.step;
-        match step {
-            Step::Refused(_) => return b,
-            Step::Next(next) => {
-                at = next;
-                index += 1;
-            }
-        }
+        let step = read.step;
+        let Step::Next(next) = step else {
+            return read;
+        };
+        at = next;
+        index += 1;
     }
-    BooksRead {
-        step: Step::Next(at),
-        entries,
-        values,
-    }
+    read
 }

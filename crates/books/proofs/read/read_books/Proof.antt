@@ -1,6 +1,8 @@
 -- `books::read::read_books` meets its contract, by BooksLaws. Assumes nothing.
 use Prim.Native.Nat.{_-_, _≤_}
 use native.Mathlib.Omega.{arith}
+use mathlib.Core.Path.{_≡_, refl}
+use Rattle.bits.specs.declared.Step.the-variants.{Next}
 use Rattle.bits.specs.Cursors.{position}
 use Rattle.books.specs.Lent.{Lent}
 use Rattle.books.proofs.BooksLaws.{BooksRead, books-start, books-lent, books-refused, books-next, books-done}
@@ -9,22 +11,26 @@ use Rattle.books.proofs.read.read_books.Statement.{statement}
 use Rattle.books.proofs.read.read_books.Tie as tie
 
 abbrev Inv-loop : tie.InvT-loop
-Inv-loop packet count limits books₀ lengths₀ words₀ multiplicands₀ at₀ entries₀ values₀ index₀ books lengths words multiplicands at entries values index =
+Inv-loop packet count limits books₀ lengths₀ words₀ multiplicands₀ at₀ read₀ index₀ books lengths words multiplicands at read index =
     Lent limits books₀ lengths₀ words₀ multiplicands₀
     × (count ≤ 256)
-    × BooksRead limits packet count (position at₀) books₀ lengths₀ words₀ multiplicands₀ at books lengths words multiplicands index entries values
+    × BooksRead limits packet count (position at₀) books₀ lengths₀ words₀ multiplicands₀ at books lengths words multiplicands index (read .entries) (read .values)
+    × (read .step ≡ Next at)
 
 abbrev μ-loop : tie.MeasureT-loop
-μ-loop packet count limits books₀ lengths₀ words₀ multiplicands₀ at₀ entries₀ values₀ index₀ books lengths words multiplicands at entries values index =
+μ-loop packet count limits books₀ lengths₀ words₀ multiplicands₀ at₀ read₀ index₀ books lengths words multiplicands at read index =
     count - index
 
 loop-holds : tie.Need-loop-holds Inv-loop μ-loop
-loop-holds c = (c .before .before .before .before .before .pre .0, c .before .before .before .before .before .pre .1, books-start _ _ _ _ _ _ _ _)
+loop-holds c = (c .before .before .before .before .before .pre .0, c .before .before .before .before .before .pre .1, books-start _ _ _ _ _ _ _ _, refl)
 
 read-book-requires : tie.Need-read-book-requires Inv-loop μ-loop
 read-book-requires c κs =
     let w = c .before .before .before .before .before .loop .inv .2 in
     (books-lent _ _ _ _ _ _ _ _ w (c .before .before .before .before .before .loop .inv .0), record { few-books = omega (arith, c .before .before .before .before .before .loop .inv .1, c .before .before .before .before .loop-test .taken); entries-within = w .entries-within; values-within = w .values-within })
+
+enum-known-step : tie.Need-enum-known-step Inv-loop μ-loop
+enum-known-step c = search needs
 
 enum-told : tie.Need-enum-told Inv-loop μ-loop
 enum-told c = search needs
@@ -44,9 +50,6 @@ same-length-4 c = search needs
 returns : tie.Need-returns Inv-loop μ-loop
 returns c = (books-refused _ _ _ _ _ _ _ _ (c .before .before .before .before .before .before .before .before .before .before .before .before .before .before .before .before .loop .inv .2) (c .before .before .before .before .before .before .before .before .before .before .before .before .before .before .before .loop-test .taken) (c .before .before .before .before .before .before .before .before .before .before .read-book .ensures .0) (c .enum-told .given .1) _, c .before .before .before .before .before .before .before .before .before .before .read-book .ensures .1)
 
-enum-known-step : tie.Need-enum-known-step Inv-loop μ-loop
-enum-known-step c = search needs
-
 add-index : tie.Need-add-index Inv-loop μ-loop
 add-index c = search needs
 
@@ -56,7 +59,7 @@ loop-less c = search needs
 loop-again : tie.Need-loop-again Inv-loop μ-loop
 loop-again c =
     let k = c .before .before .before .before .before .before .before .before .before .before .before .read-book .kept in
-    (c .before .before .before .before .before .before .before .before .before .before .before .before .before .before .before .before .before .loop .inv .0, c .before .before .before .before .before .before .before .before .before .before .before .before .before .before .before .before .before .loop .inv .1, books-next _ _ _ _ _ _ _ _ (c .before .before .before .before .before .before .before .before .before .before .before .before .before .before .before .before .before .loop .inv .2) (c .before .before .before .before .before .before .before .before .before .before .before .before .before .before .before .before .loop-test .taken) (c .before .before .before .before .before .before .before .before .before .before .before .read-book .ensures .0) (c .before .step .given .1) (omega arith) (omega arith) (omega arith) (omega arith) (c .before .before .before .before .before .before .before .before .before .before .before .read-book .ensures .1 .0) (c .before .before .before .before .before .before .before .before .before .before .before .read-book .ensures .1 .1))
+    (c .before .before .before .before .before .before .before .before .before .before .before .before .before .before .before .before .before .loop .inv .0, c .before .before .before .before .before .before .before .before .before .before .before .before .before .before .before .before .before .loop .inv .1, books-next _ _ _ _ _ _ _ _ (c .before .before .before .before .before .before .before .before .before .before .before .before .before .before .before .before .before .loop .inv .2) (c .before .before .before .before .before .before .before .before .before .before .before .before .before .before .before .before .loop-test .taken) (c .before .before .before .before .before .before .before .before .before .before .before .read-book .ensures .0) (c .before .step .given .1) (omega arith) (omega arith) (omega arith) (omega arith) (c .before .before .before .before .before .before .before .before .before .before .before .read-book .ensures .1 .0) (c .before .before .before .before .before .before .before .before .before .before .before .read-book .ensures .1 .1), c .before .step .given .1)
 
 same-length-5 : tie.Need-same-length-5 Inv-loop μ-loop
 same-length-5 c = search needs
@@ -71,7 +74,7 @@ same-length-8 : tie.Need-same-length-8 Inv-loop μ-loop
 same-length-8 c = search needs
 
 returns-2 : tie.Need-returns-2 Inv-loop μ-loop
-returns-2 c = (books-done _ _ _ _ _ _ _ _ (c .before .loop .inv .2) (c .loop-test .left), (c .before .loop .inv .2 .entries-within, c .before .loop .inv .2 .values-within))
+returns-2 c = (books-done _ _ _ _ _ _ _ _ (c .before .loop .inv .2) (c .before .loop .inv .3) (c .loop-test .left), (c .before .loop .inv .2 .entries-within, c .before .loop .inv .2 .values-within))
 
 pub read-books-spec : {M : Type 1} → statement M
 read-books-spec =
@@ -81,13 +84,13 @@ read-books-spec =
     μ-loop
     loop-holds
     read-book-requires
+    enum-known-step
     enum-told
     same-length
     same-length-2
     same-length-3
     same-length-4
     returns
-    enum-known-step
     add-index
     loop-less
     loop-again
