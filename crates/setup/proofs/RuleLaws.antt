@@ -14,7 +14,8 @@ use Rattle.limits.specs.declared.Limits.{Limits}
 use Rattle.rules.specs.Rules as Rule
 use Rattle.rules.proofs.Laws.{accepted-meets, meets-accepted}
 use Rattle.book.specs.Content.{Book}
-use Rattle.books.specs.Reading.{Before, andThis}
+use Rattle.book_head.specs.Reading.{Before}
+use Rattle.books.specs.Reading.{andThis}
 use Rattle.books.specs.Valid.{ValidBook, ValidBooks}
 use Rattle.floor_class.specs.Content.{Class}
 use Rattle.floors.specs.Content.{Floor}
