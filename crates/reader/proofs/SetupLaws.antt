@@ -32,11 +32,8 @@ module _ {l : Limits} (e : (l .channels ≡ 8) × (l .«book_entries» ≡ 8192)
   pub small : Small l
   small = record { few-channels = let h = e .0 in omega arith; few-entries = let h = e .2 in omega arith; few-values = let h = e .3 in omega arith }
 
-  pub setup-standard : (i : Identity) (s : List ℕ) (t : Tables) {r : Left} → r ≡ setupCall l i s t → r ≡ setupCall standard i s t
-  setup-standard i s t {r} p = subst (λ (x : Limits). r ≡ setupCall x i s t) same p
-
-  pub accepted-standard : {i : Identity} {s : List ℕ} {t : Tables} → AcceptedSound l i s t → AcceptedSound standard i s t
-  accepted-standard {i} {s} {t} p = subst (λ (x : Limits). AcceptedSound x i s t) same p
+  pub setup-standard : {i : Identity} {s : List ℕ} {t : Tables} {r : Left} → (r ≡ setupCall l i s t) × AcceptedSound l i s t → (r ≡ setupCall standard i s t) × AcceptedSound standard i s t
+  setup-standard {i} {s} {t} {r} p = subst (λ (x : Limits). (r ≡ setupCall x i s t) × AcceptedSound x i s t) same p
 
   pub sound-standard : {i : Identity} {t : Tables} {r : Bool} → (r ≡ true) ↔ SoundCall l i t → (r ≡ true) ↔ SoundCall standard i t
   sound-standard {i} {t} {r} p = subst (λ (x : Limits). (r ≡ true) ↔ SoundCall x i t) same p
@@ -62,4 +59,4 @@ module _ {l : Limits} (e : (l .channels ≡ 8) × (l .«book_entries» ≡ 8192)
     codeword-read {v} {c} q =
         record { outcome = ok (v, position c); call = subst (λ (x : Field). CodewordCall standard i t b s k (outcome x)) q here; says = (refl, refl, refl) }
 
-pub ruleset setup-laws = (needs, small, setup-standard, accepted-standard, sound-standard, demand-standard, codeword-refused, codeword-read)
+pub ruleset setup-laws = (needs, small, setup-standard, sound-standard, demand-standard, codeword-refused, codeword-read)

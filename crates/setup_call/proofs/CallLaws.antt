@@ -1,9 +1,9 @@
--- Laws of the setup call as the code asks them: what is left in the tables is by the answer to what was handed in. Assumes nothing.
+-- Laws of the setup call as the code asks them: what is left in the tables is by the answer to what was handed in, with setup's ValidLaws. Assumes nothing.
 use Prim.Native.Nat.{ℕ}
 use mathlib.Core.Bool.{Bool, true, false}
 use mathlib.Core.List.{List}
-use mathlib.Core.Path.{_≡_, refl, ap}
-use lib.ListN.{length, replicate}
+use mathlib.Core.Path.{_≡_, refl, ap, _∙_}
+use lib.ListN.{length}
 use Rattle.reading.specs.Outcome.{refusal, Outcome, ok, then, need}
 use Rattle.bits.specs.declared.Step.{Step}
 use Rattle.bits.specs.declared.Step.the-variants.{Next, Refused}
@@ -12,10 +12,12 @@ use Rattle.identification.specs.declared.Identity.{Identity}
 use Rattle.identification.specs.Sound.{isSound}
 use Rattle.setup.specs.Reading.{setup}
 use Rattle.setup.specs.Layout.{Tables, tables, hasRoom, cleared}
-use Rattle.setup.specs.Call.{setupOf, left, answered, setupCall}
+use Rattle.setup.specs.Call.{setupOf, Left, left, answered, setupCall}
+use Rattle.setup.specs.Accepted.{AcceptedSound}
 use Rattle.setup.specs.Parts.{Laid, WrittenOut, packetPart, checkedPart}
 use Rattle.setup.proofs.LaidLaws.{laid-bad, laid-ok}
 use Rattle.setup.proofs.Whole.{setup-whole}
+use Rattle.setup.proofs.ValidLaws.{accepts}
 use Rattle.setup_lent.specs.Settled.{settled}
 
 -- the lengths of the tables are all that clearing depends on
@@ -51,8 +53,12 @@ call-whole limits i s t = go (isSound (limits .channels) i) (hasRoom limits t)
     go true true = setup-whole limits (i .channels) s
 
 -- what an answer leaves, once the packet was judged and read
-pub call-settled : (limits : Limits) (i : Identity) (s : List ℕ) (t : Tables) {v : Tables} (answer : Step) → Laid (checkedPart limits i s t) answer (WrittenOut t v) → SameLengths v t
+settled-call : (limits : Limits) (i : Identity) (s : List ℕ) (t : Tables) {v : Tables} (answer : Step) → Laid (checkedPart limits i s t) answer (WrittenOut t v) → SameLengths v t
     → settled answer v ≡ setupCall limits i s t
 unfolding settled setupCall answered
-call-settled limits i s t (Next c) l same = let a = laid-ok l refl in rw (call-whole limits i s t, a .1) (ap (left 0) (a .2))
-call-settled limits i s t (Refused z) l same = rw (call-whole limits i s t, laid-bad l refl) (ap (left (z .number)) (same-cleared same))
+settled-call limits i s t (Next c) l same = let a = laid-ok l refl in rw (call-whole limits i s t, a .1) (ap (left 0) (a .2))
+settled-call limits i s t (Refused z) l same = rw (call-whole limits i s t, laid-bad l refl) (ap (left (z .number)) (same-cleared same))
+
+pub call-left : {limits : Limits} {i : Identity} {s : List ℕ} {t v : Tables} {answer : Step} {r : Left} → Laid (checkedPart limits i s t) answer (WrittenOut t v) → SameLengths v t → r ≡ settled answer v
+    → (r ≡ setupCall limits i s t) × AcceptedSound limits i s t
+call-left {limits} {i} {s} {t} {v} {answer} l same e = (e ∙ settled-call limits i s t answer l same, accepts limits i s t)

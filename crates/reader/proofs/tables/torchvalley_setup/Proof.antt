@@ -1,5 +1,5 @@
 -- `reader::tables::torchvalley_setup` meets its contract, by SetupLaws. Assumes nothing.
-use Rattle.reader.proofs.SetupLaws.{small, setup-standard, accepted-standard}
+use Rattle.reader.proofs.SetupLaws.{small, setup-standard}
 use borrow.Author.Needs.{needs}
 use Rattle.reader.proofs.tables.torchvalley_setup.Statement.{statement}
 use Rattle.reader.proofs.tables.torchvalley_setup.Tie as tie
@@ -41,7 +41,7 @@ same-length-10 : tie.Need-same-length-10
 same-length-10 c = c .before .modes .given
 
 returns : tie.Need-returns
-returns c = (setup-standard (c .before .before .before .before .before .before .before .before .before .before .before .before .before .before .before .before .before .before .before .before .before .before .before .before .before .before .before .before .before .before .before .standard .ensures) _ _ _ (c .before .before .before .before .before .before .before .before .before .before .before .before .before .before .before .before .before .before .before .before .read-setup .ensures .0), accepted-standard (c .before .before .before .before .before .before .before .before .before .before .before .before .before .before .before .before .before .before .before .before .before .before .before .before .before .before .before .before .before .before .before .standard .ensures) (c .before .before .before .before .before .before .before .before .before .before .before .before .before .before .before .before .before .before .before .before .read-setup .ensures .1))
+returns c = setup-standard (c .before .before .before .before .before .before .before .before .before .before .before .before .before .before .before .before .before .before .before .before .before .before .before .before .before .before .before .before .before .before .before .standard .ensures) (c .before .before .before .before .before .before .before .before .before .before .before .before .before .before .before .before .before .before .before .before .read-setup .ensures)
 
 pub torchvalley-setup-spec : {M : Type 1} → statement M
 torchvalley-setup-spec =
