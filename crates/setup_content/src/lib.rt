@@ -2,10 +2,10 @@
 use bits::Cursor;
 use bits::Step;
 use limits::Limits;
-use setup_parts::read_book_part;
-use setup_sections::Section;
 use setup_lent::clear_books;
+use setup_parts::read_book_part;
 use setup_rest::read_rest;
+use setup_sections::Section;
 ghost use mathlib.Core.Bool.{true};
 ghost use mathlib.Core.Path.{_≡_};
 ghost use Prim.Native.Nat.{_≤_};
