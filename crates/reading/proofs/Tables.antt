@@ -19,10 +19,6 @@ pub sets-append : (xs ys l : List ℕ) (i : ℕ) → sets l i (xs ++ ys) ≡ set
 sets-append [] ys l i = rw add-zero
 sets-append (x ∷ xs) ys l i = let e : i + suc (length xs) ≡ suc i + length xs = omega arith in rw e (sets-append xs ys (set l i x) (suc i))
 
--- one store more at the end of a run
-pub sets-more : (xs l : List ℕ) (i v : ℕ) → set (sets l i xs) (i + length xs) v ≡ sets l i (xs ++ (v ∷ []))
-sets-more xs l i v = sym (sets-append xs (v ∷ []) l i)
-
 -- a run stored behind what is there appends
 pub sets-pad : (n : ℕ) (ys xs : List ℕ) (i : ℕ) → i ≡ length xs → sets (pad n xs) i ys ≡ pad n (xs ++ ys)
 sets-pad n [] xs i e = rw append-nil

@@ -1,7 +1,6 @@
 -- Pieces of specs/Reading.antt under names of their own, one for each function that reads one, and what each leaves in its tables. Nothing is added
 -- to what is read. The tables are cleared before: what is written into them lies in front of zeros.
 use Prim.Native.Nat.{ℕ, _≤_}
-use mathlib.Core.Bool.{true}
 use mathlib.Core.List.{List, [], _∷_}
 use mathlib.Core.Path.{_≡_}
 use lib.ListN.{length}
@@ -142,14 +141,6 @@ pub record RestLie (n : ℕ) (c c′ f f′ r r′ p p′ m m′ o o′ : List �
   pub plans : p′ ≡ pad (length p) (rows planTable (x .0 .1))
   pub mappings : m′ ≡ pad (length m) (rows mappingRow (x .1 .0))
   pub modes : o′ ≡ pad (length o) (rows modeRow (x .1 .1))
-
--- cleared tables that have room, and limits within which the program can count
-pub record Ready (limits : Limits) (channels : ℕ) (t : Tables) : Type 0 where
-  pub room : hasRoom limits t ≡ true
-  pub clear : t ≡ cleared t
-  pub small : Small limits
-  pub some-channel : 1 ≤ channels
-  pub few-channels : channels ≤ 255
 
 -- how a content lies in all tables: they were t, and are u
 abbrev pub WrittenOut : Tables → Tables → Setup → Type 0
