@@ -41,22 +41,19 @@ module _ {l : Limits} (e : (l .channels ≡ 8) × (l .«book_entries» ≡ 8192)
   pub demand-standard : Demand3 l → Demand3 standard
   demand-standard p = subst Demand3 same p
 
-  module _ {i : Identity} {t : Tables} {b k : ℕ} {s : List ℕ} (f : Field) (call : CodewordCall l i t b s k (outcome f)) where
-    here : CodewordCall standard i t b s k (outcome f)
-    here = subst (λ (x : Limits). CodewordCall x i t b s k (outcome f)) same call
+  pub codeword-standard : {i : Identity} {t : Tables} {b k : ℕ} {s : List ℕ} (f : Field) {r : CodewordAnswer} → CodewordCall l i t b s k (outcome f) → Says (outcome f) r → CodewordAnswered standard i t b s k r
+  codeword-standard {i} {t} {b} {k} {s} f call says = record { outcome = outcome f; call = subst (λ (x : Limits). CodewordCall x i t b s k (outcome f)) same call; says = says }
 
-    pub codeword-refused : {z : Refusal} {n : ℕ} → f ≡ Refused z → n ≡ z .number → CodewordAnswered standard i t b s k (record { refusal = n; entry = 0; byte = 0; bit = 0 })
-    unfolding outcome Says
-    codeword-refused {z} q h =
-        record {
-          outcome = bad (refusalOf z);
-          call = subst (λ (x : Field). CodewordCall standard i t b s k (outcome x)) q here;
-          says = λ j. record { refusal = h j; entry = 0; byte = 0; bit = 0 };
-        }
+-- what the answer of one codeword says
+module _ (f : Field) where
+  pub says-refused : {z : Refusal} {n : ℕ} → f ≡ Refused z → n ≡ z .number → Says (outcome f) (record { refusal = n; entry = 0; byte = 0; bit = 0 })
+  unfolding outcome Says
+  says-refused {z} {n} q h = rw q (λ j. record { refusal = h j; entry = 0; byte = 0; bit = 0 })
 
-    pub codeword-read : {v : ℕ} {c : Cursor} → f ≡ Value v c → CodewordAnswered standard i t b s k (record { refusal = 0; entry = v; byte = c .byte; bit = c .bit })
-    unfolding outcome Says
-    codeword-read {v} {c} q =
-        record { outcome = ok (v, position c); call = subst (λ (x : Field). CodewordCall standard i t b s k (outcome x)) q here; says = (refl, refl, refl) }
+  pub says-read : {v : ℕ} {c : Cursor} → f ≡ Value v c → Says (outcome f) (record { refusal = 0; entry = v; byte = c .byte; bit = c .bit })
+  unfolding outcome Says
+  says-read {v} {c} q = rw q (refl, refl, refl)
 
-pub ruleset setup-laws = (needs, small, setup-standard, sound-standard, demand-standard, codeword-refused, codeword-read)
+pub ruleset setup-laws = (needs, small, setup-standard, sound-standard, demand-standard, codeword-standard)
+
+pub ruleset says-laws = (needs, says-refused, says-read)

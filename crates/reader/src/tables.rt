@@ -13,7 +13,8 @@ ghost use Rattle.setup.specs.Accepted.{AcceptedSound};
 ghost use Rattle.setup_codeword.specs.Call.{SoundCall};
 ghost use Rattle.setup_codeword.specs.Demand3.{Demand3};
 ghost use Rattle.reader.specs.Standard.{standard};
-ghost use Rattle.reader.specs.Codeword.{CodewordAnswered};
+ghost use Rattle.bits.specs.Cursors.{outcome};
+ghost use Rattle.reader.specs.Codeword.{Says, CodewordAnswered};
 
 // Reads a setup packet into the lent tables, under 01's limits. 0 where it is accepted: the tables hold its content, and zeros behind it. Else the
 // number of the refusal, and every table is all zero.
@@ -96,6 +97,26 @@ pub struct CodewordAnswer {
     pub bit: u8,
 }
 
+// 0, the entry and the place behind its codeword; or the number of the refusal alone.
+fn codeword_answer(read: Field) -> CodewordAnswer
+    ensures { λ r. ⌜ Says (outcome read) r ⌝ }
+{
+    match read {
+        Field::Refused(refusal) => CodewordAnswer {
+            refusal: crate::number_of(refusal),
+            entry: 0,
+            byte: 0,
+            bit: 0,
+        },
+        Field::Value(entry, next) => CodewordAnswer {
+            refusal: 0,
+            entry,
+            byte: next.byte,
+            bit: next.bit,
+        },
+    }
+}
+
 // Reads one codeword of a book of the tables, at a bit of a byte of the packet.
 #[no_mangle]
 pub extern "C" fn torchvalley_codeword(
@@ -118,7 +139,7 @@ pub extern "C" fn torchvalley_codeword(
     ensures { λ r. ⌜ CodewordAnswered standard identity (tables (now (counts .entry)) (now (books .entry)) (now (lengths .entry)) (now (codewords .entry)) (now (multiplicands .entry)) (now (floors .entry)) (now (residues .entry)) (now (plans .entry)) (now (mappings .entry)) (now (modes .entry))) book (now (packet .entry)) (8 * byte + bit) r ⌝ }
     ensures { λ _. ⌜ Demand3 standard ⌝ }
 {
-    match setup_codeword::read_codeword(
+    let read = setup_codeword::read_codeword(
         identity,
         Limits::standard(),
         counts,
@@ -134,18 +155,6 @@ pub extern "C" fn torchvalley_codeword(
         book,
         packet,
         Cursor { byte, bit },
-    ) {
-        Field::Refused(refusal) => CodewordAnswer {
-            refusal: crate::number_of(refusal),
-            entry: 0,
-            byte: 0,
-            bit: 0,
-        },
-        Field::Value(entry, next) => CodewordAnswer {
-            refusal: 0,
-            entry,
-            byte: next.byte,
-            bit: next.bit,
-        },
-    }
+    );
+    codeword_answer(read)
 }

@@ -10,20 +10,11 @@ standard-requires c κs = search needs
 read-codeword-requires : tie.Need-read-codeword-requires
 read-codeword-requires c κs = search needs
 
-enum-known-refusal : tie.Need-enum-known-refusal
-enum-known-refusal c = search needs
-
-number-of-requires : tie.Need-number-of-requires
-number-of-requires c κs = search needs
-
-enum-known-entry : tie.Need-enum-known-entry
-enum-known-entry c = search needs
+codeword-answer-requires : tie.Need-codeword-answer-requires
+codeword-answer-requires c κs = search needs
 
 returns : tie.Need-returns
 returns c = search setup-laws
-
-returns-2 : tie.Need-returns-2
-returns-2 c = search setup-laws
 
 pub torchvalley-codeword-spec : {M : Type 1} → statement M
 torchvalley-codeword-spec =
@@ -31,8 +22,5 @@ torchvalley-codeword-spec =
     (tie.spec
     standard-requires
     read-codeword-requires
-    enum-known-refusal
-    number-of-requires
-    enum-known-entry
-    returns
-    returns-2)
+    codeword-answer-requires
+    returns)
