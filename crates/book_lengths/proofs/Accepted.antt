@@ -12,13 +12,13 @@ use Rattle.reading.specs.Outcome.{Outcome, ok, then, need, refusal}
 use Rattle.reading.specs.Reader.{judged, many}
 use Rattle.reading.specs.Lists.{all}
 use Rattle.reading.proofs.Outcomes.{then-ok, need-ok, judged-ok, same-ok}
+use Rattle.reading.proofs.Accepted.{many-number, many-all}
 use Rattle.bits.specs.Field.{field}
 use Rattle.bits.specs.Ilog.{ilog}
 use Rattle.codespace.specs.Book.{verdict}
 use Rattle.codespace.specs.declared.book.Assigned.the-variants.{Accepted}
 use Rattle.rules.specs.Rules.{meets7, meets8}
 use Rattle.rules.proofs.Laws.{meets-accepted}
-use Rattle.filling.proofs.Known.{many-known}
 use Rattle.book_lengths.specs.Reading.{entryLength, runs, lengths, entered}
 use Rattle.book_lengths.specs.Parts.{entries}
 use Rattle.book_lengths.proofs.LengthLaws.{entry-small, length-run}
@@ -95,8 +95,10 @@ lengths-known place n s k {ls} {j} e =
         → cond b (then (field 1 s i) (λ sparse. many (entryLength (sparse .0)) n s (sparse .1))) (then (field 5 s i) (λ first. runs place (32 - first .0) n s (first .1))) ≡ ok (ls, j)
         → (length ls ≡ n) × (all fits ls ≡ true)
     go true i f =
-        let c = then-ok (field 1 s i) _ f in
-        many-known fits (entryLength (c .0 .0)) s (λ k v j h. le-leb v 32 (entry-small (c .0 .0) s k h)) n (c .0 .1) (c .2)
+        let c = then-ok (field 1 s i) _ f in (
+          many-number (entryLength (c .0 .0)) s n (c .0 .1) (c .2),
+          many-all fits (entryLength (c .0 .0)) s (λ k x h. le-leb (x .0) 32 (entry-small (c .0 .0) s k h)) n (c .0 .1) (c .2),
+        )
     go false i f = let c = then-ok (field 5 s i) _ f in runs-known place (32 - c .0 .0) n s (c .0 .1) (c .2)
 
 -- and entered: the verdict accepts them

@@ -12,9 +12,9 @@ use Rattle.reading.specs.Outcome.{ok, then, refusal}
 use Rattle.reading.specs.Reader.{judged, many}
 use Rattle.reading.specs.Lists.{all}
 use Rattle.reading.proofs.Outcomes.{then-ok, need-ok, judged-ok, same-ok}
+use Rattle.reading.proofs.Accepted.{many-number, many-all}
 use Rattle.bits.specs.Field.{field}
 use Rattle.bits.proofs.Fields.{field-ok}
-use Rattle.filling.proofs.Known.{many-known}
 use Rattle.book_lookup.specs.Reading.{Lookup, noLookup, valueCount, values, lookup}
 use Rattle.book_lookup.specs.Parts.{Parameters, parameters}
 use Rattle.book_lookup.proofs.LookupLaws.{Narrow, parameters-ok, withValues, afterParameters, values-as}
@@ -35,8 +35,9 @@ values-known place type count room s k {l} {j} e =
     let n = need-ok (leb count room) (refusal 14 place) (then (many (field (a .0 .0 .width)) count s (a .0 .1)) (λ list. ok (withValues type (a .0 .0) (list .0), list .1))) (a .2) in
     let b = then-ok (many (field (a .0 .0 .width)) count s (a .0 .1)) _ (n .1) in
     let q : _≡_ {A = Lookup × ℕ} (withValues type (a .0 .0) (b .0 .0), b .0 .1) (l, j) = same-ok (ok (withValues type (a .0 .0) (b .0 .0), b .0 .1)) refl (b .2) in
-    let m = many-known (λ v. ltb v (2 ^ (a .0 .0 .width))) (field (a .0 .0 .width)) s (λ k v j h. lt-ltb v (2 ^ (a .0 .0 .width)) (field-ok s k (a .0 .0 .width) h .below)) count (a .0 .1) (b .1) in
-    rw (← (ap (λ (x : Lookup × ℕ). x .0) q)) (refl, parameters-ok s k (a .1), m .0, m .1, leb-true _ _ (n .0))
+    let m = many-number (field (a .0 .0 .width)) s count (a .0 .1) (b .1) in
+    let t = many-all (λ v. ltb v (2 ^ (a .0 .0 .width))) (field (a .0 .0 .width)) s (λ k x h. lt-ltb (x .0) (2 ^ (a .0 .0 .width)) (field-ok s k (a .0 .0 .width) h .below)) count (a .0 .1) (b .1) in
+    rw (← (ap (λ (x : Lookup × ℕ). x .0) q)) (refl, parameters-ok s k (a .1), m, t, leb-true _ _ (n .0))
 
 pub lookup-known : (place entries dimensions room : ℕ) (s : List ℕ) (k : ℕ) {l : Lookup} {j : ℕ} → lookup place entries dimensions room s k ≡ ok (l, j)
     → LookupKnown entries dimensions room l

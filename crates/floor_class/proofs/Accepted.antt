@@ -8,11 +8,11 @@ use mathlib.Core.Path.{_≡_, subst}
 use lib.Dec.{leb}
 use Rattle.reading.specs.Outcome.{ok}
 use Rattle.reading.specs.Reader.{many}
-use Rattle.reading.proofs.Outcomes.{then-ok, judged-ok}
+use Rattle.reading.proofs.Outcomes.{then-ok, judged-ok, ok-is}
+use Rattle.reading.proofs.Accepted.{many-cons, many-all}
 use Rattle.bits.specs.Field.{field}
 use Rattle.bits.proofs.Fields.{field-ok}
 use Rattle.numbers.proofs.Collected.{many-length}
-use Rattle.numbers.proofs.Accepted.{ok-is, many-cons, many-all}
 use Rattle.floor_class.specs.Content.{Class}
 use Rattle.floor_class.specs.Reading.{masterBook, subclassBook, class}
 use Rattle.floor_class.specs.Valid.{ValidClass, ValidClasses}

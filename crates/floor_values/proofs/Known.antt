@@ -14,7 +14,7 @@ use Rattle.reading.specs.Stand.{Each}
 use Rattle.reading.specs.Outcome.{ok, then}
 use Rattle.reading.specs.Reader.{many, each, mapped}
 use Rattle.reading.proofs.Least.{and-split}
-use Rattle.reading.proofs.Outcomes.{then-ok}
+use Rattle.reading.proofs.Outcomes.{then-ok, ok-is}
 use Rattle.reading.proofs.Accepted.{many-number, many-each}
 use Rattle.reading.proofs.Readers.{Long, each-long, mapped-ok}
 use Rattle.bits.specs.Field.{field}
@@ -35,9 +35,6 @@ use Rattle.floor_partition.proofs.ClassLaws.{entry-small}
 use Rattle.floor_values.proofs.FirstLaws.{bits-known}
 use Rattle.floor_values.proofs.Cuts.{floor-cuts}
 use Rattle.floor_values.proofs.Refused.{floor-refused}
-
-ok-is : {A : Type 0} {a b : A} → ok a ≡ ok b → a ≡ b
-ok-is e = cc
 
 -- HOW MANY
 chosen-long : (c : Class) (v n : ℕ) → length (chosen c v n) ≡ n

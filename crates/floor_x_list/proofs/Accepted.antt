@@ -8,11 +8,12 @@ use lib.Dec.{ltb}
 use lib.ListN.{length}
 use Rattle.reading.specs.Outcome.{ok, refusal}
 use Rattle.reading.specs.Lists.{distinct, all}
-use Rattle.reading.proofs.Outcomes.{then-ok, need-ok}
+use Rattle.reading.proofs.Outcomes.{then-ok, need-ok, ok-is}
+use Rattle.reading.proofs.Accepted.{many-all}
 use Rattle.bits.specs.Field.{field}
 use Rattle.bits.proofs.Fields.{field-ok}
 use Rattle.numbers.proofs.Collected.{many-length}
-use Rattle.numbers.proofs.Accepted.{ok-is, many-all, field-below}
+use Rattle.numbers.proofs.Accepted.{field-below}
 use Rattle.floor_x_list.specs.Content.{xList}
 use Rattle.floor_x_list.specs.Reading.{xValues, Ends, ends}
 use Rattle.floor_x_list.proofs.XListLaws.{values-ok}

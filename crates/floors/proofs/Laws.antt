@@ -12,12 +12,13 @@ use Rattle.reading.specs.Pad.{pad}
 use Rattle.reading.proofs.Pads.{pad-get}
 use Rattle.reading.specs.Outcome.{ok}
 use Rattle.reading.specs.Reader.{many}
-use Rattle.reading.proofs.Outcomes.{then-ok}
+use Rattle.reading.proofs.Outcomes.{then-ok, ok-is}
+use Rattle.reading.proofs.Accepted.{many-cons, many-all}
 use Rattle.bits.specs.Field.{field}
 use Rattle.bits.proofs.Fields.{field-ok}
 use Rattle.numbers.proofs.Lies.{Lies}
 use Rattle.numbers.proofs.Collected.{many-length}
-use Rattle.numbers.proofs.Accepted.{ok-is, many-cons, many-all, field-below}
+use Rattle.numbers.proofs.Accepted.{field-below}
 use Rattle.floor_class.specs.Reading.{class}
 use Rattle.floor_class.proofs.Accepted.{classes-valid}
 use Rattle.floor_x_list.specs.Reading.{ends}

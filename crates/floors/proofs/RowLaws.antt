@@ -18,6 +18,7 @@ use Rattle.reading.specs.Table.{Table, table, putRow}
 use Rattle.reading.proofs.Least.{and-split}
 use Rattle.reading.proofs.Pads.{pad-nil, pad-get, length-pad}
 use Rattle.reading.proofs.Readers.{mapped-ok, mapped-bad}
+use Rattle.reading.proofs.Accepted.{many-all}
 use Rattle.bits.specs.declared.Cursor.{Cursor}
 use Rattle.bits.specs.declared.Refusal.{Refusal}
 use Rattle.bits.specs.declared.Field.{Field}
@@ -31,7 +32,7 @@ use Rattle.bits.proofs.Steps.{wrote-refused, wrote-next, wrote-bad, wrote-ok}
 use Rattle.numbers.specs.Cell.{cell}
 use Rattle.numbers.proofs.Collected.{Collected, collected, rows-cell, wrote-as, two-runs}
 use Rattle.numbers.proofs.ListLaws.{take-pad}
-use Rattle.numbers.proofs.Accepted.{many-all, field-below}
+use Rattle.numbers.proofs.Accepted.{field-below}
 use Rattle.floor_class.specs.Content.{Class}
 use Rattle.floor_class.specs.Layout.{classRow}
 use Rattle.floor_class.specs.Reading.{class}

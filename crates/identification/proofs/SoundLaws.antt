@@ -14,7 +14,7 @@ use lib.ListN.{length, getD, drop, drop-of-length-le}
 use lib.Seq.{drop-cons}
 use Rattle.reading.specs.Outcome.{Refusal, refusal, Outcome, ok, bad, then, need}
 use Rattle.reading.specs.Reader.{judged, mapped}
-use Rattle.reading.proofs.Outcomes.{then-ok, need-ok, judged-ok}
+use Rattle.reading.proofs.Outcomes.{then-ok, need-ok, judged-ok, ok-is}
 use Rattle.bits.specs.Field.{field}
 use Rattle.bits.specs.Cursors.{refusalOf}
 use Rattle.header.specs.Header.{commonHeader, framing}
@@ -48,9 +48,6 @@ power (suc (suc (suc (suc (suc zero))))) h = refl
 power (suc (suc (suc (suc (suc (suc zero)))))) h = refl
 power (suc (suc (suc (suc (suc (suc (suc zero))))))) h = refl
 power (suc (suc (suc (suc (suc (suc (suc (suc j)))))))) h = absurd (omega arith)
-
-ok-is : {A : Type 0} {a b : A} → _≡_ {A = Outcome A} (ok a) (ok b) → a ≡ b
-ok-is e = cc
 
 clash : {b : Bool} → b ≡ false → b ≡ true → ⊥
 clash p q = let z : _≡_ {A = ℕ} 0 1 = cc in omega arith

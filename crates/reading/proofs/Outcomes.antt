@@ -8,6 +8,9 @@ use Rattle.reading.specs.Outcome.{Refusal, refusal, Outcome, ok, bad, th
 use Rattle.reading.specs.Reader.{Reader, judged}
 
 module _ {A : Type 0} where
+  pub ok-is : {a b : A} → _≡_ {A = Outcome A} (ok a) (ok b) → a ≡ b
+  ok-is e = cc
+
   pub same-ok : (o : Outcome A) {a b : A} → o ≡ ok a → o ≡ ok b → a ≡ b
   same-ok o p q = cc
 
