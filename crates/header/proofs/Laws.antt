@@ -1,8 +1,6 @@
 -- Laws of the opening bytes, one for each way that a turn over them can go. Assumes nothing.
-use Prim.Native.Nat.{ℕ, zero, suc, _+_, _*_, _≤_, _<_}
-use native.Mathlib.Nat.{add-zero}
+use Prim.Native.Nat.{ℕ, suc, _+_, _≤_, _<_}
 use native.Mathlib.Numerals.{add-one}
-use native.Mathlib.Omega.{arith}
 use mathlib.Core.List.{List, [], _∷_}
 use mathlib.Core.Path.{_≡_, refl, sym, ap, _∙_}
 use lib.ListN.{length, getD, drop, drop-of-length-le}
@@ -10,53 +8,40 @@ use lib.Seq.{drop-cons}
 use borrow.Author.Tests.{eq-eqb, ne-eqb}
 use Rattle.reading.specs.Outcome.{refusal, Outcome, ok, bad}
 use Rattle.bits.specs.Field.{field}
-use Rattle.bits.specs.Cursors.{position, refusalOf, stepped}
+use Rattle.bits.specs.Cursors.{position, refusalOf, outcome, stepped}
 use Rattle.bits.specs.declared.Cursor.{Cursor}
 use Rattle.bits.specs.declared.Refusal.{Refusal}
-use Rattle.bits.proofs.Fields.{field-whole, field-cut}
-use Rattle.bits.proofs.Bytes.{byte-value}
+use Rattle.bits.specs.declared.Field.{Field}
+use Rattle.bits.specs.declared.Field.the-variants as F
+use Rattle.bits.specs.declared.Step.the-variants as S
+use Rattle.bits.proofs.Answers.{value-is, refused-is}
 use Rattle.header.specs.Header.{exactly}
-use Rattle.bits.specs.declared.Step.the-variants.{Next, Refused}
 
--- es are the bytes that are expected, i of which were found
-module _ (es s : List ℕ) (i : ℕ) where
-  pub all-found : length es ≤ i → exactly (drop i es) s (8 * i) ≡ ok (8 * i)
-  unfolding exactly
-  all-found h = rw (drop-of-length-le es h)
+-- es are the bytes that are expected, i of which were found; f is what reading the next one, at the cursor, came to; what is left of the bytes comes to
+-- the whole, W
+module _ (es s : List ℕ) (i : ℕ) (at : Cursor) (W : Outcome ℕ) (rest : exactly (drop i es) s (position at) ≡ W) where
+  module _ (h : i < length es) (f : Field) (read : outcome f ≡ field 8 s (position at)) where
+    pub byte-missing : {z : Refusal} → f ≡ F.Refused z → stepped (S.Refused z) ≡ W
+    unfolding exactly stepped
+    byte-missing {z} e =
+        let cut : exactly (drop i es) s (position at) ≡ bad (refusalOf z) = rw (drop-cons es i 0 h, refused-is read e) in
+        sym cut ∙ rest
 
-  module _ (h : i < length es) where
-    pub byte-missing : length s ≤ i → exactly (drop i es) s (8 * i) ≡ bad (refusal 1 (8 * i))
+    pub byte-wrong : {v : ℕ} {next : Cursor} → f ≡ F.Value v next → {b : ℕ} → b ≡ getD es i 0 → (v ≡ b → ⊥)
+        → stepped (S.Refused (record { number = 2; place = at })) ≡ W
+    unfolding exactly stepped
+    byte-wrong {v} e g n =
+        let other : exactly (drop i es) s (position at) ≡ bad (refusal 2 (position at)) = rw (drop-cons es i 0 h, value-is read e, ne-eqb v (getD es i 0) (λ q. n (q ∙ sym g))) in
+        sym other ∙ rest
+
+    pub byte-found : {v : ℕ} {next : Cursor} → f ≡ F.Value v next → {b : ℕ} → b ≡ getD es i 0 → v ≡ b → exactly (drop (i + 1) es) s (position next) ≡ W
     unfolding exactly
-    byte-missing l = rw (drop-cons es i 0 h, field-cut s (8 * i) 8 (omega arith))
+    byte-found {v} {next} e g q =
+        let one : exactly (drop i es) s (position at) ≡ exactly (drop (i + 1) es) s (position next) = rw (drop-cons es i 0 h, value-is read e, eq-eqb v (getD es i 0) (q ∙ g), add-one) in
+        sym one ∙ rest
 
-    whole : i < length s → getD s i 0 < 256 → field 8 s (8 * i) ≡ ok (getD s i 0, 8 * (i + 1))
-    whole l b =
-        let e : 8 * i + 8 ≡ 8 * (i + 1) = omega arith in
-        field-whole s (8 * i) 8 (omega arith) ∙ rw (byte-value s i b, e)
-
-    pub byte-wrong : i < length s → getD s i 0 < 256 → (getD s i 0 ≡ getD es i 0 → ⊥) → exactly (drop i es) s (8 * i) ≡ bad (refusal 2 (8 * i))
-    unfolding exactly
-    byte-wrong l b n = rw (drop-cons es i 0 h, whole l b, ne-eqb _ _ n)
-
-    pub byte-found : i < length s → getD s i 0 < 256 → getD s i 0 ≡ getD es i 0
-        → exactly (drop (i + 1) es) s (8 * (i + 1)) ≡ exactly (drop i es) s (8 * i)
-    unfolding exactly
-    byte-found l b e = rw (drop-cons es i 0 h, whole l b, eq-eqb _ _ e, add-one)
-
--- the same as the code asks it: what is left of the bytes, from here, comes to the whole, W
-module _ (es s : List ℕ) (i : ℕ) (W : Outcome ℕ) (rest : exactly (drop i es) s (8 * i) ≡ W) where
-  pub missing : i < length es → length s ≤ i → stepped (Refused (record { number = 1; place = record { byte = i; bit = 0 } })) ≡ W
-  unfolding stepped
-  missing h l = rw (add-zero, ← byte-missing es s i h l) rest
-
-  pub wrong : i < length es → i < length s → getD s i 0 < 256 → (getD s i 0 ≡ getD es i 0 → ⊥)
-      → stepped (Refused (record { number = 2; place = record { byte = i; bit = 0 } })) ≡ W
-  unfolding stepped
-  wrong h l b n = rw (add-zero, ← byte-wrong es s i h l b n) rest
-
-  pub found : i < length es → i < length s → getD s i 0 < 256 → getD s i 0 ≡ getD es i 0 → exactly (drop (i + 1) es) s (8 * (i + 1)) ≡ W
-  found h l b e = byte-found es s i h l b e ∙ rest
-
-  pub complete : length es ≤ i → stepped (Next (record { byte = i; bit = 0 })) ≡ W
-  unfolding stepped
-  complete h = rw (add-zero, ← all-found es s i h) rest
+  pub complete : length es ≤ i → stepped (S.Next at) ≡ W
+  unfolding exactly stepped
+  complete h =
+      let all : exactly (drop i es) s (position at) ≡ ok (position at) = rw (drop-of-length-le es h) in
+      sym all ∙ rest

@@ -37,7 +37,10 @@ pub fn read(packet: &[u8], limits: Limits) -> Identified
     ensures { λ r. ⌜ identified r ≡ identification (limits .channels) (now (packet .entry)) ⌝ }
     ensures { λ r. ⌜ AcceptedSound (limits .channels) r ⌝ }
 {
-    match header::common_header(packet, PacketKind::IDENTIFICATION) {
+    let kind = PacketKind {
+        number: PacketKind::IDENTIFICATION,
+    };
+    match header::common_header(packet, kind) {
         Step::Refused(z) => Identified::Refused(z),
         Step::Next(at_stream) => match fields::read_stream(packet, at_stream, limits.channels) {
             StreamRead::Refused(z) => Identified::Refused(z),

@@ -29,20 +29,16 @@ said-false : {P : Type 0} {x : Bool} (t : Bool) → (x ≡ true) ↔ P → (t �
 said-false {P} {x} true e f n = let y : x ≡ true = e .1 (f .0 refl) in let z : _≡_ {A = ℕ} 0 1 = cc in absurd (omega arith)
 said-false {P} {x} false e f n = refl
 
--- a refusal of what is handed in beside the packet
-abbrev at-first : ℕ → Refusal
-at-first n = record { number = n; place = record { byte = 0; bit = 0 } }
-
 -- each way out of what is judged before the content
 module _ (limits : Limits) (i : Identity) (room : Bool) (s : List ℕ) {x : Bool} (sound : (x ≡ true) ↔ Sound (limits .channels) i) where
-  pub identity-unsound : {answer : Step} → not x ≡ true → answer ≡ Refused (at-first 18) → stepped answer ≡ begun limits i room s
-  unfolding begun stepped
-  identity-unsound n e = rw (e, said-false _ sound (sound-test (limits .channels) i) n) refl
+  pub identity-unsound : (answer : Step) → not x ≡ true → stepped answer ≡ bad (refusal 18 0) → stepped answer ≡ begun limits i room s
+  unfolding begun
+  identity-unsound answer n e = rw (e, said-false _ sound (sound-test (limits .channels) i) n) refl
 
   module _ (y : not x ≡ false) where
-    pub no-room : {answer : Step} → not room ≡ true → answer ≡ Refused (at-first 17) → stepped answer ≡ begun limits i room s
-    unfolding begun stepped
-    no-room n e = rw (e, sound-test (limits .channels) i .1 (sound .0 (not-false x y)), not-true room n) refl
+    pub no-room : (answer : Step) → not room ≡ true → stepped answer ≡ bad (refusal 17 0) → stepped answer ≡ begun limits i room s
+    unfolding begun
+    no-room answer n e = rw (e, sound-test (limits .channels) i .1 (sound .0 (not-false x y)), not-true room n) refl
 
     pub header-judged : (answer : Step) → not room ≡ false → stepped answer ≡ commonHeader 5 s → stepped answer ≡ begun limits i room s
     unfolding begun

@@ -10,19 +10,19 @@ use limits::Limits;
 use setup_content::read_content;
 use setup_lent::have_room;
 ghost use mathlib.Core.Path.{_≡_};
-ghost use Rattle.bits.specs.declared.Step.the-variants.{Refused};
+ghost use Rattle.reading.specs.Outcome.{refusal, bad};
 ghost use Rattle.bits.specs.Cursors.{stepped};
 ghost use Rattle.setup.specs.Layout.{tables};
 ghost use Rattle.setup.specs.Parts.{Laid, Small, WrittenOut, checkedPart};
 ghost use Rattle.setup_checked.specs.Begun.{begun};
 
-// A refusal of what was handed in beside the packet.
+// A refusal of an argument beside the packet, which no field has: its place is 0.
 fn beside(number: u8) -> Step
-    ensures { λ r. ⌜ r ≡ Refused (record { number = number; place = record { byte = 0; bit = 0 } }) ⌝ }
+    ensures { λ r. ⌜ stepped r ≡ bad (refusal number 0) ⌝ }
 {
     Step::Refused(Refusal {
         number,
-        place: Cursor { byte: 0, bit: 0 },
+        place: Cursor::start(),
     })
 }
 
@@ -36,7 +36,12 @@ fn begin(packet: &[u8], identity: Identity, limits: Limits, room: bool) -> Step
     if !room {
         return beside(17);
     }
-    common_header(packet, PacketKind::SETUP)
+    common_header(
+        packet,
+        PacketKind {
+            number: PacketKind::SETUP,
+        },
+    )
 }
 
 // The packet's content in the tables, or the refusal: then nothing is said of the tables.

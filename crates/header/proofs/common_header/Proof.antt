@@ -1,37 +1,58 @@
--- `header::common_header` meets its contract. The loop's invariant: what is left of the opening gives the same as the whole. Assumes nothing.
-use Prim.Native.Nat.{_≤_, _-_, _*_, _<_}
-use mathlib.Core.Path.{_≡_, refl, _∙_}
+-- `header::common_header` meets its contract. The loop's invariant: what is left of the opening, read at the cursor, gives the same as the whole. Assumes
+-- nothing.
+use Prim.Native.Nat.{_≤_, _-_}
+use mathlib.Core.Path.{_≡_, refl}
 use native.Mathlib.Omega.{arith}
-use lib.ListN.{length, getD, drop}
+use lib.ListN.{length, drop}
 use borrow.Author.Needs.{needs}
-use Rattle.header.specs.Header.{exactly, opening, commonHeader}
-use Rattle.header.proofs.Laws.{missing, wrong, found, complete}
+use Rattle.bits.specs.Cursors.{position}
+use Rattle.header.specs.Header.{exactly, commonHeader}
+use Rattle.header.proofs.Laws.{byte-missing, byte-wrong, byte-found, complete}
 use Rattle.header.proofs.common_header.Statement.{statement}
 use Rattle.header.proofs.common_header.Tie as tie
 
 abbrev Inv-loop : tie.InvT-loop
-Inv-loop packet kind expected i₀ i = (i ≤ 7) × (length expected ≡ 7) × (exactly (drop i expected) packet (8 * i) ≡ commonHeader kind packet)
+Inv-loop packet expected at₀ i₀ at i =
+    (i ≤ 7) × (length expected ≡ 7) × (exactly (drop i expected) packet (position at) ≡ exactly expected packet 0)
 
 abbrev μ-loop : tie.MeasureT-loop
-μ-loop packet kind expected i₀ i = 7 - i
+μ-loop packet expected at₀ i₀ at i = 7 - i
+
+start-requires : tie.Need-start-requires Inv-loop μ-loop
+start-requires c κs = search needs
 
 loop-holds : tie.Need-loop-holds Inv-loop μ-loop
-unfolding commonHeader
-loop-holds c = (omega arith, refl, refl)
+loop-holds c = (omega arith, refl, rw (c .start .ensures))
+
+field-requires : tie.Need-field-requires Inv-loop μ-loop
+field-requires c κs = search needs
+
+enum-known-z : tie.Need-enum-known-z Inv-loop μ-loop
+enum-known-z c = search needs
 
 returns : tie.Need-returns Inv-loop μ-loop
-returns c = let l = c .before .before .loop .inv in missing _ _ _ _ (l .2) (omega arith) (omega arith)
+unfolding commonHeader
+returns c =
+    let read = c .before .before .before in
+    let l = read .before .before .loop in
+    byte-missing _ _ (l .i) (l .at) _ (l .inv .2) (omega arith) (read .field .result) (read .field .ensures) (c .before .z .given .1)
 
-shared-slice-read-if2 : tie.Need-shared-slice-read-if2 Inv-loop μ-loop
-shared-slice-read-if2 c = search needs
+enum-known-byte : tie.Need-enum-known-byte Inv-loop μ-loop
+enum-known-byte c = search needs
 
-array-read-if2 : tie.Need-array-read-if2 Inv-loop μ-loop
-array-read-if2 c = search needs
+array-read-wide : tie.Need-array-read-wide Inv-loop μ-loop
+array-read-wide c = search needs
+
+wide-requires : tie.Need-wide-requires Inv-loop μ-loop
+wide-requires c κs = search needs
 
 returns-2 : tie.Need-returns-2 Inv-loop μ-loop
+unfolding commonHeader
 returns-2 c =
-    let l = c .before .before .before .before .loop .inv in
-    wrong _ _ _ _ (l .2) (omega arith) (omega arith) (omega (arith, c .before .shared-slice-known .given (c .before .before .before .before .loop .i))) (c .if2 .taken)
+    let value = c .before .before .before in
+    let read = value .before .before in
+    let l = read .before .before .loop in
+    byte-wrong _ _ (l .i) (l .at) _ (l .inv .2) (omega arith) (read .field .result) (read .field .ensures) (value .byte .given .1) (c .before .wide .ensures) (c .if1 .taken)
 
 add-i : tie.Need-add-i Inv-loop μ-loop
 add-i c = search needs
@@ -41,13 +62,15 @@ loop-less c = search needs
 
 loop-again : tie.Need-loop-again Inv-loop μ-loop
 loop-again c =
-    let l = c .before .before .before .before .loop in
-    let a = c .before .before .before .before .before .args in
-    let b : getD (a .packet .now) (l .i) 0 < 256 = omega (arith, c .before .shared-slice-known .given (l .i)) in
-    (omega arith, refl, found (opening (a .kind)) (a .packet .now) (l .i) _ (l .inv .2) (omega arith) (omega arith) b (c .if2 .left))
+    let value = c .before .before .before in
+    let read = value .before .before in
+    let l = read .before .before .loop in
+    let found = byte-found _ _ (l .i) (l .at) _ (l .inv .2) (omega arith) (read .field .result) (read .field .ensures) (value .byte .given .1) (c .before .wide .ensures) (c .if1 .left) in
+    (omega arith, refl, found)
 
 returns-3 : tie.Need-returns-3 Inv-loop μ-loop
-returns-3 c = let l = c .before .loop .inv in complete _ _ _ _ (l .2) (omega arith)
+unfolding commonHeader
+returns-3 c = let l = c .before .loop in complete _ _ (l .i) (l .at) _ (l .inv .2) (omega arith)
 
 pub common-header-spec : {M : Type 1} → statement M
 common-header-spec =
@@ -55,10 +78,14 @@ common-header-spec =
     (tie.spec
     Inv-loop
     μ-loop
+    start-requires
     loop-holds
+    field-requires
+    enum-known-z
     returns
-    shared-slice-read-if2
-    array-read-if2
+    enum-known-byte
+    array-read-wide
+    wide-requires
     returns-2
     add-i
     loop-less
