@@ -20,7 +20,7 @@ use Rattle.setup.specs.Layout.{tables, layout, hasRoom, writtenOut}
 use Rattle.setup.specs.Parts.{Laid, BooksLie, BooksLent, RestLie, Small, WrittenOut, bookPart, restPart, setupWith, behindHeader}
 use Rattle.setup.proofs.LaidLaws.{laid-bad, laid-ok, laid-refused}
 use Rattle.setup.proofs.TableLaws.{room-parts}
-use Rattle.setup_parts.proofs.PartLaws.{followed}
+use Rattle.setup_sections.proofs.PartLaws.{followed}
 use Rattle.setup.proofs.BookLinks.{books-link}
 use Rattle.setup_lent.specs.Blank.{Blank}
 use Rattle.setup_lent.proofs.BlankLaws.{cleared-long, cleared-zeros, relent}

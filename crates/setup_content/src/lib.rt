@@ -1,10 +1,12 @@
 // A setup packet's content, written into all ten tables, which are lent as they are, with room: each is cleared before it is filled.
+pub mod rest;
+
 use bits::Cursor;
 use bits::Step;
 use limits::Limits;
 use setup_lent::clear_books;
-use setup_parts::read_book_part;
-use setup_rest::read_rest;
+use setup_sections::parts::read_book_part;
+use crate::rest::read_rest;
 use setup_sections::Section;
 ghost use mathlib.Core.Bool.{true};
 ghost use mathlib.Core.Path.{_≡_};

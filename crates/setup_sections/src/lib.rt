@@ -1,4 +1,6 @@
 // The sections of a setup packet: each is a count less one and so many items (003, section 4.2.4). Their tables are lent cleared.
+pub mod parts;
+
 use bits::Cursor;
 use bits::Field;
 use bits::Refusal;

@@ -1,4 +1,4 @@
--- `setup_sections::read_mapping_section` meets its contract, by SectionLaws. Assumes nothing.
+-- `crate::read_mapping_section` meets its contract, by SectionLaws. Assumes nothing.
 use Rattle.setup_sections.proofs.SectionLaws.{section-laws}
 use borrow.Author.Needs.{needs}
 use Rattle.setup_sections.proofs.read_mapping_section.Statement.{statement}

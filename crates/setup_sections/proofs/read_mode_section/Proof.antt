@@ -1,4 +1,4 @@
--- `setup_sections::read_mode_section` meets its contract, by SectionLaws. Assumes nothing.
+-- `crate::read_mode_section` meets its contract, by SectionLaws. Assumes nothing.
 use Rattle.setup_sections.proofs.SectionLaws.{section-laws}
 use borrow.Author.Needs.{needs}
 use Rattle.setup_sections.proofs.read_mode_section.Statement.{statement}

@@ -1,4 +1,4 @@
--- `setup_sections::read_residue_section` meets its contract, by SectionLaws. Assumes nothing.
+-- `crate::read_residue_section` meets its contract, by SectionLaws. Assumes nothing.
 use Rattle.setup_sections.proofs.SectionLaws.{residue-laws}
 use borrow.Author.Needs.{needs}
 use Rattle.setup_sections.proofs.read_residue_section.Statement.{statement}

@@ -1,4 +1,4 @@
--- `setup_sections::read_time_value` meets its contract, by SectionLaws. Assumes nothing.
+-- `crate::read_time_value` meets its contract, by SectionLaws. Assumes nothing.
 use Rattle.setup_sections.proofs.SectionLaws.{time-wrong, time-cut, time-read}
 use borrow.Author.Needs.{needs}
 use Rattle.setup_sections.proofs.read_time_value.Statement.{statement}

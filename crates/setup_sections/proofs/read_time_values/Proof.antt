@@ -1,4 +1,4 @@
--- `setup_sections::read_time_values` meets its contract, by SectionLaws. Assumes nothing.
+-- `crate::read_time_values` meets its contract, by SectionLaws. Assumes nothing.
 use Prim.Native.Nat.{_-_}
 use Rattle.reading.specs.Outcome.{ok, then}
 use Rattle.reading.specs.Reader.{many}
