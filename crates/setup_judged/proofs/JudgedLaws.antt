@@ -5,23 +5,21 @@ use native.Mathlib.Omega.{arith}
 use borrow.Author.Tests.{eq-eqb, eqb-true, ne-eqb}
 use mathlib.Core.Bool.{Bool, true, false, _||_}
 use mathlib.Core.List.{List, [], _∷_, _++_}
-use mathlib.Core.Logic.{_⊎_, inl, inr, ⊎-elim, _↔_}
+use mathlib.Core.Logic.{inl, inr, ⊎-elim}
 use mathlib.Core.Option.{Option, none, some}
-use mathlib.Core.Path.{_≡_, refl, sym, ap, subst, _∙_}
+use mathlib.Core.Path.{_≡_, refl, ap, subst, _∙_}
 use lib.Dec.{eqb}
 use lib.ListN.{length}
-use Rattle.reading.specs.Outcome.{Refusal, refusal, Outcome, ok, bad, then, need}
+use Rattle.reading.specs.Outcome.{Refusal, refusal, Outcome, ok, bad, then}
 use Rattle.reading.specs.Lists.{sum}
 use Rattle.reading.proofs.Outcomes.{ok-is, same-bad, then-ok}
-use Rattle.bits.specs.Field.{field}
 use Rattle.header.specs.Header.{framing}
 use Rattle.limits.specs.declared.Limits.{Limits}
 use Rattle.identification.specs.declared.Identity.{Identity}
-use Rattle.codespace.specs.Answers.{isNone}
 use Rattle.codespace.specs.Book.{used, isLone, firstRefused, freeAfter}
 use Rattle.rules.specs.Rules.{meets7, meets8}
 use Rattle.book.specs.Content.{Book}
-use Rattle.book_head.specs.Reading.{Before, Head, head}
+use Rattle.book_head.specs.Reading.{Before}
 use Rattle.book_lengths.specs.Reading.{lengths, entered}
 use Rattle.book_lookup.specs.Reading.{Lookup}
 use Rattle.books.specs.Reading.{book, andThis, books}
@@ -34,7 +32,7 @@ use Rattle.mappings.specs.Reading.{mapping}
 use Rattle.modes.specs.Content.{Mode}
 use Rattle.modes.specs.Reading.{mode}
 use Rattle.setup.specs.Content.{Setup, booksKnown, known}
-use Rattle.setup.specs.Reading.{bookSection, section, timeValue, sections, setup}
+use Rattle.setup.specs.Reading.{bookSection, timeValue, sections, setup}
 use Rattle.setup.specs.Rules.{entriesInAll, multiplicandsInAll}
 use Rattle.setup.specs.Layout.{Tables}
 use Rattle.setup.specs.Call.{setupOf, setupCall, answered}
@@ -156,13 +154,13 @@ or-true false = refl
 refuses-7 : (ls : List ℕ) (e : ℕ) → firstRefused ls ≡ some e → meets7 ls ≡ false
 refuses-7 ls e p = rw p
 
-none-7 : (ls : List ℕ) → firstRefused ls ≡ none → meets7 ls ≡ true
+pub none-7 : (ls : List ℕ) → firstRefused ls ≡ none → meets7 ls ≡ true
 none-7 ls p = rw p
 
 leaves-8 : (ls : List ℕ) → LeavesSpace ls → meets8 ls ≡ false
 leaves-8 ls l = let h = l .left in rw (ne-eqb (freeAfter ls) 0 (λ e. omega arith), l .not-lone)
 
-takes-8 : (ls : List ℕ) → LedgerTakes ls → meets8 ls ≡ true
+pub takes-8 : (ls : List ℕ) → LedgerTakes ls → meets8 ls ≡ true
 takes-8 ls t =
     ⊎-elim
     (λ (z : freeAfter ls ≡ 0). rw (eq-eqb (freeAfter ls) 0 z))

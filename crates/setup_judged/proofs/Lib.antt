@@ -1,2 +1,3 @@
 pub mod Onward
 pub mod JudgedLaws
+pub mod ExampleLaws

@@ -2,7 +2,7 @@
 -- book since the book begins further on. One law for each way to build an outcome, and then one for each reader of a setup packet. Assumes nothing.
 use Prim.Native.Nat.{ℕ, zero, suc, _+_, _-_, _*_, _^_, _≤_, _<_}
 use native.Mathlib.Omega.{arith}
-use mathlib.Core.Bool.{Bool, true, false, not, cond, _||_}
+use mathlib.Core.Bool.{Bool, true, false, not, cond}
 use mathlib.Core.List.{List, [], _∷_, map}
 use mathlib.Core.Path.{_≡_, ap}
 use lib.Dec.{eqb, leb, ltb}
@@ -24,7 +24,7 @@ use Rattle.floor_class.specs.Content.{Class}
 use Rattle.floor_class.specs.Reading as C
 use Rattle.floor_x_list.specs.Content.{xList}
 use Rattle.floor_x_list.specs.Reading as X
-use Rattle.floors.specs.Content.{Floor, classCount, valueCount}
+use Rattle.floors.specs.Content.{classCount, valueCount}
 use Rattle.floors.specs.Reading as F
 use Rattle.residues.specs.Reading as R
 use Rattle.mappings.specs.Content.{Coupling, Submap}
