@@ -2,7 +2,6 @@
 -- 01's table of figures (crates/codespace/specs/Figures.antt). Assumes nothing.
 use Prim.Native.Nat.{ℕ}
 use native.Mathlib.Omega.{arith}
-use borrow.Author.Tests.{ne-eqb}
 use mathlib.Core.Bool.{true}
 use mathlib.Core.List.{List, [], _∷_}
 use mathlib.Core.Option.{some}
@@ -13,7 +12,7 @@ use Rattle.reading.specs.Lists.{listed, distinct, all, rows, sum}
 use Rattle.bits.specs.Field.{bitAt, valueAt, field}
 use Rattle.header.specs.Header.{exactly, commonHeader, framing}
 use Rattle.identification.specs.Sound.{isSound}
-use Rattle.codespace.specs.Book as B
+use Rattle.codespace.specs.Book.{firstRefused}
 use Rattle.codespace.specs.Figures.{Figures}
 use Rattle.codespace.proofs.Figures.{figures}
 use Rattle.book_head.specs.Reading as H
@@ -33,45 +32,7 @@ use Rattle.setup.specs.Layout.{Tables, hasRoom}
 use Rattle.setup.specs.Call.{setupOf, setupCall, answered}
 use Rattle.setup_judged.specs.Judged.{LedgerTakes, LeavesSpace, LengthsRead}
 use Rattle.setup_judged.specs.Example.{standard, identity, packet, content, refused7, refused8, AcceptsExample}
-use Rattle.setup_judged.proofs.JudgedLaws.{Judgement, refuses, leaves, takes, judgement, none-7, takes-8, judged-by-call}
-
--- what the number of a verdict says
-module _ (ls : List ℕ) where
-  verdict-refuses : (e : ℕ) → B.firstRefused ls ≡ some e → B.refusal (B.verdict ls) ≡ 7
-  unfolding B.verdict
-  verdict-refuses e p = rw p
-
-  verdict-leaves : LeavesSpace ls → B.refusal (B.verdict ls) ≡ 8
-  unfolding B.verdict
-  verdict-leaves l = let h = l .left in rw (l .none-refused, ne-eqb (B.freeAfter ls) 0 (λ e. omega arith), l .not-lone)
-
-  verdict-takes : LedgerTakes ls → B.refusal (B.verdict ls) ≡ 0
-  unfolding B.verdict
-  verdict-takes k = rw (k .none-refused, takes-8 ls k)
-
-  number-0 : B.refusal (B.verdict ls) ≡ 0 → LedgerTakes ls
-  number-0 n = go (judgement ls)
-    where
-      go : Judgement ls → LedgerTakes ls
-      go (refuses e p) = let m = verdict-refuses e p in absurd (omega arith)
-      go (leaves l) = let m = verdict-leaves l in absurd (omega arith)
-      go (takes k) = k
-
-  number-7 : B.refusal (B.verdict ls) ≡ 7 → (e : ℕ) × (B.firstRefused ls ≡ some e)
-  number-7 n = go (judgement ls)
-    where
-      go : Judgement ls → (e : ℕ) × (B.firstRefused ls ≡ some e)
-      go (refuses e p) = (e, p)
-      go (leaves l) = let m = verdict-leaves l in absurd (omega arith)
-      go (takes k) = let m = verdict-takes k in absurd (omega arith)
-
-  number-8 : B.refusal (B.verdict ls) ≡ 8 → LeavesSpace ls
-  number-8 n = go (judgement ls)
-    where
-      go : Judgement ls → LeavesSpace ls
-      go (refuses e p) = let m = verdict-refuses e p in absurd (omega arith)
-      go (leaves l) = l
-      go (takes k) = let m = verdict-takes k in absurd (omega arith)
+use Rattle.setup_judged.proofs.JudgedLaws.{none-7, takes-8, number-0, number-7, number-8, judged-by-call}
 
 -- 01's lines
 taken : LedgerTakes (2 ∷ 1 ∷ 2 ∷ [])
@@ -80,7 +41,7 @@ taken = number-0 (2 ∷ 1 ∷ 2 ∷ []) (figures .1 .1 .0 .number)
 left-over : LeavesSpace (1 ∷ 2 ∷ [])
 left-over = number-8 (1 ∷ 2 ∷ []) (figures .1 .1 .1 .0 .number)
 
-one-too-many : (e : ℕ) × (B.firstRefused (2 ∷ 4 ∷ 4 ∷ 4 ∷ 4 ∷ 2 ∷ 3 ∷ 3 ∷ 1 ∷ []) ≡ some e)
+one-too-many : (e : ℕ) × (firstRefused (2 ∷ 4 ∷ 4 ∷ 4 ∷ 4 ∷ 2 ∷ 3 ∷ 3 ∷ 1 ∷ []) ≡ some e)
 one-too-many = number-7 (2 ∷ 4 ∷ 4 ∷ 4 ∷ 4 ∷ 2 ∷ 3 ∷ 3 ∷ 1 ∷ []) (figures .1 .1 .1 .1 .1 .1 .1 .0 .number)
 
 -- the packet's fields, section by section, up to the bit that each ends at

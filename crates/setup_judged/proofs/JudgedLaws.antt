@@ -16,7 +16,8 @@ use Rattle.reading.proofs.Outcomes.{ok-is, same-bad, then-ok}
 use Rattle.header.specs.Header.{framing}
 use Rattle.limits.specs.declared.Limits.{Limits}
 use Rattle.identification.specs.declared.Identity.{Identity}
-use Rattle.codespace.specs.Book.{used, isLone, firstRefused, freeAfter}
+use Rattle.codespace.specs.Book as B
+use Rattle.codespace.specs.Book.{used, isLone, firstRefused, freeAfter, verdict}
 use Rattle.rules.specs.Rules.{meets7, meets8}
 use Rattle.book.specs.Content.{Book}
 use Rattle.book_head.specs.Reading.{Before}
@@ -166,6 +167,44 @@ takes-8 ls t =
     (λ (z : freeAfter ls ≡ 0). rw (eq-eqb (freeAfter ls) 0 z))
     (λ (l : isLone (used ls) ≡ true). rw (l, or-true (eqb (freeAfter ls) 0)))
     (t .full-or-lone)
+
+-- what the number of a verdict says
+module _ (ls : List ℕ) where
+  verdict-refuses : (e : ℕ) → firstRefused ls ≡ some e → B.refusal (verdict ls) ≡ 7
+  unfolding verdict
+  verdict-refuses e p = rw p
+
+  verdict-leaves : LeavesSpace ls → B.refusal (verdict ls) ≡ 8
+  unfolding verdict
+  verdict-leaves l = let h = l .left in rw (l .none-refused, ne-eqb (freeAfter ls) 0 (λ e. omega arith), l .not-lone)
+
+  verdict-takes : LedgerTakes ls → B.refusal (verdict ls) ≡ 0
+  unfolding verdict
+  verdict-takes k = rw (k .none-refused, takes-8 ls k)
+
+  pub number-0 : B.refusal (verdict ls) ≡ 0 → LedgerTakes ls
+  number-0 n = go (judgement ls)
+    where
+      go : Judgement ls → LedgerTakes ls
+      go (refuses e p) = let m = verdict-refuses e p in absurd (omega arith)
+      go (leaves l) = let m = verdict-leaves l in absurd (omega arith)
+      go (takes k) = k
+
+  pub number-7 : B.refusal (verdict ls) ≡ 7 → (e : ℕ) × (firstRefused ls ≡ some e)
+  number-7 n = go (judgement ls)
+    where
+      go : Judgement ls → (e : ℕ) × (firstRefused ls ≡ some e)
+      go (refuses e p) = (e, p)
+      go (leaves l) = let m = verdict-leaves l in absurd (omega arith)
+      go (takes k) = let m = verdict-takes k in absurd (omega arith)
+
+  pub number-8 : B.refusal (verdict ls) ≡ 8 → LeavesSpace ls
+  number-8 n = go (judgement ls)
+    where
+      go : Judgement ls → LeavesSpace ls
+      go (refuses e p) = let m = verdict-refuses e p in absurd (omega arith)
+      go (leaves l) = l
+      go (takes k) = let m = verdict-takes k in absurd (omega arith)
 
 module _ {limits : Limits} {i : Identity} {s : List ℕ} {t : Tables} {place : ℕ} {ls : List ℕ} (x : LengthsRead limits i s t place ls) where
   -- the books behind it
