@@ -45,5 +45,8 @@ pub record Demand3 (limits : Limits) : Type 0 where
       → (b : ℕ) → b < length (c .books) → BookDecodes limits i (setupCall limits i s t .tables) b (lengthsOf c b)
   -- where a setup call has read all lengths of a book, it gives neither 7 nor 8 for it exactly when the ledger takes them
   pub judged : (i : Identity) (s : List ℕ) (t : Tables) (place : ℕ) (ls : List ℕ) → LengthsRead limits i s t place ls → JudgedByCall limits i s t place ls
-  -- and such calls there are: one is accepted
+  -- every book of an accepted setup is one whose lengths were so read
+  pub reached : (i : Identity) (s : List ℕ) (t : Tables) (c : Setup) → setupOf limits i s t ≡ ok c
+      → (b : ℕ) → b < length (c .books) → (place : ℕ) × LengthsRead limits i s t place (lengthsOf c b)
+  -- and accepted setups there are
   pub example : AcceptsExample

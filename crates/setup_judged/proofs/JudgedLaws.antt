@@ -41,24 +41,24 @@ use Rattle.setup_judged.specs.Judged.{LedgerTakes, LeavesSpace, counted,
 use Rattle.setup_judged.proofs.Onward.{Elsewhere, Past, Apart, read, refused, value, then-past, then-apart, head-past, lengths-past, lookup-past, books-past, time-past, floor-past, residue-past, mapping-past, mode-past, section-past, framing-past}
 
 -- so many entries and multiplicands, and those of books read behind them
-abbrev onto : Before → List Book → Before
+abbrev pub onto : Before → List Book → Before
 onto before bs = record { entries = before .entries + entriesInAll bs; values = before .values + multiplicandsInAll bs }
 
-onto-nil : (before : Before) → onto before [] ≡ before
+pub onto-nil : (before : Before) → onto before [] ≡ before
 unfolding entriesInAll multiplicandsInAll sum
 onto-nil before =
     let p : before .entries + 0 ≡ before .entries = omega arith in
     let q : before .values + 0 ≡ before .values = omega arith in
     (λ j. record { entries = p j; values = q j })
 
-onto-cons : (before : Before) (b : Book) (bs : List Book) → onto (andThis before b) bs ≡ onto before (b ∷ bs)
+pub onto-cons : (before : Before) (b : Book) (bs : List Book) → onto (andThis before b) bs ≡ onto before (b ∷ bs)
 unfolding entriesInAll multiplicandsInAll sum
 onto-cons before b bs =
     let p : before .entries + length (b .lengths) + entriesInAll bs ≡ before .entries + (length (b .lengths) + entriesInAll bs) = omega arith in
     let q : before .values + length (b .multiplicands) + multiplicandsInAll bs ≡ before .values + (length (b .multiplicands) + multiplicandsInAll bs) = omega arith in
     (λ j. record { entries = p j; values = q j })
 
-onto-none : (bs : List Book) → onto (record { entries = 0; values = 0 }) bs ≡ counted bs
+pub onto-none : (bs : List Book) → onto (record { entries = 0; values = 0 }) bs ≡ counted bs
 onto-none bs =
     let p : 0 + entriesInAll bs ≡ entriesInAll bs = omega arith in
     let q : 0 + multiplicandsInAll bs ≡ multiplicandsInAll bs = omega arith in
