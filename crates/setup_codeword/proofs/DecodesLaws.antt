@@ -29,9 +29,13 @@ use Rattle.setup.specs.Layout.{Tables, writtenOut}
 use Rattle.setup.specs.Call.{setupOf, setupCall, answered}
 use Rattle.setup.proofs.RuleLaws.{valid-carried, valid-meets}
 use Rattle.setup.proofs.ValidLaws.{setup-valid, room-written, written-twice, call-accepted}
+use Rattle.setup_judged.proofs.JudgedLaws.{judged-by-call}
+use Rattle.setup_judged.specs.Judged.{LengthsRead}
+use Rattle.setup_judged.proofs.ReachedLaws.{book-reached}
+use Rattle.setup_judged.proofs.ExampleLaws.{accepts-example}
 use Rattle.setup_codeword.specs.Call.{lengthsOf, SoundCall, CodewordCall}
 use Rattle.setup_codeword.specs.Demand3.{BookDecodes, Demand3}
-use Rattle.setup_codeword.proofs.JudgedLaws.{accepted-takes, judged-so, neither-so, full-not-lone}
+use Rattle.setup_codeword.proofs.JudgedLaws.{accepted-takes, full-not-lone}
 
 -- the test of an identity, and what it says
 pub sound-identity : (most : ℕ) (i : Identity) → isSound most i ≡ true → I.Sound most i
@@ -105,11 +109,17 @@ left-is : (limits : Limits) (i : Identity) (s : List ℕ) (t : Tables) (c : Setu
 unfolding setupCall answered
 left-is limits i s t c e = rw e
 
+lengths-reached : (limits : Limits) (i : Identity) (s : List ℕ) (t : Tables) (c : Setup) → setupOf limits i s t ≡ ok c
+    → (b : ℕ) → b < length (c .books) → (place : ℕ) × LengthsRead limits i s t place (lengthsOf c b)
+unfolding lengthsOf
+lengths-reached limits i s t c e b h = book-reached limits i s t c e b h
+
 -- DEMAND 3, WHOLE
 pub demand3 : (limits : Limits) → Demand3 limits
 demand3 limits =
     record {
       setups = λ i s t c e b h. subst (λ (u : Tables). BookDecodes limits i u b (lengthsOf c b)) (left-is limits i s t c e) (left-sound limits i s t c e b h);
-      judged = λ ls. judged-so ls;
-      neither = λ before s k h x p q. neither-so limits before s k h x p q;
+      judged = λ i s t place ls x. judged-by-call x;
+      reached = λ i s t c e b h. lengths-reached limits i s t c e b h;
+      example = accepts-example;
     }

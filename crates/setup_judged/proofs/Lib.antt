@@ -1,0 +1,4 @@
+pub mod Onward
+pub mod JudgedLaws
+pub mod ExampleLaws
+pub mod ReachedLaws
