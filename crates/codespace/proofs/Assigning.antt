@@ -23,7 +23,7 @@ use Rattle.codespace.specs.declared.book.Assigned.{Assigned}
 use Rattle.codespace.specs.declared.book.Assigned.the-variants.{Accepted, Overspecified, Underspecified, Mismatched}
 use Rattle.codespace.proofs.Whole.{answer-are, refused-is}
 use Rattle.codespace.proofs.Claimed.{reached-start, next-reached}
-use Rattle.codespace.proofs.Places.{Small, enter-small, run-length}
+use Rattle.codespace.proofs.Places.{Small, enter-small}
 use Rattle.codespace.proofs.Steps.{outside-blocks}
 use Rattle.codespace.proofs.Laws.{after-used, handed-before, used-cons, used-skip, accepted-decodable}
 
@@ -59,13 +59,6 @@ pub record Assigning (ls words₀ words bs : List ℕ) (i : ℕ) : Type 0 where
 pub assigning-start : (ls words bs : List ℕ) → Reached [] bs → Assigning ls words words bs 0
 assigning-start ls words bs r =
     record { within = omega arith; long = refl; reached = r; places = unfold tabulate in refl; kept = λ u h. absurd (omega arith) }
-
-empty-length : length emptyBlocks ≡ 33
-unfolding emptyBlocks
-empty-length = refl
-
-pub reached-length : (ls bs : List ℕ) → Reached ls bs → length bs ≡ 33
-reached-length ls bs r = ap length (r .blocks) ∙ run-length ls emptyBlocks ∙ empty-length
 
 module _ (ls words₀ words bs : List ℕ) (i v : ℕ) (h : i < length ls) (w : Assigning ls words₀ words bs i)
     (e : v ≡ cond (eqb (getD ls i 0) 0) 0 (number (enterAnswer bs (getD ls i 0)))) where

@@ -1,9 +1,9 @@
 // The codewords of a book (01, "Bits and books"; refusals 7 and 8): the lengths of its used entries, entered in entry order into an empty space of
 // their own. specs/Book.antt says by the ledger what each entry gets and when the lengths are accepted.
-use crate::space::Space;
 use crate::space::VACANT;
+use crate::space::empty_space;
+use crate::space::enter;
 use crate::space::is_full;
-use crate::space::take_codeword;
 use reading::buffers::clear_u32;
 ghost use mathlib.Core.Path.{_≡_};
 ghost use mathlib.Core.Bool.{true, cond};
@@ -56,8 +56,7 @@ fn hand_out(lengths: &[u8], words: &mut [u32]) -> Assigned
     requires { ⌜ length (now lengths) ≡ length (now words) ⌝ }
     ensures { λ r. ⌜ (r ≡ verdict (now (lengths .entry))) × (r ≡ Assigned.Accepted → now (words .exit) ≡ codewords (now (lengths .entry))) ⌝ }
 {
-    let space = Space::empty();
-    let mut blocks = space.blocks;
+    let mut blocks = empty_space();
     let mut entry = 0;
     while entry < lengths.len() {
         let value = entry_codeword(&mut blocks, lengths[entry]);
@@ -83,8 +82,7 @@ pub fn are_codewords(lengths: &[u8], words: &[u32]) -> bool
     if lengths.len() != words.len() {
         return false;
     }
-    let space = Space::empty();
-    let mut blocks = space.blocks;
+    let mut blocks = empty_space();
     let mut entry = 0;
     while entry < lengths.len() {
         let value = entry_codeword(&mut blocks, lengths[entry]);
@@ -116,7 +114,7 @@ fn entry_codeword(blocks: &mut [u64; 33], length: u8) -> u64
     if length == 0 {
         return 0;
     }
-    take_codeword(blocks, length)
+    enter(blocks, length)
 }
 
 // The only used entry has length 1.

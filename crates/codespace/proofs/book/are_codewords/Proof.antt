@@ -2,7 +2,8 @@
 use Prim.Native.Nat.{_-_}
 use mathlib.Core.Path.{_≡_}
 use lib.ListN.{length}
-use Rattle.codespace.proofs.Assigning.{Assigning, assigning-start, reached-length}
+use Rattle.codespace.proofs.Places.{reached-length}
+use Rattle.codespace.proofs.Assigning.{Assigning, assigning-start}
 use Rattle.codespace.proofs.Comparing.{not-coded, is-coded, other-length, other-word, comparing-turn, coded-full, coded-lone, coded-under}
 use borrow.Author.Needs.{needs}
 use Rattle.codespace.proofs.book.are_codewords.Statement.{statement}
@@ -17,11 +18,11 @@ abbrev μ-loop : tie.MeasureT-loop
 returns : tie.Need-returns Inv-loop μ-loop
 returns c = not-coded _ _ (other-length _ _ (c .if1 .taken))
 
-empty-requires : tie.Need-empty-requires Inv-loop μ-loop
-empty-requires c κs = search needs
+empty-space-requires : tie.Need-empty-space-requires Inv-loop μ-loop
+empty-space-requires c κs = search needs
 
 loop-holds : tie.Need-loop-holds Inv-loop μ-loop
-loop-holds c = (c .before .before .if1 .left, assigning-start _ _ _ (c .before .empty .ensures .1))
+loop-holds c = (c .before .if1 .left, assigning-start _ _ _ (c .empty-space .ensures .1))
 
 shared-slice-read-entry-codeword : tie.Need-shared-slice-read-entry-codeword Inv-loop μ-loop
 shared-slice-read-entry-codeword c = search needs
@@ -77,7 +78,7 @@ are-codewords-spec =
     Inv-loop
     μ-loop
     returns
-    empty-requires
+    empty-space-requires
     loop-holds
     shared-slice-read-entry-codeword
     entry-codeword-requires

@@ -7,11 +7,11 @@ use Rattle.codespace.proofs.book.entry_codeword.Tie as tie
 returns : tie.Need-returns
 returns c = (unused-number _ _ (c .if1 .taken), unused-blocks _ _ (c .if1 .taken))
 
-take-codeword-requires : tie.Need-take-codeword-requires
-take-codeword-requires c κs = search needs
+enter-requires : tie.Need-enter-requires
+enter-requires c κs = search needs
 
 returns-2 : tie.Need-returns-2
-returns-2 c = (used-number _ _ _ (c .before .before .if1 .left) (c .take-codeword .ensures .0), c .take-codeword .ensures .1)
+returns-2 c = (used-number _ _ _ (c .before .before .if1 .left) (c .enter .ensures .value), c .enter .ensures .left)
 
 pub entry-codeword-spec : {M : Type 1} → statement M
-entry-codeword-spec = tie.close (tie.spec returns take-codeword-requires returns-2)
+entry-codeword-spec = tie.close (tie.spec returns enter-requires returns-2)

@@ -2,7 +2,8 @@
 use Prim.Native.Nat.{_-_}
 use borrow.Author.Needs.{needs}
 use lib.ListN.{length}
-use Rattle.codespace.proofs.Assigning.{Assigning, assigning-start, reached-length, assigning-turn, overspecified, all-written, full-accepted, lone-accepted, underspecified, over-accepted, under-accepted}
+use Rattle.codespace.proofs.Places.{reached-length}
+use Rattle.codespace.proofs.Assigning.{Assigning, assigning-start, assigning-turn, overspecified, all-written, full-accepted, lone-accepted, underspecified, over-accepted, under-accepted}
 use Rattle.codespace.proofs.book.hand_out.Statement.{statement}
 use Rattle.codespace.proofs.book.hand_out.Tie as tie
 
@@ -12,11 +13,11 @@ Inv-loop lengths words₀ blocks₀ entry₀ words blocks entry = Assigning leng
 abbrev μ-loop : tie.MeasureT-loop
 μ-loop lengths words₀ blocks₀ entry₀ words blocks entry = length lengths - entry
 
-empty-requires : tie.Need-empty-requires Inv-loop μ-loop
-empty-requires c κs = search needs
+empty-space-requires : tie.Need-empty-space-requires Inv-loop μ-loop
+empty-space-requires c κs = search needs
 
 loop-holds : tie.Need-loop-holds Inv-loop μ-loop
-loop-holds c = assigning-start _ _ _ (c .before .empty .ensures .1)
+loop-holds c = assigning-start _ _ _ (c .empty-space .ensures .1)
 
 shared-slice-read-entry-codeword : tie.Need-shared-slice-read-entry-codeword Inv-loop μ-loop
 shared-slice-read-entry-codeword c = search needs
@@ -53,7 +54,7 @@ loop-again : tie.Need-loop-again Inv-loop μ-loop
 loop-again c =
     let t = c .before .before .before .before in
     let e = c .before .entry-codeword .ensures in
-    assigning-turn _ _ _ _ _ _ (t .loop-test .taken) (t .before .loop .inv) (e .0) _ (t .before .before .before .before .before .before .pre) (e .1) (c .if1 .left)
+    assigning-turn _ _ _ _ _ _ (t .loop-test .taken) (t .before .loop .inv) (e .0) _ (t .before .before .before .before .before .pre) (e .1) (c .if1 .left)
 
 is-full-requires : tie.Need-is-full-requires Inv-loop μ-loop
 is-full-requires c κs = reached-length _ _ (c .before .before .loop .inv .reached)
@@ -66,7 +67,7 @@ returns-2 c =
     let l = c .before .before .before in
     let w = l .before .loop .inv in (
       full-accepted _ _ _ _ _ (l .loop-test .left) w _ (c .before .is-full .ensures) (c .if2 .taken),
-      λ q. all-written _ _ _ _ _ (l .loop-test .left) w (l .before .before .before .before .before .before .pre),
+      λ q. all-written _ _ _ _ _ (l .loop-test .left) w (l .before .before .before .before .before .pre),
     )
 
 is-lone-requires : tie.Need-is-lone-requires Inv-loop μ-loop
@@ -80,7 +81,7 @@ returns-3 c =
     let l = c .before .before .before .before .before in
     let w = l .before .loop .inv in (
       lone-accepted _ _ _ _ _ (l .loop-test .left) w _ (c .before .is-lone .ensures) (c .if3 .taken),
-      λ q. all-written _ _ _ _ _ (l .loop-test .left) w (l .before .before .before .before .before .before .pre),
+      λ q. all-written _ _ _ _ _ (l .loop-test .left) w (l .before .before .before .before .before .pre),
     )
 
 same-length-4 : tie.Need-same-length-4 Inv-loop μ-loop
@@ -101,7 +102,7 @@ hand-out-spec =
     (tie.spec
     Inv-loop
     μ-loop
-    empty-requires
+    empty-space-requires
     loop-holds
     shared-slice-read-entry-codeword
     entry-codeword-requires
