@@ -23,7 +23,7 @@ fn enter_lengths(lengths: &[u8], words: &mut [u32], place: Cursor, next: Cursor)
         Assigned::Accepted => Step::Next(next),
         Assigned::Overspecified(_) => Step::Refused(Refusal { number: 7, place }),
         Assigned::Underspecified => Step::Refused(Refusal { number: 8, place }),
-        Assigned::Mismatched => Step::Refused(Refusal { number: 17, place }),
+        Assigned::TooShort => Step::Refused(Refusal { number: 17, place }),
     }
 }
 

@@ -8,24 +8,29 @@ use Prim.Native.Nat.{ℕ, zero, suc, _+_, _-_, _^_, _≤_, _<_}
 use native.Mathlib.Numerals.{add-one}
 use native.Mathlib.Omega.{arith}
 use lib.Dec.{eqb, leb}
-use lib.ListN.{length, getD, set, take, drop, replicate, length-set, drop-of-length-le}
+use lib.ListN.{length, getD, set, take, drop, replicate, length-set, length-replicate, drop-of-length-le}
 use lib.Seq.{take-suc, take-all, drop-cons, drop-length}
-use borrow.Author.Tests.{eq-eqb, ne-eqb, eqb-true, le-leb, lt-leb}
+use borrow.Author.Tests.{eq-eqb, ne-eqb, eqb-true, le-leb, lt-leb, lt-ltb, le-ltb}
 use Rattle.reading.specs.Least.{lowest}
+use Rattle.reading.specs.Pad.{pad}
 use Rattle.reading.specs.Tabulate.{tabulate}
 use Rattle.reading.proofs.Least.{true-or-false, true-not-false, lt-or-le, lowest-is, lowest-none, below-suc}
-use Rattle.reading.proofs.Tabulate.{tabulate-store, tabulate-all}
+use Rattle.reading.proofs.Pads.{pad-nil, pad-set}
+use Rattle.reading.proofs.Tabulate.{tabulate-length}
 use Rattle.codespace.specs.Ledger.{Codeword, share, freeStrings, isLength, IsLength, answer, after}
 use Rattle.codespace.specs.Blocks.{vacant, enterAnswer, enterBlocks, emptyBlocks, runBlocks, Reached, blockFor}
 use Rattle.codespace.specs.Answers.{number, isNone}
 use Rattle.codespace.specs.Book.{used, isUsed, handedOutBefore, entryAnswer, orZero, isRefused, firstRefused, codewordOf, codewords, freeAfter, isLone, verdict, assigned, written, Decodable, NextUsed}
 use Rattle.codespace.specs.declared.book.Assigned.{Assigned}
-use Rattle.codespace.specs.declared.book.Assigned.the-variants.{Accepted, Overspecified, Underspecified, Mismatched}
+use Rattle.codespace.specs.declared.book.Assigned.the-variants.{Accepted, Overspecified, Underspecified, TooShort}
 use Rattle.codespace.proofs.Whole.{answer-are, refused-is}
 use Rattle.codespace.proofs.Claimed.{reached-start, next-reached}
 use Rattle.codespace.proofs.Places.{Small, enter-small}
 use Rattle.codespace.proofs.Steps.{outside-blocks}
-use Rattle.codespace.proofs.Laws.{after-used, handed-before, used-cons, used-skip, accepted-decodable}
+use Rattle.codespace.specs.Figures.{Figures}
+use Rattle.codespace.proofs.Figures.{figures}
+use Rattle.codespace.proofs.Numbers.{pad-front}
+use Rattle.codespace.proofs.Laws.{codewords-length, after-used, handed-before, used-cons, used-skip, accepted-decodable}
 
 -- an entry's answer, by the space that the entries before it have come to
 entry-model : (ls bs : List ℕ) (e : ℕ) → Reached (take e ls) bs → entryAnswer ls e ≡ enterAnswer bs (getD ls e 0)
@@ -48,21 +53,18 @@ number-full true o v p e h = absurd (omega arith)
 number-full false none v p e h = refl
 number-full false (some u) v p e h = absurd (omega arith)
 
--- where a turn of `hand_out` begins: the entries before i are entered, none was refused, and their places are written
-pub record Assigning (ls words₀ words bs : List ℕ) (i : ℕ) : Type 0 where
+-- where a turn of `hand_out` and of `are_codewords` begins: the entries before i are entered, and none was refused
+pub record Assigning (ls bs : List ℕ) (i : ℕ) : Type 0 where
   pub within : i ≤ length ls
-  pub long : length words ≡ length words₀
   pub reached : Reached (take i ls) bs
-  pub places : take i words ≡ tabulate (codewordOf ls) i
   pub kept : (u : ℕ) → u < i → isRefused ls u ≡ false
 
-pub assigning-start : (ls words bs : List ℕ) → Reached [] bs → Assigning ls words words bs 0
-assigning-start ls words bs r =
-    record { within = omega arith; long = refl; reached = r; places = unfold tabulate in refl; kept = λ u h. absurd (omega arith) }
+pub assigning-start : (ls bs : List ℕ) → Reached [] bs → Assigning ls bs 0
+assigning-start ls bs r = record { within = omega arith; reached = r; kept = λ u h. absurd (omega arith) }
 
-module _ (ls words₀ words bs : List ℕ) (i v : ℕ) (h : i < length ls) (w : Assigning ls words₀ words bs i)
+module _ (ls bs : List ℕ) (i v : ℕ) (h : i < length ls) (w : Assigning ls bs i)
     (e : v ≡ cond (eqb (getD ls i 0) 0) 0 (number (enterAnswer bs (getD ls i 0)))) where
-  word-is : v < vacant → v ≡ codewordOf ls i
+  pub word-is : v < vacant → v ≡ codewordOf ls i
   unfolding codewordOf isUsed
   word-is l = rw (entry-model ls bs i (w .reached)) (number-word (eqb (getD ls i 0) 0) (enterAnswer bs (getD ls i 0)) v e l)
 
@@ -76,16 +78,12 @@ module _ (ls words₀ words bs : List ℕ) (i v : ℕ) (h : i < length ls) (w : 
       rw (entry-model ls bs i (w .reached))
       (number-full (eqb (getD ls i 0) 0) (enterAnswer bs (getD ls i 0)) v (enter-small bs (getD ls i 0)) e l)
 
-  pub assigning-turn : (bs′ : List ℕ) → length ls ≡ length words₀ → bs′ ≡ enterBlocks bs (getD ls i 0) → v < vacant
-      → Assigning ls words₀ (set words i v) bs′ (i + 1)
-  assigning-turn bs′ n q l =
-      let m = w .long in
+  pub assigning-turn : (bs′ : List ℕ) → bs′ ≡ enterBlocks bs (getD ls i 0) → v < vacant → Assigning ls bs′ (i + 1)
+  assigning-turn bs′ q l =
       let r = next-reached (take i ls) (getD ls i 0) bs (w .reached) in
       record {
         within = omega arith;
-        long = simp length-set (w .long);
         reached = rw (q, add-one, take-suc ls i 0 h) r;
-        places = tabulate-store (codewordOf ls) words i v (omega arith) (word-is l) (w .places);
         kept = λ u k. ⊎-elim (λ (j : u < i). w .kept u j) (λ (j : u ≡ i). rw j (kept-is l)) (below-suc (rw add-one at k));
       }
 
@@ -94,17 +92,13 @@ module _ (ls words₀ words bs : List ℕ) (i v : ℕ) (h : i < length ls) (w : 
   overspecified l = rw (lowest-is (isRefused ls) (length ls) i h (full-is l) (w .kept))
 
 -- the end of the loop
-module _ (ls words₀ words bs : List ℕ) (i : ℕ) (h : length ls ≤ i) (w : Assigning ls words₀ words bs i) where
-  all : i ≡ length ls
-  all = let m = w .within in omega arith
+module _ (ls bs : List ℕ) (i : ℕ) (h : length ls ≤ i) (w : Assigning ls bs i) where
+  pub all-passed : i ≡ length ls
+  all-passed = let m = w .within in omega arith
 
   none-refused : firstRefused ls ≡ none
   unfolding firstRefused
   none-refused = lowest-none (isRefused ls) (length ls) (λ u l. w .kept u (omega arith))
-
-  pub all-written : length ls ≡ length words₀ → words ≡ codewords ls
-  unfolding codewords
-  all-written n = let m = w .long in tabulate-all (codewordOf ls) words i (length ls) (omega arith) (w .within) h (w .places)
 
   -- a length of 32 is refused exactly where nothing is left
   full-test : isNone (enterAnswer bs 32) ≡ eqb (freeAfter ls) 0
@@ -131,6 +125,33 @@ module _ (ls words₀ words bs : List ℕ) (i : ℕ) (h : length ls ≤ i) (w : 
   pub underspecified : (r q : Bool) → r ≡ isNone (enterAnswer bs 32) → r ≡ false → q ≡ isLone (used ls) → q ≡ false → Underspecified ≡ verdict ls
   unfolding verdict
   underspecified r q e t f s = rw (none-refused, sym full-test ∙ sym e ∙ t, sym f ∙ s)
+
+-- `hand_out`: the places before i hold the codewords, and the others are zero
+pub record Handing (ls words₀ words bs : List ℕ) (i : ℕ) : Type 0 where
+  pub entered : Assigning ls bs i
+  pub long : length words ≡ length words₀
+  pub places : words ≡ pad (length words₀) (tabulate (codewordOf ls) i)
+
+pub handing-start : (ls words bs : List ℕ) → words ≡ replicate (length words) 0 → Reached [] bs → Handing ls words words bs 0
+handing-start ls words bs e r =
+    record { entered = assigning-start ls bs r; long = refl; places = unfold tabulate in e ∙ sym (pad-nil (length words)) }
+
+pub handing-turn : (ls words₀ words bs : List ℕ) (i v : ℕ) → i < length ls → Handing ls words₀ words bs i
+    → v ≡ cond (eqb (getD ls i 0) 0) 0 (number (enterAnswer bs (getD ls i 0))) → (bs′ : List ℕ) → bs′ ≡ enterBlocks bs (getD ls i 0) → v < vacant
+    → Handing ls words₀ (set words i v) bs′ (i + 1)
+handing-turn ls words₀ words bs i v h w e bs′ q l =
+    let g = codewordOf ls in
+    record {
+      entered = assigning-turn ls bs i v h (w .entered) e bs′ q l;
+      long = simp length-set (w .long);
+      places =
+          rw (w .places, word-is ls bs i v h (w .entered) e l, add-one)
+          (unfold tabulate in pad-set (length words₀) (tabulate g i) i (g i) (sym (tabulate-length g i)));
+    }
+
+pub all-written : (ls words₀ words bs : List ℕ) (i : ℕ) → length ls ≤ i → Handing ls words₀ words bs i → words ≡ pad (length words₀) (codewords ls)
+unfolding codewords
+all-written ls words₀ words bs i h w = w .places ∙ rw (all-passed ls bs i h (w .entered))
 
 -- `entry_codeword`: an unused entry takes nothing
 module _ (bs : List ℕ) (len : ℕ) where
@@ -185,13 +206,13 @@ module _ (ls : List ℕ) (r : ℕ) (n : NextUsed ls 0 r) where
 
 -- `assign_codewords`
 module _ (ls : List ℕ) (places : ℕ) where
-  mismatched : (length ls ≡ places → ⊥) → Mismatched ≡ assigned ls places
+  too-short : places < length ls → TooShort ≡ assigned ls places
   unfolding assigned
-  mismatched n = rw (ne-eqb (length ls) places n)
+  too-short l = rw (lt-ltb places (length ls) l)
 
-  assigned-is : (a : Assigned) → length ls ≡ places → a ≡ verdict ls → a ≡ assigned ls places
+  assigned-is : (a : Assigned) → length ls ≤ places → a ≡ verdict ls → a ≡ assigned ls places
   unfolding assigned
-  assigned-is a n e = rw (eq-eqb (length ls) places n) e
+  assigned-is a l e = rw (le-ltb places (length ls) l) e
 
 -- a refusal is not accepted
 pub over-accepted : (e : ℕ) → Overspecified e ≡ Accepted → ⊥
@@ -200,37 +221,55 @@ over-accepted e q = let z : _≡_ {A = ℕ} 0 1 = cc in omega arith
 pub under-accepted : Underspecified ≡ Accepted → ⊥
 under-accepted q = let z : _≡_ {A = ℕ} 0 1 = cc in omega arith
 
-pub mismatch-accepted : Mismatched ≡ Accepted → ⊥
-mismatch-accepted q = let z : _≡_ {A = ℕ} 0 1 = cc in omega arith
+pub short-accepted : TooShort ≡ Accepted → ⊥
+short-accepted q = let z : _≡_ {A = ℕ} 0 1 = cc in omega arith
 
 written-refused : (a : Assigned) (ls : List ℕ) (places : ℕ) → (a ≡ Accepted → ⊥) → written a ls places ≡ replicate places 0
 written-refused Accepted ls places n = absurd (n refl)
 written-refused (Overspecified e) ls places n = refl
 written-refused Underspecified ls places n = refl
-written-refused Mismatched ls places n = refl
+written-refused TooShort ls places n = refl
 
 -- what `assign_codewords` promises of its answer and of what it leaves
-abbrev pub Promised : List ℕ → List ℕ → Assigned → List ℕ → Type 0
-Promised ls words₀ a out = ((a ≡ assigned ls (length words₀)) × (out ≡ written a ls (length words₀))) × (a ≡ Accepted → Decodable ls out)
+abbrev pub Promised : List ℕ → ℕ → Assigned → List ℕ → Type 0
+Promised ls places a out =
+    ((a ≡ assigned ls places) × (out ≡ written a ls places)) × ((a ≡ Accepted → Decodable ls (take (length ls) out)) × Figures)
 
-module _ (ls words₀ : List ℕ) where
-  pub promised-mismatched : (a : Assigned) (out : List ℕ) → (length ls ≡ length words₀ → ⊥) → a ≡ Mismatched → out ≡ replicate (length words₀) 0
-      → Promised ls words₀ a out
-  promised-mismatched a out n q e =
-      rw q ((mismatched ls (length words₀) n, e), λ z. absurd (mismatch-accepted z))
+-- a list that was cleared
+module _ (places : ℕ) (words₀ : List ℕ) (cleared : words₀ ≡ replicate places 0) where
+  all-places : length words₀ ≡ places
+  all-places = ap length cleared ∙ length-replicate places 0
 
-  module _ (r : Assigned) (n : length ls ≡ length words₀) (e : r ≡ verdict ls) where
-    pub promised-accepted : (out : List ℕ) → (r ≡ Accepted → out ≡ codewords ls) → r ≡ Accepted → Promised ls words₀ r out
+  pub still-cleared : words₀ ≡ replicate (length words₀) 0
+  still-cleared = cleared ∙ ap (λ (n : ℕ). replicate n 0) (sym all-places)
+
+module _ (ls : List ℕ) (places : ℕ) (words₀ : List ℕ) (cleared : words₀ ≡ replicate places 0) where
+  pub promised-short : length words₀ < length ls → Promised ls places TooShort words₀
+  promised-short l =
+      let n = all-places places words₀ cleared in
+      ((too-short ls places (omega arith), cleared), (λ z. absurd (short-accepted z), figures))
+
+  module _ (r : Assigned) (l : length ls ≤ length words₀) (e : r ≡ verdict ls) where
+    fits : length ls ≤ places
+    fits = let n = all-places places words₀ cleared in omega arith
+
+    pub promised-accepted : (out : List ℕ) → (r ≡ Accepted → out ≡ pad (length words₀) (codewords ls)) → r ≡ Accepted → Promised ls places r out
     promised-accepted out w q =
-        ((assigned-is ls (length words₀) r n e, rw q (w q)), λ z. rw (w q) (accepted-decodable ls (sym e ∙ q)))
+        let o : out ≡ pad places (codewords ls) = w q ∙ ap (λ (n : ℕ). pad n (codewords ls)) (all-places places words₀ cleared) in
+        let n = codewords-length ls in
+        let m = fits in
+        let t : take (length ls) out ≡ codewords ls = rw (o, ← n) (pad-front places (codewords ls) (omega arith)) in (
+          (assigned-is ls places r fits e, rw q o),
+          (λ z. rw t (accepted-decodable ls (sym e ∙ q)), figures),
+        )
 
     pub promised-refused : (a : Assigned) (words out : List ℕ) → (r ≡ Accepted → ⊥) → length words ≡ length words₀ → a ≡ r
-        → out ≡ replicate (length words) 0 → Promised ls words₀ a out
+        → out ≡ replicate (length words) 0 → Promised ls places a out
     promised-refused a words out m long q w =
         let x : a ≡ Accepted → ⊥ = λ z. m (sym q ∙ z) in (
           (
-            assigned-is ls (length words₀) a n (q ∙ e),
-            w ∙ ap (λ (k : ℕ). replicate k 0) long ∙ sym (written-refused a ls (length words₀) x),
+            assigned-is ls places a fits (q ∙ e),
+            w ∙ ap (λ (k : ℕ). replicate k 0) (long ∙ all-places places words₀ cleared) ∙ sym (written-refused a ls places x),
           ),
-          λ z. absurd (x z),
+          (λ z. absurd (x z), figures),
         )

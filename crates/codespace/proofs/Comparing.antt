@@ -7,15 +7,15 @@ use Prim.Native.Nat.{ℕ, zero, suc, _+_, _≤_, _<_}
 use native.Mathlib.Omega.{arith}
 use lib.Dec.{eqb}
 use lib.ListN.{length, getD, set, take}
-use lib.Seq.{getD-take, getD-set-same}
 use Rattle.reading.proofs.Least.{lt-or-le}
-use Rattle.reading.proofs.Tabulate.{tabulate-at, tabulate-length}
+use Rattle.reading.specs.Tabulate.{tabulate}
+use Rattle.reading.proofs.Tabulate.{tabulate-at, tabulate-length, tabulate-store, tabulate-all}
 use Rattle.codespace.specs.Blocks.{vacant, enterAnswer, enterBlocks, Reached}
 use Rattle.codespace.specs.Answers.{number, isNone}
 use Rattle.codespace.specs.Book.{used, codewordOf, codewords, isLone, verdict, Coded}
 use Rattle.codespace.specs.declared.book.Assigned.{Assigned}
-use Rattle.codespace.specs.declared.book.Assigned.the-variants.{Accepted, Overspecified, Underspecified, Mismatched}
-use Rattle.codespace.proofs.Assigning.{Assigning, assigning-turn, overspecified, all-written, full-accepted, lone-accepted, underspecified, over-accepted, under-accepted}
+use Rattle.codespace.specs.declared.book.Assigned.the-variants.{Accepted, Overspecified, Underspecified, TooShort}
+use Rattle.codespace.proofs.Assigning.{Assigning, assigning-start, assigning-turn, word-is, overspecified, full-accepted, lone-accepted, underspecified, over-accepted, under-accepted}
 
 pub not-coded : (ls words : List ℕ) → (Coded ls words → ⊥) → (false ≡ true) ↔ Coded ls words
 not-coded ls words n = (λ t. let z : _≡_ {A = ℕ} 0 1 = cc in absurd (omega arith), λ k. absurd (n k))
@@ -37,36 +37,48 @@ word-at : (ls words : List ℕ) (i : ℕ) → i < length ls → words ≡ codewo
 unfolding codewords
 word-at ls words i h e = ap (λ (t : List ℕ). getD t i 0) e ∙ tabulate-at (codewordOf ls) (length ls) i h
 
-module _ (ls words bs : List ℕ) (i v : ℕ) (h : i < length ls) (w : Assigning ls words words bs i)
-    (e : v ≡ cond (eqb (getD ls i 0) 0) 0 (number (enterAnswer bs (getD ls i 0)))) (n : length ls ≡ length words) where
-  value-word : v < vacant → v ≡ codewordOf ls i
-  value-word l =
-      let a = assigning-turn ls words words bs i v h w e (enterBlocks bs (getD ls i 0)) n refl l in
-      let g : getD (take (i + 1) (set words i v)) i 0 ≡ v = getD-take (i + 1) (set words i v) i 0 (omega arith) ∙ getD-set-same words i v 0 (omega arith) in
-      sym g ∙ ap (λ (t : List ℕ). getD t i 0) (a .places) ∙ tabulate-at (codewordOf ls) (i + 1) i (omega arith)
+-- where a turn begins: the entries before i are entered, and their words are the codewords
+pub record Comparing (ls words bs : List ℕ) (i : ℕ) : Type 0 where
+  pub long : length ls ≡ length words
+  pub entered : Assigning ls bs i
+  pub same : take i words ≡ tabulate (codewordOf ls) i
 
-  pub comparing-turn : {x : ℕ} → (x ≡ getD words i 0) × (getD words i 0 < vacant) → v ≡ x → (bs′ : List ℕ) → bs′ ≡ enterBlocks bs (getD ls i 0) → Assigning ls words words bs′ (i + 1)
+pub comparing-start : (ls words bs : List ℕ) → length ls ≡ length words → Reached [] bs → Comparing ls words bs 0
+comparing-start ls words bs n r = record { long = n; entered = assigning-start ls bs r; same = unfold tabulate in refl }
+
+module _ (ls words bs : List ℕ) (i v : ℕ) (h : i < length ls) (w : Comparing ls words bs i)
+    (e : v ≡ cond (eqb (getD ls i 0) 0) 0 (number (enterAnswer bs (getD ls i 0)))) where
+  pub comparing-turn : {x : ℕ} → (x ≡ getD words i 0) × (getD words i 0 < vacant) → v ≡ x → (bs′ : List ℕ) → bs′ ≡ enterBlocks bs (getD ls i 0) → Comparing ls words bs′ (i + 1)
   comparing-turn p q bs′ f =
       let b = p .1 in
       let o = p .0 in
-      let a = assigning-turn ls words words bs i v h w e bs′ n f (omega arith) in
+      let n = w .long in
+      let k = word-is ls bs i v h (w .entered) e (omega arith) in
       let s : set words i v ≡ words = ap (set words i) (q ∙ p .0) ∙ set-same words i in
-      rw s at a
+      record {
+        long = n;
+        entered = assigning-turn ls bs i v h (w .entered) e bs′ f (omega arith);
+        same = rw s at (tabulate-store (codewordOf ls) words i v (omega arith) k (w .same));
+      }
 
   pub other-word : {x : ℕ} → (x ≡ getD words i 0) × (getD words i 0 < vacant) → (v ≡ x → ⊥) → Coded ls words → ⊥
   other-word p q k =
       ⊎-elim
-      (λ (l : v < vacant). q (value-word l ∙ sym (word-at ls words i h (k .assigned)) ∙ sym (p .0)))
-      (λ (l : vacant ≤ v). over-accepted i (overspecified ls words words bs i v h w e l ∙ k .accepted))
+      (λ (l : v < vacant). q (word-is ls bs i v h (w .entered) e l ∙ sym (word-at ls words i h (k .assigned)) ∙ sym (p .0)))
+      (λ (l : vacant ≤ v). over-accepted i (overspecified ls bs i v h (w .entered) e l ∙ k .accepted))
       (lt-or-le v vacant)
 
 -- the end of the loop
-module _ (ls words bs : List ℕ) (i : ℕ) (h : length ls ≤ i) (w : Assigning ls words words bs i) (n : length ls ≡ length words) where
+module _ (ls words bs : List ℕ) (i : ℕ) (h : length ls ≤ i) (w : Comparing ls words bs i) where
+  all-same : words ≡ codewords ls
+  unfolding codewords
+  all-same = tabulate-all (codewordOf ls) words i (length ls) (sym (w .long)) (w .entered .within) h (w .same)
+
   pub coded-full : (r : Bool) → r ≡ isNone (enterAnswer bs 32) → r ≡ true → Coded ls words
-  coded-full r e t = record { accepted = sym (full-accepted ls words words bs i h w r e t); assigned = all-written ls words words bs i h w n }
+  coded-full r e t = record { accepted = sym (full-accepted ls bs i h (w .entered) r e t); assigned = all-same }
 
   pub coded-lone : (r : Bool) → r ≡ isLone (used ls) → r ≡ true → Coded ls words
-  coded-lone r e t = record { accepted = sym (lone-accepted ls words words bs i h w r e t); assigned = all-written ls words words bs i h w n }
+  coded-lone r e t = record { accepted = sym (lone-accepted ls bs i h (w .entered) r e t); assigned = all-same }
 
   pub coded-under : (r q : Bool) → r ≡ isNone (enterAnswer bs 32) → r ≡ false → q ≡ isLone (used ls) → q ≡ false → Coded ls words → ⊥
-  coded-under r q e t f s k = under-accepted (underspecified ls words words bs i h w r q e t f s ∙ k .accepted)
+  coded-under r q e t f s k = under-accepted (underspecified ls bs i h (w .entered) r q e t f s ∙ k .accepted)

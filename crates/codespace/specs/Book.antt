@@ -5,14 +5,15 @@ use mathlib.Core.List.{List, [], _∷_}
 use mathlib.Core.Option.{Option, none, some}
 use mathlib.Core.Path.{_≡_}
 use Prim.Native.Nat.{ℕ, _-_, _/_, _^_, _≤_, _<_}
-use lib.Dec.{eqb}
+use lib.Dec.{eqb, ltb}
 use lib.ListN.{length, getD, take, drop, replicate}
 use Rattle.reading.specs.Least.{lowest}
+use Rattle.reading.specs.Pad.{pad}
 use Rattle.reading.specs.Tabulate.{tabulate}
 use Rattle.codespace.specs.Ledger.{Codeword, share, freeStrings, answer, after}
 use Rattle.codespace.specs.Answers.{isNone}
 use Rattle.codespace.specs.declared.book.Assigned.{Assigned}
-use Rattle.codespace.specs.declared.book.Assigned.the-variants.{Accepted, Overspecified, Underspecified, Mismatched}
+use Rattle.codespace.specs.declared.book.Assigned.the-variants.{Accepted, Overspecified, Underspecified, TooShort}
 
 -- the lengths of the used entries
 unfoldable pub used : List ℕ → List ℕ
@@ -70,23 +71,23 @@ refusedOr none a = a
 unfoldable pub verdict : List ℕ → Assigned
 verdict lengths = refusedOr (firstRefused lengths) (cond (eqb (freeAfter lengths) 0 || isLone (used lengths)) Accepted Underspecified)
 
--- the same for a lent list of codewords, which has to have a place for each entry and no more
+-- the same for a lent list of codewords, which has to have a place for each entry
 unfoldable pub assigned : List ℕ → ℕ → Assigned
-assigned lengths places = cond (eqb (length lengths) places) (verdict lengths) Mismatched
+assigned lengths places = cond (ltb places (length lengths)) TooShort (verdict lengths)
 
--- what is left in the lent list: on any refusal all zeros
+-- what all places of the lent list hold: each entry's codeword, and zeros behind them; on any refusal all zeros
 abbrev pub written : Assigned → List ℕ → ℕ → List ℕ
-written Accepted lengths places = codewords lengths
+written Accepted lengths places = pad places (codewords lengths)
 written (Overspecified e) lengths places = replicate places 0
 written Underspecified lengths places = replicate places 0
-written Mismatched lengths places = replicate places 0
+written TooShort lengths places = replicate places 0
 
 -- 01's number of each answer ("When the packet is sent back"), 0 where there is no refusal
 abbrev pub refusal : Assigned → ℕ
 refusal Accepted = 0
 refusal (Overspecified e) = 7
 refusal Underspecified = 8
-refusal Mismatched = 17
+refusal TooShort = 17
 
 -- the string s begins with the codeword of the used entry e
 pub record Begins (lengths words : List ℕ) (s e : ℕ) : Type 0 where

@@ -10,10 +10,12 @@ ghost use mathlib.Core.Bool.{true, cond};
 ghost use mathlib.Core.Logic.{_↔_};
 ghost use Prim.Native.Nat.{_<_, _≤_};
 ghost use lib.Dec.{eqb};
-ghost use lib.ListN.{length, replicate};
+ghost use lib.ListN.{length, take, replicate};
+ghost use Rattle.reading.specs.Pad.{pad};
 ghost use Rattle.codespace.specs.Blocks.{enterAnswer, enterBlocks};
 ghost use Rattle.codespace.specs.Answers.{number};
 ghost use Rattle.codespace.specs.Book.{used, isLone, verdict, assigned, written, codewords, Decodable, NextUsed, Coded};
+ghost use Rattle.codespace.specs.Figures.{Figures};
 
 pub enum Assigned {
     // Each used entry has its codeword, and no space is left over; or the only used entry has length 1.
@@ -22,24 +24,27 @@ pub enum Assigned {
     Overspecified(usize),
     // Refusal 8: space is left over.
     Underspecified,
-    // The lent list has not just a place for each entry.
-    Mismatched,
+    // Refusal 17: the lent list has fewer places than there are entries.
+    TooShort,
 }
 
-// Assigns each used entry its codeword, and 0 to the unused ones. On any refusal the lent list is all zeros.
+// Assigns each used entry its codeword, and 0 to the unused ones; places behind them are 0. On any refusal the lent list is all zeros.
+// 01's figures about lengths stand here too.
 pub fn assign_codewords(lengths: &[u8], words: &mut [u32]) -> Assigned
     ensures { λ r. ⌜ (r ≡ assigned (now (lengths .entry)) (length (now (words .entry)))) × (now (words .exit) ≡ written r (now (lengths .entry)) (length (now (words .entry)))) ⌝ }
-    ensures { λ r. ⌜ (r ≡ Assigned.Accepted → Decodable (now (lengths .entry)) (now (words .exit))) ⌝ }
+    ensures { λ r. ⌜ (r ≡ Assigned.Accepted → Decodable (now (lengths .entry)) (take (length (now (lengths .entry))) (now (words .exit)))) ⌝ }
+    ensures { λ _. ⌜ Figures ⌝ }
 {
-    if lengths.len() != words.len() {
-        return refuse(words, Assigned::Mismatched);
+    clear_u32(words);
+    if words.len() < lengths.len() {
+        return Assigned::TooShort;
     }
     let answer = hand_out(lengths, words);
     match answer {
         Assigned::Accepted => answer,
         Assigned::Overspecified(_) => refuse(words, answer),
         Assigned::Underspecified => refuse(words, answer),
-        Assigned::Mismatched => refuse(words, answer),
+        Assigned::TooShort => refuse(words, answer),
     }
 }
 
@@ -51,10 +56,10 @@ fn refuse(words: &mut [u32], answer: Assigned) -> Assigned
     answer
 }
 
-// The verdict, and the codewords where it accepts.
+// The verdict, and the codewords where it accepts, in a cleared list that has a place for each entry.
 fn hand_out(lengths: &[u8], words: &mut [u32]) -> Assigned
-    requires { ⌜ length (now lengths) ≡ length (now words) ⌝ }
-    ensures { λ r. ⌜ (r ≡ verdict (now (lengths .entry))) × (r ≡ Assigned.Accepted → now (words .exit) ≡ codewords (now (lengths .entry))) ⌝ }
+    requires { ⌜ (length (now lengths) ≤ length (now words)) × (now words ≡ replicate (length (now words)) 0) ⌝ }
+    ensures { λ r. ⌜ (r ≡ verdict (now (lengths .entry))) × (r ≡ Assigned.Accepted → now (words .exit) ≡ pad (length (now (words .entry))) (codewords (now (lengths .entry)))) ⌝ }
 {
     let mut blocks = empty_space();
     let mut entry = 0;
@@ -75,7 +80,7 @@ fn hand_out(lengths: &[u8], words: &mut [u32]) -> Assigned
     Assigned::Underspecified
 }
 
-// The lengths are accepted and these are their codewords: what `assign_codewords` would write, compared instead of stored.
+// The lengths are accepted and these are their codewords: what `assign_codewords` would write into as many places, compared instead of stored.
 pub fn are_codewords(lengths: &[u8], words: &[u32]) -> bool
     ensures { λ r. ⌜ (r ≡ true) ↔ Coded (now (lengths .entry)) (now (words .entry)) ⌝ }
 {

@@ -3,14 +3,13 @@ use Prim.Native.Nat.{_-_}
 use mathlib.Core.Path.{_≡_}
 use lib.ListN.{length}
 use Rattle.codespace.proofs.Places.{reached-length}
-use Rattle.codespace.proofs.Assigning.{Assigning, assigning-start}
-use Rattle.codespace.proofs.Comparing.{not-coded, is-coded, other-length, other-word, comparing-turn, coded-full, coded-lone, coded-under}
+use Rattle.codespace.proofs.Comparing.{Comparing, comparing-start, not-coded, is-coded, other-length, other-word, comparing-turn, coded-full, coded-lone, coded-under}
 use borrow.Author.Needs.{needs}
 use Rattle.codespace.proofs.book.are_codewords.Statement.{statement}
 use Rattle.codespace.proofs.book.are_codewords.Tie as tie
 
 abbrev Inv-loop : tie.InvT-loop
-Inv-loop lengths words blocks₀ entry₀ blocks entry = (length lengths ≡ length words) × Assigning lengths words words blocks entry
+Inv-loop lengths words blocks₀ entry₀ blocks entry = Comparing lengths words blocks entry
 
 abbrev μ-loop : tie.MeasureT-loop
 μ-loop lengths words blocks₀ entry₀ blocks entry = length lengths - entry
@@ -22,13 +21,13 @@ empty-space-requires : tie.Need-empty-space-requires Inv-loop μ-loop
 empty-space-requires c κs = search needs
 
 loop-holds : tie.Need-loop-holds Inv-loop μ-loop
-loop-holds c = (c .before .if1 .left, assigning-start _ _ _ (c .empty-space .ensures .1))
+loop-holds c = comparing-start _ _ _ (c .before .if1 .left) (c .empty-space .ensures .1)
 
 shared-slice-read-entry-codeword : tie.Need-shared-slice-read-entry-codeword Inv-loop μ-loop
 shared-slice-read-entry-codeword c = search needs
 
 entry-codeword-requires : tie.Need-entry-codeword-requires Inv-loop μ-loop
-entry-codeword-requires c κs = reached-length _ _ (c .before .before .before .loop .inv .1 .reached)
+entry-codeword-requires c κs = reached-length _ _ (c .before .before .before .loop .inv .entered .reached)
 
 mul-wide : tie.Need-mul-wide Inv-loop μ-loop
 mul-wide c = search needs
@@ -41,7 +40,7 @@ wide-requires c κs = search needs
 
 returns-2 : tie.Need-returns-2 Inv-loop μ-loop
 returns-2 c =
-    not-coded _ _ (other-word _ _ _ _ _ (c .before .before .before .before .before .before .loop-test .taken) (c .before .before .before .before .before .before .before .loop .inv .1) (c .before .before .before .entry-codeword .ensures .0) (c .before .before .before .before .before .before .before .loop .inv .0) (c .before .wide .ensures) (c .if2 .taken))
+    not-coded _ _ (other-word _ _ _ _ _ (c .before .before .before .before .before .before .loop-test .taken) (c .before .before .before .before .before .before .before .loop .inv) (c .before .before .before .entry-codeword .ensures .0) (c .before .wide .ensures) (c .if2 .taken))
 
 add-entry : tie.Need-add-entry Inv-loop μ-loop
 add-entry c = search needs
@@ -50,26 +49,24 @@ loop-less : tie.Need-loop-less Inv-loop μ-loop
 loop-less c = search needs
 
 loop-again : tie.Need-loop-again Inv-loop μ-loop
-loop-again c = (
-  c .before .before .before .before .before .before .before .loop .inv .0,
-  comparing-turn _ _ _ _ _ (c .before .before .before .before .before .before .loop-test .taken) (c .before .before .before .before .before .before .before .loop .inv .1) (c .before .before .before .entry-codeword .ensures .0) (c .before .before .before .before .before .before .before .loop .inv .0) (c .before .wide .ensures) (c .if2 .left) _ (c .before .before .before .entry-codeword .ensures .1),
-)
+loop-again c =
+    comparing-turn _ _ _ _ _ (c .before .before .before .before .before .before .loop-test .taken) (c .before .before .before .before .before .before .before .loop .inv) (c .before .before .before .entry-codeword .ensures .0) (c .before .wide .ensures) (c .if2 .left) _ (c .before .before .before .entry-codeword .ensures .1)
 
 is-full-requires : tie.Need-is-full-requires Inv-loop μ-loop
-is-full-requires c κs = reached-length _ _ (c .before .before .loop .inv .1 .reached)
+is-full-requires c κs = reached-length _ _ (c .before .before .loop .inv .entered .reached)
 
 returns-3 : tie.Need-returns-3 Inv-loop μ-loop
-returns-3 c = is-coded _ _ (coded-full _ _ _ _ (c .before .before .before .loop-test .left) (c .before .before .before .before .loop .inv .1) (c .before .before .before .before .loop .inv .0) _ (c .before .is-full .ensures) (c .if3 .taken))
+returns-3 c = is-coded _ _ (coded-full _ _ _ _ (c .before .before .before .loop-test .left) (c .before .before .before .before .loop .inv) _ (c .before .is-full .ensures) (c .if3 .taken))
 
 is-lone-requires : tie.Need-is-lone-requires Inv-loop μ-loop
 is-lone-requires c κs = search needs
 
 returns-4 : tie.Need-returns-4 Inv-loop μ-loop
-returns-4 c = is-coded _ _ (coded-lone _ _ _ _ (c .before .before .before .before .before .loop-test .left) (c .before .before .before .before .before .before .loop .inv .1) (c .before .before .before .before .before .before .loop .inv .0) _ (c .before .is-lone .ensures) (c .if4 .taken))
+returns-4 c = is-coded _ _ (coded-lone _ _ _ _ (c .before .before .before .before .before .loop-test .left) (c .before .before .before .before .before .before .loop .inv) _ (c .before .is-lone .ensures) (c .if4 .taken))
 
 returns-5 : tie.Need-returns-5 Inv-loop μ-loop
 returns-5 c =
-    not-coded _ _ (coded-under _ _ _ _ (c .before .before .before .before .before .loop-test .left) (c .before .before .before .before .before .before .loop .inv .1) (c .before .before .before .before .before .before .loop .inv .0) _ _ (c .before .before .before .is-full .ensures) (c .before .before .if3 .left) (c .before .is-lone .ensures) (c .if4 .left))
+    not-coded _ _ (coded-under _ _ _ _ (c .before .before .before .before .before .loop-test .left) (c .before .before .before .before .before .before .loop .inv) _ _ (c .before .before .before .is-full .ensures) (c .before .before .if3 .left) (c .before .is-lone .ensures) (c .if4 .left))
 
 pub are-codewords-spec : {M : Type 1} → statement M
 are-codewords-spec =
