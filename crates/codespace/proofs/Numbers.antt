@@ -5,8 +5,7 @@ use mathlib.Core.Logic.{⊎-elim}
 use mathlib.Core.Option.{Option, none, some}
 use mathlib.Core.Path.{_≡_, refl, sym, ap, _∙_}
 use Prim.Native.Nat.{ℕ, zero, suc, _+_, _-_, _^_, _≤_, _<_}
-use native.Mathlib.Nat.{le-of-suc-le-suc}
-use native.Mathlib.Numerals.{add-one}
+use native.Mathlib.Nat.{le-of-suc-le-suc, sub-self}
 use native.Mathlib.Omega.{arith}
 use lib.Dec.{leb, ltb}
 use lib.ListN.{length, getD, set, take, replicate, length-map, length-set, length-replicate}
@@ -76,18 +75,22 @@ pad-front (suc n) (x ∷ xs) l = ap (λ (t : List ℕ). x ∷ t) (pad-front n xs
 numbers-length : (ls : List ℕ) → length (map number (answers [] ls)) ≡ length ls
 numbers-length ls = length-map (answers [] ls) number ∙ answers-length ls []
 
--- where a turn begins, with the places as they were before the first: the first i lengths are entered, their answers stand in front, and zeros
--- behind them
-pub record Entering (lengths numbers₀ numbers blocks : List ℕ) (i : ℕ) : Type 0 where
-  pub within : i ≤ length lengths
+-- where a turn begins, with so many lengths left, and the places as they were before the first turn: the others are entered, their answers stand in
+-- front, and zeros behind them
+pub record Entering (lengths numbers₀ numbers blocks : List ℕ) (left : ℕ) : Type 0 where
+  pub within : left ≤ length lengths
   pub room : length lengths ≤ length numbers
   pub long : length numbers ≡ length numbers₀
-  pub stored : numbers ≡ pad (length numbers₀) (map number (answers [] (take i lengths)))
-  pub reached : Reached (take i lengths) blocks
+  pub stored : numbers ≡ pad (length numbers₀) (map number (answers [] (take (length lengths - left) lengths)))
+  pub reached : Reached (take (length lengths - left) lengths) blocks
 
-pub entering-turn : (ls out₀ out bs : List ℕ) (i v : ℕ) (bs′ : List ℕ) → i < length ls → Entering ls out₀ out bs i → Entered bs (getD ls i 0) v bs′
-    → Entering ls out₀ (set out i v) bs′ (i + 1)
-entering-turn ls out₀ out bs i v bs′ h w t =
+pub entering-turn : (ls out₀ out bs : List ℕ) (left v : ℕ) (bs′ : List ℕ) → 0 < left → Entering ls out₀ out bs left
+    → Entered bs (getD ls (length ls - left) 0) v bs′ → Entering ls out₀ (set out (length ls - left) v) bs′ (left - 1)
+entering-turn ls out₀ out bs left v bs′ h w t =
+    let m = w .within in
+    let i = length ls - left in
+    let l : i < length ls = omega arith in
+    let next : length ls - (left - 1) ≡ suc i = omega arith in
     let o = answer (after [] (take i ls)) (getD ls i 0) in
     let done = map number (answers [] (take i ls)) in
     let n : i ≡ length done = sym (numbers-length (take i ls) ∙ length-take-le i ls (omega arith)) in
@@ -96,9 +99,9 @@ entering-turn ls out₀ out bs i v bs′ h w t =
       room = simp length-set (w .room);
       long = simp length-set (w .long);
       stored =
-          rw (w .stored, t .ledger (take i ls) (w .reached), add-one, take-suc ls i 0 h, answers-snoc (take i ls) [] (getD ls i 0), map-append number (answers [] (take i ls)) (o ∷ []))
+          rw (w .stored, t .ledger (take i ls) (w .reached), next, take-suc ls i 0 l, answers-snoc (take i ls) [] (getD ls i 0), map-append number (answers [] (take i ls)) (o ∷ []))
           (pad-set (length out₀) done i (number o) n);
-      reached = rw (add-one, take-suc ls i 0 h) (t .reached (take i ls) (w .reached));
+      reached = rw (next, take-suc ls i 0 l) (t .reached (take i ls) (w .reached));
     }
 
 -- cleared places, and each way out
@@ -106,14 +109,14 @@ module _ (ls : List ℕ) (places : ℕ) (out₀ : List ℕ) (cleared : out₀ �
   all-places : length out₀ ≡ places
   all-places = ap length cleared ∙ length-replicate places 0
 
-  pub entering-start : (bs : List ℕ) → length ls ≤ length out₀ → Reached [] bs → Entering ls out₀ out₀ bs 0
+  pub entering-start : (bs : List ℕ) → length ls ≤ length out₀ → Reached [] bs → Entering ls out₀ out₀ bs (length ls)
   entering-start bs l r =
       record {
         within = omega arith;
         room = l;
         long = refl;
-        stored = unfold answers in cleared ∙ sym (pad-nil places) ∙ ap (λ (n : ℕ). pad n []) (sym all-places);
-        reached = r;
+        stored = rw sub-self (unfold answers in cleared ∙ sym (pad-nil places) ∙ ap (λ (n : ℕ). pad n []) (sym all-places));
+        reached = rw sub-self r;
       }
 
   abbrev Balances : ℕ → List ℕ → Type 0
@@ -127,16 +130,16 @@ module _ (ls : List ℕ) (places : ℕ) (out₀ : List ℕ) (cleared : out₀ �
         λ z. absurd (omega arith),
       )
 
-  pub entered-all : (out bs : List ℕ) (i : ℕ) → length ls ≤ i → Entering ls out₀ out bs i → ((0, out) ≡ entered ls places) × Balances 0 out
+  pub entered-all : (out bs : List ℕ) (left : ℕ) → left ≤ 0 → Entering ls out₀ out bs left → ((0, out) ≡ entered ls places) × Balances 0 out
   unfolding entered
-  entered-all out bs i h w =
+  entered-all out bs left h w =
       let all = map number (answers [] ls) in
       let m = all-places in
       let n = numbers-length ls in
       let k = w .room in
       let l = w .long in
       let e : out ≡ pad places all
-      = w .stored ∙ rw (all-places, take-all i ls h) in
+      = w .stored ∙ rw (all-places, take-all (length ls - left) ls (omega arith)) in
       let t : take (length ls) out ≡ all = rw (e, ← n) (pad-front places all (omega arith)) in (
         rw (le-ltb places (length ls) (omega arith), e),
         λ z. rw (t, outcomes ls []) (balanced ls),

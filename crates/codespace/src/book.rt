@@ -49,10 +49,10 @@ pub fn assign_codewords(lengths: &[u8], words: &mut [u32]) -> Assigned
 }
 
 // A refusal leaves all zeros.
-fn refuse(words: &mut [u32], answer: Assigned) -> Assigned
-    ensures { λ r. ⌜ (r ≡ answer) × (now (words .exit) ≡ replicate (length (now (words .entry))) 0) ⌝ }
+fn refuse(lent: &mut [u32], answer: Assigned) -> Assigned
+    ensures { λ r. ⌜ (r ≡ answer) × (now (lent .exit) ≡ replicate (length (now (lent .entry))) 0) ⌝ }
 {
-    clear_u32(words);
+    clear_u32(lent);
     answer
 }
 

@@ -94,10 +94,11 @@ pub fn enter_lengths(lengths: &[u8], answers: &mut [u64]) -> u32
         return 17;
     }
     let mut blocks = empty_space();
-    let mut i = 0;
-    while i < lengths.len() {
-        answers[i] = enter(&mut blocks, lengths[i]);
-        i += 1;
+    let mut left = lengths.len();
+    while 0 < left {
+        let next = lengths.len() - left;
+        answers[next] = enter(&mut blocks, lengths[next]);
+        left -= 1;
     }
     0
 }

@@ -1,6 +1,5 @@
 -- `codespace::space::enter_lengths` meets its contract: after each turn the answers to the lengths entered stand in front, with zeros behind them.
 -- Assumes nothing.
-use Prim.Native.Nat.{_-_}
 use lib.ListN.{length}
 use borrow.Author.Needs.{needs}
 use Rattle.codespace.proofs.Places.{reached-length}
@@ -9,10 +8,10 @@ use Rattle.codespace.proofs.space.enter_lengths.Statement.{statement}
 use Rattle.codespace.proofs.space.enter_lengths.Tie as tie
 
 abbrev Inv-loop : tie.InvT-loop
-Inv-loop lengths answers₀ blocks₀ i₀ answers blocks i = Entering lengths answers₀ answers blocks i
+Inv-loop lengths answers₀ blocks₀ left₀ answers blocks left = Entering lengths answers₀ answers blocks left
 
 abbrev μ-loop : tie.MeasureT-loop
-μ-loop lengths answers₀ blocks₀ i₀ answers blocks i = length lengths - i
+μ-loop lengths answers₀ blocks₀ left₀ answers blocks left = left
 
 clear-u64-requires : tie.Need-clear-u64-requires Inv-loop μ-loop
 clear-u64-requires c κs = search needs
@@ -33,6 +32,9 @@ loop-holds c =
     let places = length (cleared .before .before .before .before .args .answers .now) in
     entering-start _ places _ (cleared .clear-u64 .ensures) _ (e .if1 .left) (c .empty-space .ensures .1)
 
+sub-next : tie.Need-sub-next Inv-loop μ-loop
+sub-next c = search needs
+
 shared-slice-read-enter : tie.Need-shared-slice-read-enter Inv-loop μ-loop
 shared-slice-read-enter c = search needs
 
@@ -45,8 +47,8 @@ mul-answers c = search needs
 slice-write-answers : tie.Need-slice-write-answers Inv-loop μ-loop
 slice-write-answers c = search needs
 
-add-i : tie.Need-add-i Inv-loop μ-loop
-add-i c = search needs
+sub-left : tie.Need-sub-left Inv-loop μ-loop
+sub-left c = search needs
 
 loop-less : tie.Need-loop-less Inv-loop μ-loop
 loop-less c = search needs
@@ -75,11 +77,12 @@ enter-lengths-spec =
     returns
     empty-space-requires
     loop-holds
+    sub-next
     shared-slice-read-enter
     enter-requires
     mul-answers
     slice-write-answers
-    add-i
+    sub-left
     loop-less
     loop-again
     same-length-2
