@@ -16,10 +16,10 @@ use Rattle.bits.specs.declared.Step.{Step}
 use Rattle.bits.specs.declared.Step.the-variants.{Next, Refused}
 use Rattle.bits.specs.Cursors.{position, Wrote}
 use Rattle.bits.proofs.Steps.{wrote-bad, wrote-ok, wrote-refused, wrote-next}
-use Rattle.codespace.specs.Book.{verdict, assigned, written, codewords}
-use Rattle.codespace.specs.declared.book.Assigned.{Assigned}
-use Rattle.codespace.specs.declared.book.Assigned.the-variants.{Accepted, Overspecified, Underspecified, TooShort}
-use Rattle.codespace.proofs.Laws.{codewords-length}
+use Rattle.codeword_assignment.specs.Book.{verdict, assigned, written, codewords}
+use Rattle.codeword_assignment.specs.declared.book.Assigned.{Assigned}
+use Rattle.codeword_assignment.specs.declared.book.Assigned.the-variants.{Accepted, Overspecified, Underspecified, TooShort}
+use Rattle.codeword_assignment.proofs.Laws.{codewords-length}
 use Rattle.rules.proofs.Laws.{accepted-meets, overspecified-breaks7, underspecified-breaks8, verdict-not-short}
 use Rattle.filling.proofs.Written.{mapped-mapped, wrote-mapped, wrote-as, part-back}
 use Rattle.book_lengths.specs.Reading.{lengths, entered}

@@ -76,7 +76,7 @@ pub fn enter(blocks: &mut [u64; 33], length: u8) -> u64
 }
 
 // Nothing is left: a length of 32 would be refused.
-pub(crate) fn is_full(blocks: &[u64; 33]) -> bool
+pub fn is_full(blocks: &[u64; 33]) -> bool
     requires { ⌜ length (now blocks) ≡ 33 ⌝ }
     ensures { λ r. ⌜ r ≡ isNone (enterAnswer (now (blocks .entry)) 32) ⌝ }
 {

@@ -1,12 +1,12 @@
 // Entering lengths into a space of codewords (demand 3), and the codewords of a book's entries (01, "Bits and books"; refusals 7 and 8).
-use codespace::book::Assigned;
+use codeword_assignment::book::Assigned;
 ghost use mathlib.Core.Path.{_≡_};
 ghost use mathlib.Core.List.{map};
 ghost use lib.ListN.{length, take};
 ghost use Rattle.codespace.specs.Claims.{Balanced};
 ghost use Rattle.codespace.specs.Answers.{outcome};
 ghost use Rattle.codespace.specs.Entering.{entered};
-ghost use Rattle.codespace.specs.Book.{assigned, written, refusal};
+ghost use Rattle.codeword_assignment.specs.Book.{assigned, written, refusal};
 
 // Enters any lengths one by one, from an empty space. The answer is 0, and `answers` has the answer to each length, its codeword or 2^32 for a refusal, and
 // zeros behind them; or 17, where there are fewer places than lengths, and all are zero.
@@ -25,7 +25,7 @@ pub extern "C" fn torchvalley_codewords(lengths: &[u8], words: &mut [u32]) -> u3
     ensures { λ r. ⌜ r ≡ refusal (assigned (now (lengths .entry)) (length (now (words .entry)))) ⌝ }
     ensures { λ _. ⌜ now (words .exit) ≡ written (assigned (now (lengths .entry)) (length (now (words .entry)))) (now (lengths .entry)) (length (now (words .entry))) ⌝ }
 {
-    number_of(codespace::book::assign_codewords(lengths, words))
+    number_of(codeword_assignment::book::assign_codewords(lengths, words))
 }
 
 fn number_of(assigned: Assigned) -> u32

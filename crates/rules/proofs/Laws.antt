@@ -8,9 +8,9 @@ use mathlib.Core.Option.{Option, none, some}
 use mathlib.Core.Path.{_≡_, refl}
 use lib.Dec.{eqb}
 use Rattle.codespace.specs.Answers.{isNone}
-use Rattle.codespace.specs.Book.{used, firstRefused, freeAfter, isLone, refusedOr, verdict}
-use Rattle.codespace.specs.declared.book.Assigned.{Assigned}
-use Rattle.codespace.specs.declared.book.Assigned.the-variants.{Accepted, Overspecified, Underspecified, TooShort}
+use Rattle.codeword_assignment.specs.Book.{used, firstRefused, freeAfter, isLone, refusedOr, verdict}
+use Rattle.codeword_assignment.specs.declared.book.Assigned.{Assigned}
+use Rattle.codeword_assignment.specs.declared.book.Assigned.the-variants.{Accepted, Overspecified, Underspecified, TooShort}
 use Rattle.rules.specs.Rules.{meets7, meets8}
 
 abbrev judge : Option ℕ → Bool → Assigned

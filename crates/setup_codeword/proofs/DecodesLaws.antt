@@ -14,10 +14,10 @@ use Rattle.limits.specs.declared.Limits.{Limits}
 use Rattle.identification.specs.declared.Identity.{Identity}
 use Rattle.identification.specs.Sound.{allowedSizes, isSound}
 use Rattle.identification.specs.Sound as I
-use Rattle.codespace.specs.Book.{used, codewords, verdict, Begins}
-use Rattle.codespace.specs.declared.book.Assigned.the-variants.{Accepted}
+use Rattle.codeword_assignment.specs.Book.{used, codewords, verdict, Begins}
+use Rattle.codeword_assignment.specs.declared.book.Assigned.the-variants.{Accepted}
 use Rattle.codespace.proofs.Claimed.{balanced}
-use Rattle.codespace.proofs.Laws.{exactly-one-entry}
+use Rattle.codeword_assignment.proofs.Laws.{exactly-one-entry}
 use Rattle.codebook.specs.Codeword.{codeword}
 use Rattle.codebook.proofs.Laws.{read-whole, read-lone}
 use Rattle.book.specs.Content.{Book}

@@ -15,9 +15,9 @@ use Rattle.bits.specs.Field.{valueAt, field}
 use Rattle.limits.specs.declared.Limits.{Limits}
 use Rattle.codespace.specs.Ledger.{answer, answers, after, freeStrings}
 use Rattle.codespace.specs.Claims.{accepted, acceptedShare}
-use Rattle.codespace.specs.Book.{used, isLone, firstRefused, freeAfter, verdict, refusedOr}
-use Rattle.codespace.specs.declared.book.Assigned.{Assigned}
-use Rattle.codespace.specs.declared.book.Assigned.the-variants.{Accepted, Underspecified}
+use Rattle.codeword_assignment.specs.Book.{used, isLone, firstRefused, freeAfter, verdict, refusedOr}
+use Rattle.codeword_assignment.specs.declared.book.Assigned.{Assigned}
+use Rattle.codeword_assignment.specs.declared.book.Assigned.the-variants.{Accepted, Underspecified}
 use Rattle.codespace.proofs.Whole.{balance}
 use Rattle.rules.specs.Rules.{meets7, meets8}
 use Rattle.rules.proofs.Laws.{accepted-meets, meets-accepted}

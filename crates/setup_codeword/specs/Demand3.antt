@@ -13,8 +13,8 @@ use Rattle.limits.specs.declared.Limits.{Limits}
 use Rattle.identification.specs.declared.Identity.{Identity}
 use Rattle.codespace.specs.Ledger.{answers}
 use Rattle.codespace.specs.Claims.{Balanced}
-use Rattle.codespace.specs.Book.{used, isLone, firstRefused, freeAfter, codewords, verdict, Begins}
-use Rattle.codespace.specs.declared.book.Assigned.the-variants.{Accepted}
+use Rattle.codeword_assignment.specs.Book.{used, isLone, firstRefused, freeAfter, codewords, verdict, Begins}
+use Rattle.codeword_assignment.specs.declared.book.Assigned.the-variants.{Accepted}
 use Rattle.rules.specs.Rules.{meets7, meets8}
 use Rattle.codebook.specs.Codeword.{bitsAt, firstUsed}
 use Rattle.book_head.specs.Reading.{Before, Head, head}

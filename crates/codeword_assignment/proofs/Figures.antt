@@ -13,17 +13,17 @@ use lib.Seq.{ext-getD}
 use borrow.Author.Tests.{eqb-true}
 use Rattle.reading.specs.Least.{lowest}
 use Rattle.reading.proofs.Least.{lowest-same, and-split, true-or-false}
 use Rattle.codespace.specs.Ledger.{isLength, answer, after, answers, freeStrings}
 use Rattle.codespace.specs.Claims.{accepted}
 use Rattle.codespace.specs.Blocks.{smallest, blockAbove, blockFor, enterAnswer, enterBlocks, runAnswers, emptyBlocks}
 use Rattle.codespace.specs.Answers.{isNone}
-use Rattle.codespace.specs.Book.{used, isUsed, entryAnswer, orZero, isRefused, firstRefused, codewordOf, codewords, freeAfter, isLone, refusedOr, verdict, refusal}
-use Rattle.codespace.specs.declared.book.Assigned.{Assigned}
-use Rattle.codespace.specs.declared.book.Assigned.the-variants.{Accepted, Underspecified}
-use Rattle.codespace.specs.Figures.{Line, Holds, Every, table, Figures}
+use Rattle.codeword_assignment.specs.Book.{used, isUsed, entryAnswer, orZero, isRefused, firstRefused, codewordOf, codewords, freeAfter, isLone, refusedOr, verdict, refusal}
+use Rattle.codeword_assignment.specs.declared.book.Assigned.{Assigned}
+use Rattle.codeword_assignment.specs.declared.book.Assigned.the-variants.{Accepted, Underspecified}
+use Rattle.codeword_assignment.specs.Figures.{Line, Holds, Every, table, Figures}
 use Rattle.codespace.proofs.Whole.{answers-are, balance}
 use Rattle.codespace.proofs.Claimed.{answers-at, answers-length}
-use Rattle.codespace.proofs.Laws.{after-used, handed-before, codewords-length, codewords-at}
+use Rattle.codeword_assignment.proofs.Laws.{after-used, handed-before, codewords-length, codewords-at}
 
 -- a book's codewords, verdict and free strings, from the answers os to its lengths
 abbrev verdictBy : List ℕ → List (Option ℕ) → Assigned

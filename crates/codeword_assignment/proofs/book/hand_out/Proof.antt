@@ -1,11 +1,11 @@
--- `codespace::book::hand_out` meets its contract: the entries passed have the ledger's codewords and none of them is refused. Assumes nothing.
+-- `codeword_assignment::book::hand_out` meets its contract: the entries passed have the ledger's codewords and none of them is refused. Assumes nothing.
 use Prim.Native.Nat.{_-_}
 use borrow.Author.Needs.{needs}
 use lib.ListN.{length}
 use Rattle.codespace.proofs.Places.{reached-length}
-use Rattle.codespace.proofs.Assigning.{Handing, handing-start, handing-turn, overspecified, all-written, full-accepted, lone-accepted, underspecified, over-accepted, under-accepted}
-use Rattle.codespace.proofs.book.hand_out.Statement.{statement}
-use Rattle.codespace.proofs.book.hand_out.Tie as tie
+use Rattle.codeword_assignment.proofs.Assigning.{Handing, handing-start, handing-turn, overspecified, all-written, full-accepted, lone-accepted, underspecified, over-accepted, under-accepted}
+use Rattle.codeword_assignment.proofs.book.hand_out.Statement.{statement}
+use Rattle.codeword_assignment.proofs.book.hand_out.Tie as tie
 
 abbrev Inv-loop : tie.InvT-loop
 Inv-loop lengths words₀ blocks₀ entry₀ words blocks entry = Handing lengths words₀ words blocks entry

@@ -17,20 +17,20 @@ use Rattle.reading.specs.Tabulate.{tabulate}
 use Rattle.reading.proofs.Least.{true-or-false, true-not-false, lt-or-le, lowest-is, lowest-none, below-suc}
 use Rattle.reading.proofs.Pads.{pad-nil, pad-set}
 use Rattle.reading.proofs.Tabulate.{tabulate-length}
 use Rattle.codespace.specs.Ledger.{Codeword, share, freeStrings, isLength, IsLength, answer, after}
 use Rattle.codespace.specs.Blocks.{vacant, enterAnswer, enterBlocks, emptyBlocks, runBlocks, Reached, blockFor}
 use Rattle.codespace.specs.Answers.{number, isNone}
-use Rattle.codespace.specs.Book.{used, isUsed, handedOutBefore, entryAnswer, orZero, isRefused, firstRefused, codewordOf, codewords, freeAfter, isLone, verdict, assigned, written, Decodable, NextUsed}
-use Rattle.codespace.specs.declared.book.Assigned.{Assigned}
-use Rattle.codespace.specs.declared.book.Assigned.the-variants.{Accepted, Overspecified, Underspecified, TooShort}
+use Rattle.codeword_assignment.specs.Book.{used, isUsed, handedOutBefore, entryAnswer, orZero, isRefused, firstRefused, codewordOf, codewords, freeAfter, isLone, verdict, assigned, written, Decodable, NextUsed}
+use Rattle.codeword_assignment.specs.declared.book.Assigned.{Assigned}
+use Rattle.codeword_assignment.specs.declared.book.Assigned.the-variants.{Accepted, Overspecified, Underspecified, TooShort}
 use Rattle.codespace.proofs.Whole.{answer-are, refused-is}
 use Rattle.codespace.proofs.Claimed.{reached-start, next-reached}
 use Rattle.codespace.proofs.Places.{Small, enter-small}
 use Rattle.codespace.proofs.Steps.{outside-blocks}
-use Rattle.codespace.specs.Figures.{Figures}
-use Rattle.codespace.proofs.Figures.{figures}
+use Rattle.codeword_assignment.specs.Figures.{Figures}
+use Rattle.codeword_assignment.proofs.Figures.{figures}
 use Rattle.codespace.proofs.Numbers.{pad-front}
-use Rattle.codespace.proofs.Laws.{codewords-length, after-used, handed-before, used-cons, used-skip, accepted-decodable}
+use Rattle.codeword_assignment.proofs.Laws.{codewords-length, after-used, handed-before, used-cons, used-skip, accepted-decodable}
 
 -- an entry's answer, by the space that the entries before it have come to
 entry-model : (ls bs : List ℕ) (e : ℕ) → Reached (take e ls) bs → entryAnswer ls e ≡ enterAnswer bs (getD ls e 0)

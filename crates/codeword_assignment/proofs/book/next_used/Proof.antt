@@ -1,13 +1,13 @@
--- `codespace::book::next_used` meets its contract: the used entries from `entry` on are those from `from` on. Assumes nothing.
+-- `codeword_assignment::book::next_used` meets its contract: the used entries from `entry` on are those from `from` on. Assumes nothing.
 use mathlib.Core.Path.{_≡_}
 use Prim.Native.Nat.{_≤_, _-_}
 use native.Mathlib.Omega.{arith}
 use borrow.Author.Needs.{needs}
 use lib.ListN.{length, drop}
-use Rattle.codespace.specs.Book.{used}
-use Rattle.codespace.proofs.Assigning.{passed}
-use Rattle.codespace.proofs.book.next_used.Statement.{statement}
-use Rattle.codespace.proofs.book.next_used.Tie as tie
+use Rattle.codeword_assignment.specs.Book.{used}
+use Rattle.codeword_assignment.proofs.Assigning.{passed}
+use Rattle.codeword_assignment.proofs.book.next_used.Statement.{statement}
+use Rattle.codeword_assignment.proofs.book.next_used.Tie as tie
 
 abbrev Inv-loop : tie.InvT-loop
 Inv-loop lengths from entry₀ entry = (entry ≤ length lengths) × (used (drop from lengths) ≡ used (drop entry lengths))

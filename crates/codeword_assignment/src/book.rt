@@ -1,9 +1,9 @@
 // The codewords of a book (01, "Bits and books"; refusals 7 and 8): the lengths of its used entries, entered in entry order into an empty space of
 // their own. specs/Book.antt says by the ledger what each entry gets and when the lengths are accepted.
-use crate::space::VACANT;
-use crate::space::empty_space;
-use crate::space::enter;
-use crate::space::is_full;
+use codespace::space::VACANT;
+use codespace::space::empty_space;
+use codespace::space::enter;
+use codespace::space::is_full;
 use reading::buffers::clear_u32;
 ghost use mathlib.Core.Path.{_≡_};
 ghost use mathlib.Core.Bool.{true, cond};
@@ -12,10 +12,10 @@ ghost use Prim.Native.Nat.{_<_, _≤_};
 ghost use lib.Dec.{eqb};
 ghost use lib.ListN.{length, take, replicate};
 ghost use Rattle.reading.specs.Pad.{pad};
 ghost use Rattle.codespace.specs.Blocks.{enterAnswer, enterBlocks};
 ghost use Rattle.codespace.specs.Answers.{number};
-ghost use Rattle.codespace.specs.Book.{used, isLone, verdict, assigned, written, codewords, Decodable, NextUsed, Coded};
-ghost use Rattle.codespace.specs.Figures.{Figures};
+ghost use Rattle.codeword_assignment.specs.Book.{used, isLone, verdict, assigned, written, codewords, Decodable, NextUsed, Coded};
+ghost use Rattle.codeword_assignment.specs.Figures.{Figures};
 
 pub enum Assigned {
     // Each used entry has its codeword, and no space is left over; or the only used entry has length 1.

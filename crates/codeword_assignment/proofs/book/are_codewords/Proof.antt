@@ -1,12 +1,12 @@
--- `codespace::book::are_codewords` meets its contract: as `hand_out`, with the words compared. Assumes nothing.
+-- `codeword_assignment::book::are_codewords` meets its contract: as `hand_out`, with the words compared. Assumes nothing.
 use Prim.Native.Nat.{_-_}
 use mathlib.Core.Path.{_≡_}
 use lib.ListN.{length}
 use Rattle.codespace.proofs.Places.{reached-length}
-use Rattle.codespace.proofs.Comparing.{Comparing, comparing-start, not-coded, is-coded, other-length, other-word, comparing-turn, coded-full, coded-lone, coded-under}
+use Rattle.codeword_assignment.proofs.Comparing.{Comparing, comparing-start, not-coded, is-coded, other-length, other-word, comparing-turn, coded-full, coded-lone, coded-under}
 use borrow.Author.Needs.{needs}
-use Rattle.codespace.proofs.book.are_codewords.Statement.{statement}
-use Rattle.codespace.proofs.book.are_codewords.Tie as tie
+use Rattle.codeword_assignment.proofs.book.are_codewords.Statement.{statement}
+use Rattle.codeword_assignment.proofs.book.are_codewords.Tie as tie
 
 abbrev Inv-loop : tie.InvT-loop
 Inv-loop lengths words blocks₀ entry₀ blocks entry = Comparing lengths words blocks entry

@@ -1,10 +1,10 @@
--- `codespace::book::assign_codewords` meets its contract: the verdict is `hand_out`'s, and every refusal clears. Assumes nothing.
+-- `codeword_assignment::book::assign_codewords` meets its contract: the verdict is `hand_out`'s, and every refusal clears. Assumes nothing.
 use mathlib.Core.Path.{sym, _∙_}
 use borrow.Author.Needs.{needs}
 use lib.ListN.{length}
-use Rattle.codespace.proofs.Assigning.{still-cleared, promised-short, promised-accepted, promised-refused, over-accepted, under-accepted, short-accepted}
-use Rattle.codespace.proofs.book.assign_codewords.Statement.{statement}
-use Rattle.codespace.proofs.book.assign_codewords.Tie as tie
+use Rattle.codeword_assignment.proofs.Assigning.{still-cleared, promised-short, promised-accepted, promised-refused, over-accepted, under-accepted, short-accepted}
+use Rattle.codeword_assignment.proofs.book.assign_codewords.Statement.{statement}
+use Rattle.codeword_assignment.proofs.book.assign_codewords.Tie as tie
 
 clear-u32-requires : tie.Need-clear-u32-requires
 clear-u32-requires c κs = search needs

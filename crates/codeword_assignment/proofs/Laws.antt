@@ -24,13 +24,13 @@ use borrow.Author.Tests.{eq-eqb, ne-eqb, eqb-true, eqb-false}
 use Rattle.reading.specs.Least.{lowest}
 use Rattle.reading.proofs.Least.{true-or-false, true-not-false, lt-or-le, lowest-fails, below-suc}
 use Rattle.reading.proofs.Tabulate.{tabulate-length, tabulate-at}
 use Rattle.codespace.specs.Ledger.{Codeword, codeword, share, begins, taken, freeStrings, isLength, IsLength, answer, enlist, after}
 use Rattle.codespace.specs.Blocks.{runBlocks, enterAnswer, blockFor, blockAbove, smallest, emptyBlocks}
 use Rattle.codespace.specs.Answers.{isNone}
-use Rattle.codespace.specs.Book.{used, isUsed, handedOutBefore, entryAnswer, orZero, isRefused, firstRefused, codewordOf, codewords, freeAfter, isLone, refusedOr, verdict, Begins, PrefixCode, Complete, Decodable}
-use Rattle.codespace.specs.declared.book.Assigned.the-variants.{Accepted, Overspecified, Underspecified}
+use Rattle.codeword_assignment.specs.Book.{used, isUsed, handedOutBefore, entryAnswer, orZero, isRefused, firstRefused, codewordOf, codewords, freeAfter, isLone, refusedOr, verdict, Begins, PrefixCode, Complete, Decodable}
+use Rattle.codeword_assignment.specs.declared.book.Assigned.the-variants.{Accepted, Overspecified, Underspecified}
 use Rattle.codespace.proofs.Whole.{some-says, was-free, all-taken, answer-are}
 use Rattle.codespace.proofs.Claimed.{after-snoc}
 
 -- unused entries enter nothing
 answer-unused : (ws : List Codeword) → answer ws 0 ≡ none

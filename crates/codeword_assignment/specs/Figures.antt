@@ -2,7 +2,7 @@
 use mathlib.Core.List.{List, [], _∷_, _++_, map}
 use mathlib.Core.Path.{_≡_}
 use Prim.Native.Nat.{ℕ, zero, suc, _-_, _^_}
-use Rattle.codespace.specs.Book.{verdict, refusal, codewords, freeAfter}
+use Rattle.codeword_assignment.specs.Book.{verdict, refusal, codewords, freeAfter}
 
 -- a line: the lengths; 01's number of the verdict, 0 where they are taken; the codewords; what is free
 pub record Line : Type 0 where

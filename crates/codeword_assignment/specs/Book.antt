@@ -10,10 +10,10 @@ use lib.ListN.{length, getD, take, drop, replicate}
 use Rattle.reading.specs.Least.{lowest}
 use Rattle.reading.specs.Pad.{pad}
 use Rattle.reading.specs.Tabulate.{tabulate}
 use Rattle.codespace.specs.Ledger.{Codeword, share, freeStrings, answer, after}
 use Rattle.codespace.specs.Answers.{isNone}
-use Rattle.codespace.specs.declared.book.Assigned.{Assigned}
-use Rattle.codespace.specs.declared.book.Assigned.the-variants.{Accepted, Overspecified, Underspecified, TooShort}
+use Rattle.codeword_assignment.specs.declared.book.Assigned.{Assigned}
+use Rattle.codeword_assignment.specs.declared.book.Assigned.the-variants.{Accepted, Overspecified, Underspecified, TooShort}
 
 -- the lengths of the used entries
 unfoldable pub used : List ℕ → List ℕ

@@ -1,8 +1,8 @@
--- `codespace::book::entry_codeword` meets its contract: a length of 0 takes nothing, as the model says. Assumes nothing.
+-- `codeword_assignment::book::entry_codeword` meets its contract: a length of 0 takes nothing, as the model says. Assumes nothing.
 use borrow.Author.Needs.{needs}
-use Rattle.codespace.proofs.Assigning.{unused-number, unused-blocks, used-number}
-use Rattle.codespace.proofs.book.entry_codeword.Statement.{statement}
-use Rattle.codespace.proofs.book.entry_codeword.Tie as tie
+use Rattle.codeword_assignment.proofs.Assigning.{unused-number, unused-blocks, used-number}
+use Rattle.codeword_assignment.proofs.book.entry_codeword.Statement.{statement}
+use Rattle.codeword_assignment.proofs.book.entry_codeword.Tie as tie
 
 returns : tie.Need-returns
 returns c = (unused-number _ _ (c .if1 .taken), unused-blocks _ _ (c .if1 .taken))

@@ -1,8 +1,8 @@
--- `codespace::book::is_lone` meets its contract: the first used entry has length 1 and there is no second. Assumes nothing.
+-- `codeword_assignment::book::is_lone` meets its contract: the first used entry has length 1 and there is no second. Assumes nothing.
 use borrow.Author.Needs.{needs}
-use Rattle.codespace.proofs.Assigning.{lone-none, lone-other, lone-one}
-use Rattle.codespace.proofs.book.is_lone.Statement.{statement}
-use Rattle.codespace.proofs.book.is_lone.Tie as tie
+use Rattle.codeword_assignment.proofs.Assigning.{lone-none, lone-other, lone-one}
+use Rattle.codeword_assignment.proofs.book.is_lone.Statement.{statement}
+use Rattle.codeword_assignment.proofs.book.is_lone.Tie as tie
 
 next-used-requires : tie.Need-next-used-requires
 next-used-requires c κs = search needs
