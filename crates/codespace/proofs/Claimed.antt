@@ -1,15 +1,13 @@
 -- The claim about a whole list (demand 3), proved of the ledger's answers; and that entering goes from one list to the next. Assumes nothing.
-use mathlib.Core.Bool.{Bool, true, false}
 use mathlib.Core.List.{List, [], _∷_, _++_}
-use mathlib.Core.Logic.{_↔_}
 use mathlib.Core.Option.{Option, none, some}
 use mathlib.Core.Path.{_≡_, refl, sym, ap, _∙_}
-use Prim.Native.Nat.{ℕ, zero, suc, _+_, _^_, _≤_, _<_}
+use Prim.Native.Nat.{ℕ, zero, suc, _+_, _<_}
 use native.Mathlib.Nat.{le-of-suc-le-suc}
 use native.Mathlib.Omega.{arith}
 use lib.ListN.{length, getD, take}
-use Rattle.codespace.specs.Ledger.{Codeword, freeStrings, share, answer, enlist, after, answers, IsLength}
-use Rattle.codespace.specs.Claims.{handedOut, handedOutBy, accepted, starts, without, Balanced}
+use Rattle.codespace.specs.Ledger.{Codeword, freeStrings, answer, enlist, after, answers, IsLength}
+use Rattle.codespace.specs.Claims.{handedOut, handedOutBy, without, Balanced}
 use Rattle.codespace.specs.Blocks.{emptyBlocks, enterAnswer, enterBlocks, runBlocks, Reached}
 use Rattle.codespace.proofs.Lengths.{no-length}
 use Rattle.codespace.proofs.Whole.{answer-are, some-says, balance, refused-is, exactly-one}

@@ -1,13 +1,12 @@
 -- Answers as numbers, there and back; and the turns of `enter` and `enter_lengths`. Assumes nothing.
-use mathlib.Core.Bool.{Bool, true, false, cond}
-use mathlib.Core.List.{List, [], _∷_, _++_, map, map-append}
+use mathlib.Core.List.{List, [], _∷_, map, map-append}
 use mathlib.Core.Logic.{⊎-elim}
 use mathlib.Core.Option.{Option, none, some}
 use mathlib.Core.Path.{_≡_, refl, sym, ap, _∙_}
-use Prim.Native.Nat.{ℕ, zero, suc, _+_, _-_, _^_, _≤_, _<_}
+use Prim.Native.Nat.{ℕ, zero, suc, _-_, _^_, _≤_, _<_}
 use native.Mathlib.Nat.{le-of-suc-le-suc, sub-self}
 use native.Mathlib.Omega.{arith}
-use lib.Dec.{leb, ltb}
+use lib.Dec.{leb}
 use lib.ListN.{length, getD, set, take, replicate, length-map, length-set, length-replicate}
 use lib.Pow.{pow-mono}
 use lib.Seq.{take-suc, take-all, length-take-le}
@@ -17,10 +16,10 @@ use Rattle.reading.proofs.Least.{lt-or-le}
 use Rattle.reading.proofs.Pads.{pad-nil, pad-set}
 use Rattle.codespace.specs.Ledger.{Codeword, answer, enlist, after, answers, IsLength}
 use Rattle.codespace.specs.Claims.{Balanced}
-use Rattle.codespace.specs.Blocks.{vacant, enterAnswer, enterBlocks, Reached}
+use Rattle.codespace.specs.Blocks.{enterAnswer, enterBlocks, Reached}
 use Rattle.codespace.specs.Steps.{firstHeld}
 use Rattle.codespace.specs.Answers.{number, outcome, isNone}
-use Rattle.codespace.specs.Entering.{Entered, entered}
+use Rattle.codespace.specs.Entering.{Entered, enteredAll}
 use Rattle.codespace.proofs.Whole.{Says, answer-says}
 use Rattle.codespace.proofs.Claimed.{answers-snoc, answers-length, balanced, next-answer, next-reached}
 use Rattle.codespace.proofs.Places.{Small, refused-same}
@@ -122,16 +121,16 @@ module _ (ls : List ℕ) (places : ℕ) (out₀ : List ℕ) (cleared : out₀ �
   abbrev Balances : ℕ → List ℕ → Type 0
   Balances r out = r ≡ 0 → Balanced ls (map outcome (take (length ls) out))
 
-  pub entered-short : length out₀ < length ls → ((17, out₀) ≡ entered ls places) × Balances 17 out₀
-  unfolding entered
+  pub entered-short : length out₀ < length ls → ((17, out₀) ≡ enteredAll ls places) × Balances 17 out₀
+  unfolding enteredAll
   entered-short l =
       let n = all-places in (
         rw (lt-ltb places (length ls) (omega arith), pad-nil places, cleared),
         λ z. absurd (omega arith),
       )
 
-  pub entered-all : (out bs : List ℕ) (left : ℕ) → left ≤ 0 → Entering ls out₀ out bs left → ((0, out) ≡ entered ls places) × Balances 0 out
-  unfolding entered
+  pub entered-all : (out bs : List ℕ) (left : ℕ) → left ≤ 0 → Entering ls out₀ out bs left → ((0, out) ≡ enteredAll ls places) × Balances 0 out
+  unfolding enteredAll
   entered-all out bs left h w =
       let all = map number (answers [] ls) in
       let m = all-places in

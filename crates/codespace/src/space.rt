@@ -11,7 +11,7 @@ ghost use Rattle.codespace.specs.Claims.{Balanced};
 ghost use Rattle.codespace.specs.Blocks.{vacant, emptyBlocks, enterAnswer, Reached};
 ghost use Rattle.codespace.specs.Steps.{firstHeld, upperHalves};
 ghost use Rattle.codespace.specs.Answers.{outcome, isNone};
-ghost use Rattle.codespace.specs.Entering.{Entered, entered};
+ghost use Rattle.codespace.specs.Entering.{Entered, enteredAll};
 
 // No string of 32 bits: one past the last. As an answer, a refusal.
 pub const VACANT: u64 = 4294967296;
@@ -86,7 +86,7 @@ pub fn is_full(blocks: &[u64; 33]) -> bool
 // Enters a list of lengths one by one, from an empty space (demand 3). 0, and `answers` has each answer as a number, the codeword or VACANT, and
 // zeros behind them; or 17 where there are fewer places than lengths, and all are zero.
 pub fn enter_lengths(lengths: &[u8], answers: &mut [u64]) -> u32
-    ensures { λ r. ⌜ (r, now (answers .exit)) ≡ entered (now (lengths .entry)) (length (now (answers .entry))) ⌝ }
+    ensures { λ r. ⌜ (r, now (answers .exit)) ≡ enteredAll (now (lengths .entry)) (length (now (answers .entry))) ⌝ }
     ensures { λ r. ⌜ (r ≡ 0 → Balanced (now (lengths .entry)) (map outcome (take (length (now (lengths .entry))) (now (answers .exit))))) ⌝ }
 {
     clear_u64(answers);

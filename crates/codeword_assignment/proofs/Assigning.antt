@@ -1,30 +1,29 @@
 -- The turns and ends of the functions of src/book.rt. Assumes nothing.
-use mathlib.Core.Bool.{Bool, true, false, cond, not, _&&_, _||_, or-true}
-use mathlib.Core.List.{List, [], _∷_, _++_}
+use mathlib.Core.Bool.{Bool, true, false, cond, not, _&&_, or-true}
+use mathlib.Core.List.{List, [], _∷_}
 use mathlib.Core.Option.{Option, none, some}
 use mathlib.Core.Path.{_≡_, refl, sym, ap, _∙_}
-use mathlib.Core.Logic.{_⊎_, inl, inr, ⊎-elim}
-use Prim.Native.Nat.{ℕ, zero, suc, _+_, _-_, _^_, _≤_, _<_}
+use mathlib.Core.Logic.{_⊎_, ⊎-elim}
+use Prim.Native.Nat.{ℕ, suc, _+_, _≤_, _<_}
 use native.Mathlib.Numerals.{add-one}
 use native.Mathlib.Omega.{arith}
 use lib.Dec.{eqb, leb}
 use lib.ListN.{length, getD, set, take, drop, replicate, length-set, length-replicate, drop-of-length-le}
-use lib.Seq.{take-suc, take-all, drop-cons, drop-length}
-use borrow.Author.Tests.{eq-eqb, ne-eqb, eqb-true, le-leb, lt-leb, lt-ltb, le-ltb}
-use Rattle.reading.specs.Least.{lowest}
+use lib.Seq.{take-suc, take-all, drop-cons}
+use borrow.Author.Tests.{eq-eqb, ne-eqb, le-leb, lt-leb, lt-ltb, le-ltb}
 use Rattle.reading.specs.Pad.{pad}
 use Rattle.reading.specs.Tabulate.{tabulate}
-use Rattle.reading.proofs.Least.{true-or-false, true-not-false, lt-or-le, lowest-is, lowest-none, below-suc}
+use Rattle.reading.proofs.Least.{lt-or-le, lowest-is, lowest-none, below-suc}
 use Rattle.reading.proofs.Pads.{pad-nil, pad-set}
 use Rattle.reading.proofs.Tabulate.{tabulate-length}
-use Rattle.codespace.specs.Ledger.{Codeword, share, freeStrings, isLength, IsLength, answer, after}
-use Rattle.codespace.specs.Blocks.{vacant, enterAnswer, enterBlocks, emptyBlocks, runBlocks, Reached, blockFor}
+use Rattle.codespace.specs.Ledger.{freeStrings, IsLength, answer, after}
+use Rattle.codespace.specs.Blocks.{vacant, enterAnswer, enterBlocks, Reached}
 use Rattle.codespace.specs.Answers.{number, isNone}
-use Rattle.codeword_assignment.specs.Book.{used, isUsed, handedOutBefore, entryAnswer, orZero, isRefused, firstRefused, codewordOf, codewords, freeAfter, isLone, verdict, assigned, written, Decodable, NextUsed}
+use Rattle.codeword_assignment.specs.Book.{used, isUsed, entryAnswer, orZero, isRefused, firstRefused, codewordOf, codewords, freeAfter, isLone, verdict, assigned, written, Decodable, NextUsed}
 use Rattle.codeword_assignment.specs.declared.book.Assigned.{Assigned}
 use Rattle.codeword_assignment.specs.declared.book.Assigned.the-variants.{Accepted, Overspecified, Underspecified, TooShort}
 use Rattle.codespace.proofs.Whole.{answer-are, refused-is}
-use Rattle.codespace.proofs.Claimed.{reached-start, next-reached}
+use Rattle.codespace.proofs.Claimed.{next-reached}
 use Rattle.codespace.proofs.Places.{Small, enter-small}
 use Rattle.codespace.proofs.Steps.{outside-blocks}
 use Rattle.codeword_assignment.specs.Figures.{Figures}

@@ -12,9 +12,7 @@ use Rattle.reading.specs.Tabulate.{tabulate}
 use Rattle.reading.proofs.Tabulate.{tabulate-at, tabulate-length, tabulate-store, tabulate-all}
 use Rattle.codespace.specs.Blocks.{vacant, enterAnswer, enterBlocks, Reached}
 use Rattle.codespace.specs.Answers.{number, isNone}
-use Rattle.codeword_assignment.specs.Book.{used, codewordOf, codewords, isLone, verdict, Coded}
-use Rattle.codeword_assignment.specs.declared.book.Assigned.{Assigned}
-use Rattle.codeword_assignment.specs.declared.book.Assigned.the-variants.{Accepted, Overspecified, Underspecified, TooShort}
+use Rattle.codeword_assignment.specs.Book.{used, codewordOf, codewords, isLone, Coded}
 use Rattle.codeword_assignment.proofs.Assigning.{Assigning, assigning-start, assigning-turn, word-is, overspecified, full-accepted, lone-accepted, underspecified, over-accepted, under-accepted}
 
 pub not-coded : (ls words : List ℕ) → (Coded ls words → ⊥) → (false ≡ true) ↔ Coded ls words

@@ -5,14 +5,14 @@ ghost use mathlib.Core.List.{map};
 ghost use lib.ListN.{length, take};
 ghost use Rattle.codespace.specs.Claims.{Balanced};
 ghost use Rattle.codespace.specs.Answers.{outcome};
-ghost use Rattle.codespace.specs.Entering.{entered};
+ghost use Rattle.codespace.specs.Entering.{enteredAll};
 ghost use Rattle.codeword_assignment.specs.Book.{assigned, written, refusal};
 
 // Enters any lengths one by one, from an empty space. The answer is 0, and `answers` has the answer to each length, its codeword or 2^32 for a refusal, and
 // zeros behind them; or 17, where there are fewer places than lengths, and all are zero.
 #[no_mangle]
 pub extern "C" fn torchvalley_enter_lengths(lengths: &[u8], answers: &mut [u64]) -> u32
-    ensures { λ r. ⌜ (r, now (answers .exit)) ≡ entered (now (lengths .entry)) (length (now (answers .entry))) ⌝ }
+    ensures { λ r. ⌜ (r, now (answers .exit)) ≡ enteredAll (now (lengths .entry)) (length (now (answers .entry))) ⌝ }
     ensures { λ r. ⌜ (r ≡ 0 → Balanced (now (lengths .entry)) (map outcome (take (length (now (lengths .entry))) (now (answers .exit))))) ⌝ }
 {
     codespace::space::enter_lengths(lengths, answers)

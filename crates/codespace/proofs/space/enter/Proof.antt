@@ -1,9 +1,7 @@
 -- `codespace::space::enter` meets its contract: what the two loops find and leave is what the model finds and leaves. Assumes nothing.
-use mathlib.Core.Path.{_≡_, sym, ap, _∙_}
-use Prim.Native.Nat.{ℕ, _-_, _<_, _≤_}
+use mathlib.Core.Path.{sym, ap, _∙_}
 use native.Mathlib.Omega.{arith}
 use borrow.Author.Needs.{needs}
-use lib.ListN.{length}
 use Rattle.codespace.specs.Ledger.{IsLength}
 use Rattle.codespace.specs.Answers.{number}
 use Rattle.codespace.proofs.Numbers.{entered-so}
