@@ -1,4 +1,4 @@
-/* The codewords of a book, and final Y and the curve of a floor, on the figures of the papers, through the C interface. `examples/run` builds it. */
+/* Lengths entered one by one, the codewords of a book, and final Y and the curve of a floor, on the figures of the papers, through the C interface. `examples/run` builds it. */
 #include <inttypes.h>
 #include <stdio.h>
 #include <torchvalley.h>
@@ -21,6 +21,15 @@ static void book(void) {
            torchvalley_codewords(lengths, 8, words, 7));
 }
 
+static void entered(void) {
+    const uint8_t lengths[5] = {2, 1, 2, 33, 2};
+    uint64_t answers[6];
+    printf("entered %" PRIu32 ":", torchvalley_enter_lengths(lengths, 5, answers, 6));
+    for (size_t i = 0; i < 6; i++)
+        printf(" %" PRIu64, answers[i]);
+    printf("\none place short %" PRIu32 "\n", torchvalley_enter_lengths(lengths, 5, answers, 4));
+}
+
 static void floor_1(void) {
     const uint16_t x[9] = {0, 128, 64, 32, 96, 16, 48, 80, 112};
     const uint16_t values[9] = {110, 20, 9, 89, 0, 49, 19, 60, 19};
@@ -34,6 +43,7 @@ static void floor_1(void) {
 }
 
 int main(void) {
+    entered();
     book();
     floor_1();
     return 0;

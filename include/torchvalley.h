@@ -118,12 +118,19 @@ struct torchvalley_codeword torchvalley_codeword(struct torchvalley_identity ide
                                                  const uint8_t *mappings, size_t mappings_length, const uint8_t *modes, size_t modes_length,
                                                  uint32_t book, const uint8_t *packet, size_t packet_length, size_t byte, uint8_t bit);
 
+/* Enters lengths one by one into a space of codewords, at first empty. `lengths` has `count` of them, any bytes; `answers` gets a number for each, in
+ * order: the lowest codeword of that length that is free, whose leftmost bit is the highest of as many bits as the length says, and which is free no
+ * more; or 4294967296, a refusal, which changes nothing, where the length asks for more code space than is free or is not 1 to 32. Places of
+ * `answers` behind them are 0. The answer is 0; or 17, and then `answers` is all zero:
+ *   17  `answers` has fewer places than there are lengths */
+uint32_t torchvalley_enter_lengths(const uint8_t *lengths, size_t count, uint64_t *answers, size_t places);
+
 /* Hands out the codewords of a book. `lengths` has the length of each of its entries, 1 to 32, or 0 for an unused one; `words` gets a number for
  * each entry: its codeword, whose leftmost bit is the highest of as many bits as the length says, or 0 for an unused one. In entry order each is
- * the lowest that is free. The answer is 0, or the number of a refusal, and then `words` is all zero:
+ * the lowest that is free. Places of `words` behind them are 0. The answer is 0, or the number of a refusal, and then `words` is all zero:
  *    7  a length asks for more code space than is free, or is above 32
  *    8  code space is left over, or no entry is used; but a sole used entry of length 1 is accepted
- *   17  `words` has fewer or more places than there are entries */
+ *   17  `words` has fewer places than there are entries */
 uint32_t torchvalley_codewords(const uint8_t *lengths, size_t entries, uint32_t *words, size_t places);
 
 /* Final Y and flags of a floor of type 1, from its X list and the values that an audio packet has for it. In list order `y` gets each point's Y

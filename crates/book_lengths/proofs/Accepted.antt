@@ -15,8 +15,8 @@ use Rattle.reading.proofs.Outcomes.{then-ok, need-ok, judged-ok, same-ok}
 use Rattle.reading.proofs.Accepted.{many-number, many-all}
 use Rattle.bits.specs.Field.{field}
 use Rattle.bits.specs.Ilog.{ilog}
-use Rattle.codespace.specs.Book.{verdict}
-use Rattle.codespace.specs.declared.book.Assigned.the-variants.{Accepted}
+use Rattle.codeword_assignment.specs.Book.{verdict}
+use Rattle.codeword_assignment.specs.declared.book.Assigned.the-variants.{Accepted}
 use Rattle.rules.specs.Rules.{meets7, meets8}
 use Rattle.rules.proofs.Laws.{meets-accepted}
 use Rattle.book_lengths.specs.Reading.{entryLength, runs, lengths, entered}

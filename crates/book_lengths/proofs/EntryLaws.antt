@@ -2,23 +2,25 @@
 use Prim.Native.Nat.{ℕ, _+_, _-_, _≤_}
 use native.Mathlib.Omega.{arith}
 use borrow.Author.Needs.{needs}
-use borrow.Author.Tests.{eq-eqb}
+use borrow.Author.Tests.{le-ltb}
 use mathlib.Core.List.{List, _++_}
 use mathlib.Core.Path.{_≡_, sym, ap, _∙_}
 use lib.ListN.{length, take, drop}
 use lib.Seq.{sets}
 use Rattle.reading.specs.Outcome.{Outcome, ok}
 use Rattle.reading.specs.Reader.{mapped}
+use Rattle.reading.proofs.Pads.{pad-whole}
 use Rattle.bits.specs.declared.Cursor.{Cursor}
 use Rattle.bits.specs.declared.Refusal.{Refusal}
 use Rattle.bits.specs.declared.Step.{Step}
 use Rattle.bits.specs.declared.Step.the-variants.{Next, Refused}
 use Rattle.bits.specs.Cursors.{position, Wrote}
 use Rattle.bits.proofs.Steps.{wrote-bad, wrote-ok, wrote-refused, wrote-next}
-use Rattle.codespace.specs.Book.{verdict, assigned, written, codewords}
-use Rattle.codespace.specs.declared.book.Assigned.{Assigned}
-use Rattle.codespace.specs.declared.book.Assigned.the-variants.{Accepted, Overspecified, Underspecified, Mismatched}
-use Rattle.rules.proofs.Laws.{accepted-meets, overspecified-breaks7, underspecified-breaks8, verdict-matches}
+use Rattle.codeword_assignment.specs.Book.{verdict, assigned, written, codewords}
+use Rattle.codeword_assignment.specs.declared.book.Assigned.{Assigned}
+use Rattle.codeword_assignment.specs.declared.book.Assigned.the-variants.{Accepted, Overspecified, Underspecified, TooShort}
+use Rattle.codeword_assignment.proofs.Laws.{codewords-length}
+use Rattle.rules.proofs.Laws.{accepted-meets, overspecified-breaks7, underspecified-breaks8, verdict-not-short}
 use Rattle.filling.proofs.Written.{mapped-mapped, wrote-mapped, wrote-as, part-back}
 use Rattle.book_lengths.specs.Reading.{lengths, entered}
 use Rattle.book_lengths.specs.Parts.{entries, coded, laid}
@@ -28,7 +30,7 @@ at n c = record { number = n; place = c }
 
 verdict-is : (ls : List ℕ) (m : ℕ) (a : Assigned) → a ≡ assigned ls m → length ls ≡ m → verdict ls ≡ a
 unfolding assigned
-verdict-is ls m a e h = sym (e ∙ rw (eq-eqb (length ls) m h))
+verdict-is ls m a e h = sym (e ∙ rw (le-ltb m (length ls) (omega arith)))
 
 -- the lengths, all read, and entered
 abbrev both : ℕ → List ℕ → ℕ → Outcome ((List ℕ × List ℕ) × ℕ)
@@ -45,11 +47,11 @@ module _ (place next : Cursor) (ls : List ℕ) (m : ℕ) {a : Assigned} (p : a �
       let b = underspecified-breaks8 ls (verdict-is ls m a p long ∙ f) in
       wrote-refused u (rw (b .0, b .1))
 
-  pub entered-mismatched : a ≡ Mismatched → (u : List ℕ × List ℕ) → Wrote (both (position place) ls (position next)) (Refused (at 17 place)) u
-  entered-mismatched f u = absurd (verdict-matches ls (verdict-is ls m a p long ∙ f))
+  pub entered-short : a ≡ TooShort → (u : List ℕ × List ℕ) → Wrote (both (position place) ls (position next)) (Refused (at 17 place)) u
+  entered-short f u = absurd (verdict-not-short ls (verdict-is ls m a p long ∙ f))
 
   words-are : {words : List ℕ} → a ≡ Accepted → words ≡ written a ls m → words ≡ codewords ls
-  words-are f e = e ∙ ap (λ (x : Assigned). written x ls m) f
+  words-are f e = e ∙ ap (λ (x : Assigned). written x ls m) f ∙ pad-whole m (codewords ls) (codewords-length ls ∙ long)
 
   pub entered-accepted : {words : List ℕ} → a ≡ Accepted → words ≡ written a ls m → Wrote (both (position place) ls (position next)) (Next next) (ls, words)
   unfolding entered mapped
@@ -87,4 +89,4 @@ entries-laid place n s k first count lens wds {r} {ls} {ws} w e el ew fl fw =
     (wrote-mapped (λ (x : List ℕ × List ℕ). (sets lens first (x .0), sets wds first (x .1))) w)
 
 pub ruleset entry-laws =
-    (needs, entered-over, entered-under, entered-mismatched, entered-accepted, entries-refused, entries-entered)
+    (needs, entered-over, entered-under, entered-short, entered-accepted, entries-refused, entries-entered)

@@ -7,7 +7,7 @@ use Rattle.reading.specs.Reader.{Reader, judged, many}
 use Rattle.bits.specs.Field.{field}
 use Rattle.bits.specs.Ilog.{ilog}
 use Rattle.rules.specs.Rules as Rule
-use Rattle.codespace.specs.Book.{codewords}
+use Rattle.codeword_assignment.specs.Book.{codewords}
 use Rattle.book_lengths.specs.Reading.{entryLength, runs, lengths, entered}
 
 -- the number of a run's entries

@@ -3,8 +3,8 @@ use crate::lengths::read_lengths;
 use bits::Cursor;
 use bits::Refusal;
 use bits::Step;
-use codespace::book::Assigned;
-use codespace::book::assign_codewords;
+use codeword_assignment::book::Assigned;
+use codeword_assignment::book::assign_codewords;
 ghost use mathlib.Core.Path.{_≡_};
 ghost use Prim.Native.Nat.{_+_, _<_, _≤_};
 ghost use lib.ListN.{length};
@@ -23,7 +23,7 @@ fn enter_lengths(lengths: &[u8], words: &mut [u32], place: Cursor, next: Cursor)
         Assigned::Accepted => Step::Next(next),
         Assigned::Overspecified(_) => Step::Refused(Refusal { number: 7, place }),
         Assigned::Underspecified => Step::Refused(Refusal { number: 8, place }),
-        Assigned::Mismatched => Step::Refused(Refusal { number: 17, place }),
+        Assigned::TooShort => Step::Refused(Refusal { number: 17, place }),
     }
 }
 

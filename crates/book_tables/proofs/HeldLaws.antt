@@ -12,7 +12,7 @@ use Rattle.reading.specs.Lists.{rows}
 use Rattle.reading.proofs.Pads.{pad-nil}
 use Rattle.reading.proofs.Stands.{pad-append}
 use Rattle.limits.specs.declared.Limits.{Limits}
-use Rattle.codespace.specs.Book.{codewords}
+use Rattle.codeword_assignment.specs.Book.{codewords}
 use Rattle.book.specs.Content.{Book}
 use Rattle.book.specs.Layout.{bookRow}
 use Rattle.book_head.specs.Reading.{Before}

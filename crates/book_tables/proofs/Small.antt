@@ -11,9 +11,9 @@ use lib.Dec.{eqb, leb}
 use lib.ListN.{getD}
 use Rattle.reading.specs.Lists.{all}
 use Rattle.reading.proofs.Least.{lt-or-le}
-use Rattle.codespace.specs.Book.{used, isLone, verdict, refusedOr, firstRefused, freeAfter, codewords, entryAnswer, handedOutBefore}
-use Rattle.codespace.specs.declared.book.Assigned.the-variants.{Accepted, Underspecified}
-use Rattle.codespace.proofs.Laws.{entry-answer}
+use Rattle.codeword_assignment.specs.Book.{used, isLone, verdict, refusedOr, firstRefused, freeAfter, codewords, entryAnswer, handedOutBefore}
+use Rattle.codeword_assignment.specs.declared.book.Assigned.the-variants.{Accepted, Underspecified}
+use Rattle.codeword_assignment.proofs.Laws.{entry-answer}
 use Rattle.codespace.proofs.Whole.{some-says}
 
 none-refused : (ls : List ℕ) → verdict ls ≡ Accepted → firstRefused ls ≡ none

@@ -18,7 +18,7 @@ use Rattle.reading.specs.Stand.{Zeros}
 use Rattle.reading.proofs.Least.{lt-or-le}
 use Rattle.reading.proofs.Stands.{iff-false, iff-true}
 use Rattle.limits.specs.declared.Limits.{Limits}
-use Rattle.codespace.specs.Book.{Coded}
+use Rattle.codeword_assignment.specs.Book.{Coded}
 use Rattle.book_lookup.specs.Reading.{valueCount}
 use Rattle.book_tables.specs.declared.row.Row.{Row}
 use Rattle.book_tables.specs.Stand.{Clear}

@@ -11,7 +11,7 @@ use lib.Seq.{take-at, length-take-le}
 use Rattle.reading.specs.Lists.{all}
 use Rattle.reading.proofs.Least.{lt-or-le}
 use Rattle.limits.specs.declared.Limits.{Limits}
-use Rattle.codespace.specs.Book.{codewords}
+use Rattle.codeword_assignment.specs.Book.{codewords}
 use Rattle.book.specs.Content.{Book}
 use Rattle.book.specs.Layout.{bookRow}
 use Rattle.book_head.specs.Answers.{totals}

@@ -9,7 +9,7 @@ use lib.Dec.{ltb}
 use lib.ListN.{length, getD, take}
 use Rattle.reading.specs.Lists.{all}
 use Rattle.limits.specs.declared.Limits.{Limits}
-use Rattle.codespace.specs.Book.{Coded}
+use Rattle.codeword_assignment.specs.Book.{Coded}
 use Rattle.book_lookup.specs.Reading.{valueCount}
 use Rattle.book_tables.specs.declared.row.Row.{Row}
 

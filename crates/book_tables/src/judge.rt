@@ -9,7 +9,7 @@ ghost use Prim.Native.Nat.{_+_, _^_, _<_, _≤_};
 ghost use lib.Dec.{ltb};
 ghost use lib.ListN.{length, take, drop};
 ghost use Rattle.reading.specs.Lists.{all};
-ghost use Rattle.codespace.specs.Book.{Coded};
+ghost use Rattle.codeword_assignment.specs.Book.{Coded};
 ghost use Rattle.book_tables.specs.Rules.{HeadRules, PlaceRules, NoneRules, SomeRules, LookupRules, BookRules, Begun};
 
 fn long(x: u32) -> u64
@@ -128,7 +128,7 @@ fn is_coded(lengths: &[u8], words: &[u32], first: u32, count: u32) -> bool
 {
     let start = wide(first);
     let end = start + wide(count);
-    codespace::book::are_codewords(&lengths[start..end], &words[start..end])
+    codeword_assignment::book::are_codewords(&lengths[start..end], &words[start..end])
 }
 
 fn power(exponent: u32) -> u32

@@ -16,7 +16,7 @@ use Rattle.bits.specs.declared.Step.the-variants as S
 use Rattle.bits.specs.Cursors.{position, Wrote}
 use Rattle.bits.proofs.Steps.{wrote-bad, wrote-ok, wrote-refused}
 use Rattle.limits.specs.declared.Limits.{Limits}
-use Rattle.codespace.specs.Book.{codewords}
+use Rattle.codeword_assignment.specs.Book.{codewords}
 use Rattle.book.specs.Layout.{bookRow}
 use Rattle.filling.proofs.Written.{mapped-then, mapped-mapped, wrote-mapped, wrote-as}
 use Rattle.book_head.specs.Reading.{Head, head}

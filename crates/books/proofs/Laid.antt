@@ -12,7 +12,7 @@ use Rattle.reading.specs.Reader.{puts}
 use Rattle.reading.proofs.Pads.{pad-nil}
 use Rattle.reading.proofs.Tables.{sets-pad}
 use Rattle.reading.proofs.Tabulate.{tabulate-length}
-use Rattle.codespace.specs.Book.{codewords, codewordOf}
+use Rattle.codeword_assignment.specs.Book.{codewords, codewordOf}
 use Rattle.book.specs.Content.{Book}
 use Rattle.book.specs.Layout.{bookRow}
 use Rattle.book_head.specs.Reading.{Before}

@@ -4,7 +4,7 @@ use Prim.Native.Nat.{ℕ, _+_, _*_}
 use mathlib.Core.List.{List, [], _∷_, _++_}
 use lib.ListN.{length}
 use lib.Seq.{sets}
-use Rattle.codespace.specs.Book.{codewords}
+use Rattle.codeword_assignment.specs.Book.{codewords}
 use Rattle.book.specs.Content.{Book}
 use Rattle.book.specs.Layout.{bookRow}
 use Rattle.book_head.specs.Reading.{Before, Head}

@@ -6,9 +6,9 @@ use mathlib.Core.List.{List}
 use mathlib.Core.Option.{Option, none, some}
 use mathlib.Core.Path.{_≡_, refl}
 use lib.Dec.{eqb}
-use Rattle.codespace.specs.Book.{used, isLone, verdict, refusedOr, firstRefused, freeAfter}
-use Rattle.codespace.specs.declared.book.Assigned.{Assigned}
-use Rattle.codespace.specs.declared.book.Assigned.the-variants.{Accepted, Underspecified}
+use Rattle.codeword_assignment.specs.Book.{used, isLone, verdict, refusedOr, firstRefused, freeAfter}
+use Rattle.codeword_assignment.specs.declared.book.Assigned.{Assigned}
+use Rattle.codeword_assignment.specs.declared.book.Assigned.the-variants.{Accepted, Underspecified}
 
 pub none-refused : (ls : List ℕ) → verdict ls ≡ Accepted → firstRefused ls ≡ none
 unfolding verdict

@@ -19,8 +19,8 @@ use Rattle.bits.specs.declared.Cursor.{Cursor}
 use Rattle.bits.specs.declared.Field.{Field}
 use Rattle.bits.specs.declared.Field.the-variants.{Value}
 use Rattle.reading.proofs.Least.{lt-or-le}
-use Rattle.codespace.specs.Book.{codewords, PrefixCode}
-use Rattle.codespace.proofs.Laws.{accepted-decodable, used-length, codewords-length}
+use Rattle.codeword_assignment.specs.Book.{codewords, PrefixCode}
+use Rattle.codeword_assignment.proofs.Laws.{accepted-decodable, used-length, codewords-length}
 use Rattle.codebook.specs.Codeword.{bitsAt, matching}
 use Rattle.codebook.specs.Book.{Codebook}
 use Rattle.codebook.proofs.Accepted.{none-refused}

@@ -18,10 +18,10 @@ use Rattle.reading.proofs.Least.{lowest-some, lowest-ok, IsLowest, and-split, l
 use Rattle.bits.specs.Field.{field}
 use Rattle.bits.proofs.Fields.{field-none, field-ok}
 use Rattle.bits.proofs.Cuts.{field-cut-packet}
-use Rattle.codespace.specs.Book.{used, isUsed, isLone, orZero, codewords, verdict, Begins, PrefixCode, Decodable}
+use Rattle.codeword_assignment.specs.Book.{used, isUsed, isLone, orZero, codewords, verdict, Begins, PrefixCode, Decodable}
 use Rattle.codespace.specs.Ledger.{share}
-use Rattle.codespace.specs.declared.book.Assigned.the-variants.{Accepted}
-use Rattle.codespace.proofs.Laws.{accepted-decodable, used-length}
+use Rattle.codeword_assignment.specs.declared.book.Assigned.the-variants.{Accepted}
+use Rattle.codeword_assignment.proofs.Laws.{accepted-decodable, used-length}
 use Rattle.codebook.specs.Codeword.{bitsAt, isCodeword, entryOf, orGoOn, matching, firstUsed, codeword}
 use Rattle.bits.specs.Cursors.{position, outcome}
 use Rattle.bits.specs.declared.Cursor.{Cursor}

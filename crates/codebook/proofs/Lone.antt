@@ -22,7 +22,7 @@ use Rattle.bits.specs.declared.Refusal.{Refusal}
 use Rattle.bits.specs.declared.Field.{Field}
 use Rattle.bits.specs.declared.Field.the-variants.{Value, Refused}
 use Rattle.bits.proofs.Answers.{value-is, refused-is}
-use Rattle.codespace.specs.Book.{used, isUsed, isLone, orZero}
+use Rattle.codeword_assignment.specs.Book.{used, isUsed, isLone, orZero}
 use Rattle.codebook.specs.Codeword.{firstUsed, codeword}
 
 -- where no entry is used, nothing is entered

@@ -15,8 +15,8 @@ use borrow.Author.Tests.{lt-ltb, le-ltb, eq-eqb, ne-eqb, eqb-true}
 use Rattle.reading.specs.Outcome.{refusal, Outcome, ok, bad, need}
 use Rattle.reading.specs.Least.{lowest}
 use Rattle.reading.proofs.Least.{lowest-none, lowest-is, and-split, no-true, below-suc}
-use Rattle.codespace.specs.Book.{codewordOf, codewords, PrefixCode}
-use Rattle.codespace.proofs.Laws.{codewords-at}
+use Rattle.codeword_assignment.specs.Book.{codewordOf, codewords, PrefixCode}
+use Rattle.codeword_assignment.proofs.Laws.{codewords-at}
 use Rattle.codebook.specs.Codeword.{bitsAt, isCodeword, entryOf, orGoOn, matching}
 use Rattle.codebook.proofs.Bits.{bits-half}
 

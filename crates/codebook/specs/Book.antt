@@ -3,8 +3,8 @@ use mathlib.Core.List.{List}
 use mathlib.Core.Path.{_≡_}
 use Prim.Native.Nat.{ℕ, _^_, _≤_}
 use lib.ListN.{length}
-use Rattle.codespace.specs.Book.{codewords, verdict}
-use Rattle.codespace.specs.declared.book.Assigned.the-variants.{Accepted}
+use Rattle.codeword_assignment.specs.Book.{codewords, verdict}
+use Rattle.codeword_assignment.specs.declared.book.Assigned.the-variants.{Accepted}
 
 pub record Codebook (lengths words : List ℕ) : Type 0 where
   -- the number of entries is a field of 24 bits (002)

@@ -6,7 +6,7 @@ use mathlib.Core.Logic.{_⊎_}
 use mathlib.Core.Path.{_≡_}
 use lib.ListN.{length, getD, take}
 use Rattle.reading.specs.Outcome.{refusal, ok, bad}
-use Rattle.codespace.specs.Book.{used, isLone, codewords, Begins}
+use Rattle.codeword_assignment.specs.Book.{used, isLone, codewords, Begins}
 use Rattle.codebook.specs.Codeword.{bitsAt, codeword, firstUsed}
 
 pub record Settled (lengths : List ℕ) : Type 0 where

@@ -10,7 +10,7 @@ use Rattle.reading.specs.Outcome.{refusal, Outcome, ok, bad, need}
 use Rattle.reading.specs.Reader.{Reader, mapped}
 use Rattle.reading.specs.Least.{lowest}
 use Rattle.bits.specs.Field.{bitAt, field}
-use Rattle.codespace.specs.Book.{used, isUsed, isLone, codewordOf, orZero}
+use Rattle.codeword_assignment.specs.Book.{used, isUsed, isLone, codewordOf, orZero}
 
 -- the n bits from bit k on as a number, the first read the most significant (002: "read and used bit by bit from left to right")
 unfoldable pub bitsAt : List ℕ → ℕ → ℕ → ℕ

@@ -10,7 +10,7 @@ ghost use lib.ListN.{length};
 ghost use Rattle.reading.specs.Outcome.{refusal, bad};
 ghost use Rattle.bits.specs.Field.{bitAt};
 ghost use Rattle.bits.specs.Cursors.{position, outcome};
-ghost use Rattle.codespace.specs.Book.{used, isLone};
+ghost use Rattle.codeword_assignment.specs.Book.{used, isLone};
 ghost use Rattle.codebook.specs.Codeword.{codeword, firstUsed, matching};
 ghost use Rattle.codebook.specs.Book.{Codebook};
 ghost use Rattle.codebook.specs.Claims.{Settled};
@@ -21,7 +21,7 @@ pub fn read_codeword(packet: &[u8], from: Cursor, lengths: &[u8], words: &[u32])
     ensures { λ r. ⌜ outcome r ≡ codeword (now (lengths .entry)) (now (packet .entry)) (position from) ⌝ }
     ensures { λ _. ⌜ Settled (now (lengths .entry)) ⌝ }
 {
-    if codespace::book::is_lone(lengths) {
+    if codeword_assignment::book::is_lone(lengths) {
         return lone_entry(packet, from, lengths);
     }
     match_codeword(packet, from, lengths, words)

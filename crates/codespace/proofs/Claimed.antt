@@ -1,16 +1,13 @@
 -- The claim about a whole list (demand 3), proved of the ledger's answers; and that entering goes from one list to the next. Assumes nothing.
-use mathlib.Core.Bool.{Bool, true, false}
 use mathlib.Core.List.{List, [], _∷_, _++_}
-use mathlib.Core.Logic.{_↔_}
 use mathlib.Core.Option.{Option, none, some}
 use mathlib.Core.Path.{_≡_, refl, sym, ap, _∙_}
-use Prim.Native.Nat.{ℕ, zero, suc, _+_, _^_, _≤_, _<_}
+use Prim.Native.Nat.{ℕ, zero, suc, _+_, _<_}
 use native.Mathlib.Nat.{le-of-suc-le-suc}
 use native.Mathlib.Omega.{arith}
 use lib.ListN.{length, getD, take}
-use lib.Seq.{take-suc}
-use Rattle.codespace.specs.Ledger.{Codeword, freeStrings, share, answer, enlist, after, answers, IsLength}
-use Rattle.codespace.specs.Claims.{handedOut, handedOutBy, accepted, starts, Balanced}
+use Rattle.codespace.specs.Ledger.{Codeword, freeStrings, answer, enlist, after, answers, IsLength}
+use Rattle.codespace.specs.Claims.{handedOut, handedOutBy, without, Balanced}
 use Rattle.codespace.specs.Blocks.{emptyBlocks, enterAnswer, enterBlocks, runBlocks, Reached}
 use Rattle.codespace.proofs.Lengths.{no-length}
 use Rattle.codespace.proofs.Whole.{answer-are, some-says, balance, refused-is, exactly-one}
@@ -58,6 +55,15 @@ answer-outside : (ws : List Codeword) (len : ℕ) → (IsLength len → ⊥) →
 unfolding answer
 answer-outside ws len n = rw (no-length len n)
 
+-- a refused length leaves the other answers as they are without it
+answers-without : (i : ℕ) (ls : List ℕ) (ws : List Codeword) → i < length ls → getD (answers ws ls) i none ≡ none
+    → without i (answers ws ls) ≡ answers ws (without i ls)
+unfolding without answers
+answers-without i [] ws h e = absurd (omega arith)
+answers-without zero (l ∷ ls) ws h e = ap (λ (o : Option ℕ). answers (enlist ws l o) ls) e
+answers-without (suc i) (l ∷ ls) ws h e =
+    ap (λ (os : List (Option ℕ)). answer ws l ∷ os) (answers-without i ls (enlist ws l (answer ws l)) (le-of-suc-le-suc h) e)
+
 module _ (ls : List ℕ) where
   by : (i : ℕ) → handedOutBy i ls (answers [] ls) ≡ after [] (take i ls)
   by i = rw (answers-take i ls []) (handed-after (take i ls) [])
@@ -72,9 +78,7 @@ module _ (ls : List ℕ) where
             rw (by i) (some-says (after [] (take i ls)) (getD ls i 0) v o .1);
         refused = λ i h k. rw (by i, answers-at i ls [] h) (refused-is (take i ls) (getD ls i 0) k);
         outside = λ i h n. answers-at i ls [] h ∙ answer-outside (after [] (take i ls)) (getD ls i 0) n;
-        unchanged = λ i h e.
-            let o = sym (answers-at i ls [] h) ∙ e in
-            rw (by (suc i), by i, take-suc ls i 0 h, after-snoc, o);
+        unchanged = λ i h e. answers-without i ls [] h e;
         complete = λ i h e s u. rw (answers-take i ls []) (exactly-one (take i ls) (sym (ap freeStrings (by i)) ∙ e) s u);
       }
 

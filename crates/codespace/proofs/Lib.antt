@@ -6,7 +6,3 @@ pub mod Claimed
 pub mod Steps
 pub mod Places
 pub mod Numbers
-pub mod Laws
-pub mod Assigning
-pub mod Figures
-pub mod Comparing

@@ -1,52 +1,29 @@
--- Answers as numbers, there and back; and the turns of `enter` and `enter_all`. Assumes nothing.
-use mathlib.Core.Bool.{Bool, true, false, cond}
-use mathlib.Core.List.{List, [], _∷_, _++_, map, map-append}
+-- Answers as numbers, there and back; and the turns of `enter` and `enter_lengths`. Assumes nothing.
+use mathlib.Core.List.{List, [], _∷_, map, map-append}
+use mathlib.Core.Logic.{⊎-elim}
 use mathlib.Core.Option.{Option, none, some}
 use mathlib.Core.Path.{_≡_, refl, sym, ap, _∙_}
-use Prim.Native.Nat.{ℕ, zero, suc, _+_, _-_, _^_, _≤_, _<_}
-use native.Mathlib.Nat.{zero-add, add-zero}
-use native.Mathlib.Numerals.{add-one}
+use Prim.Native.Nat.{ℕ, zero, suc, _-_, _^_, _≤_, _<_}
+use native.Mathlib.Nat.{le-of-suc-le-suc, sub-self}
 use native.Mathlib.Omega.{arith}
-use lib.Dec.{leb, ltb}
-use lib.ListN.{length, getD, set, take, drop, length-map, length-take, drop-of-length-le}
+use lib.Dec.{leb}
+use lib.ListN.{length, getD, set, take, replicate, length-map, length-set, length-replicate}
 use lib.Pow.{pow-mono}
-use lib.Seq.{take-suc, take-all, sets, sets-eq, length-sets, length-take-le}
-use borrow.Author.Tests.{lt-ltb, le-leb, lt-leb}
-use mathlib.Core.List.{append-nil}
-use mathlib.Core.Logic.{⊎-elim}
+use lib.Seq.{take-suc, take-all, length-take-le}
+use borrow.Author.Tests.{lt-ltb, le-ltb, le-leb, lt-leb}
+use Rattle.reading.specs.Pad.{pad}
 use Rattle.reading.proofs.Least.{lt-or-le}
+use Rattle.reading.proofs.Pads.{pad-nil, pad-set}
 use Rattle.codespace.specs.Ledger.{Codeword, answer, enlist, after, answers, IsLength}
 use Rattle.codespace.specs.Claims.{Balanced}
-use Rattle.codespace.specs.Blocks.{vacant, enterAnswer, enterBlocks, Reached}
+use Rattle.codespace.specs.Blocks.{enterAnswer, enterBlocks, Reached}
 use Rattle.codespace.specs.Steps.{firstHeld}
-use Rattle.codespace.specs.Answers.{answered, number, outcome, numberOf, isNone}
-use Rattle.codespace.specs.Entering.{Modelled, Entry}
-use Rattle.codespace.specs.declared.space.Answer.the-variants as variant
-use Rattle.codespace.specs.declared.space.Entered.{Entered}
+use Rattle.codespace.specs.Answers.{number, outcome, isNone}
+use Rattle.codespace.specs.Entering.{Entered, enteredAll}
 use Rattle.codespace.proofs.Whole.{Says, answer-says}
 use Rattle.codespace.proofs.Claimed.{answers-snoc, answers-length, balanced, next-answer, next-reached}
-use Rattle.codespace.proofs.Places.{Small, enter-small}
+use Rattle.codespace.proofs.Places.{Small, refused-same}
 use Rattle.codespace.proofs.Steps.{refused-answer, taken-answer}
-
--- the number that `take_codeword` gives, as an answer
-number-codeword : (o : Option ℕ) (v : ℕ) → v ≡ number o → v < vacant → variant.Codeword v ≡ answered o
-number-codeword none v e h = absurd (omega arith)
-number-codeword (some u) v e h = ap variant.Codeword e
-
-number-refused : (o : Option ℕ) (v : ℕ) → Small o → v ≡ number o → vacant ≤ v → variant.Refused ≡ answered o
-number-refused none v p e h = refl
-number-refused (some u) v p e h = absurd (omega arith)
-
-module _ (bs : List ℕ) (len v : ℕ) (e : v ≡ number (enterAnswer bs len)) where
-  pub entered-codeword : v < vacant → variant.Codeword v ≡ answered (enterAnswer bs len)
-  entered-codeword h = number-codeword (enterAnswer bs len) v e h
-
-  pub entered-refused : vacant ≤ v → variant.Refused ≡ answered (enterAnswer bs len)
-  entered-refused h = number-refused (enterAnswer bs len) v (enter-small bs len) e h
-
-number-of : (o : Option ℕ) → numberOf (answered o) ≡ number o
-number-of none = refl
-number-of (some v) = refl
 
 outcome-number : (o : Option ℕ) → Small o → outcome (number o) ≡ o
 outcome-number none p = refl
@@ -66,16 +43,16 @@ outcomes [] ws = refl
 outcomes (l ∷ ls) ws =
     rw (outcome-number (answer ws l) (says-small ws l (answer ws l) (answer-says ws l)), outcomes ls (enlist ws l (answer ws l)))
 
--- `enter`: the model's answer and space, and so the ledger's
-pub modelled-entry : (bs : List ℕ) (len : ℕ) (r : Entered) → Modelled bs len r → Modelled bs len r × ((ls : List ℕ) → Reached ls bs → Entry ls len r)
-modelled-entry bs len r m = (
-  m,
-  λ ls h.
-      record {
-        answer = m .answer ∙ ap answered (next-answer ls len bs h);
-        next = rw (m .blocks) (next-reached ls len bs h);
-      },
-)
+-- `enter`: by the model's answer and space, and so by the ledger's
+pub entered-so : {bs : List ℕ} {len r : ℕ} {bs′ : List ℕ} → r ≡ number (enterAnswer bs len) → bs′ ≡ enterBlocks bs len → Entered bs len r bs′
+entered-so {bs} {len} v b =
+    record {
+      value = v;
+      left = b;
+      ledger = λ ls h. v ∙ ap number (next-answer ls len bs h);
+      reached = λ ls h. rw b (next-reached ls len bs h);
+      unchanged = λ e. b ∙ refused-same bs len (sym v ∙ e);
+    }
 
 -- `is_full`, by the height that `smallest_block` found
 pub full-is : (bs : List ℕ) (g : ℕ) → length bs ≡ 33 → g ≡ firstHeld 33 0 bs → leb 33 g ≡ isNone (enterAnswer bs 32)
@@ -86,52 +63,83 @@ full-is bs g n e =
     (λ (l : 33 ≤ g). rw (le-leb 33 g l, refused-answer bs 32 g k n e l))
     (lt-or-le g 33)
 
--- `enter_all`: a store behind those that are done
-sets-snoc : (xs l : List ℕ) (i v : ℕ) → sets l i (xs ++ (v ∷ [])) ≡ set (sets l i xs) (i + length xs) v
-sets-snoc [] l i v = rw add-zero
-sets-snoc (x ∷ xs) l i v = let e : i + suc (length xs) ≡ suc i + length xs = omega arith in rw e (sets-snoc xs (set l i x) (suc i) v)
+-- a list that fits its places stands in front of the zeros
+pub pad-front : (n : ℕ) (xs : List ℕ) → length xs ≤ n → take (length xs) (pad n xs) ≡ xs
+unfolding pad
+pad-front n [] l = refl
+pad-front zero (x ∷ xs) l = absurd (omega arith)
+pad-front (suc n) (x ∷ xs) l = ap (λ (t : List ℕ). x ∷ t) (pad-front n xs (le-of-suc-le-suc l))
 
+-- `enter_lengths`
 numbers-length : (ls : List ℕ) → length (map number (answers [] ls)) ≡ length ls
 numbers-length ls = length-map (answers [] ls) number ∙ answers-length ls []
 
--- where a turn begins: the first i lengths are entered, and their answers stored
-pub record Entering (lengths numbers₀ numbers blocks : List ℕ) (i : ℕ) : Type 0 where
-  pub within : i ≤ length lengths
-  pub stored : numbers ≡ sets numbers₀ 0 (map number (answers [] (take i lengths)))
-  pub reached : Reached (take i lengths) blocks
+-- where a turn begins, with so many lengths left, and the places as they were before the first turn: the others are entered, their answers stand in
+-- front, and zeros behind them
+pub record Entering (lengths numbers₀ numbers blocks : List ℕ) (left : ℕ) : Type 0 where
+  pub within : left ≤ length lengths
+  pub room : length lengths ≤ length numbers
+  pub long : length numbers ≡ length numbers₀
+  pub stored : numbers ≡ pad (length numbers₀) (map number (answers [] (take (length lengths - left) lengths)))
+  pub reached : Reached (take (length lengths - left) lengths) blocks
 
-pub entering-start : (ls out bs : List ℕ) → Reached [] bs → Entering ls out out bs 0
-entering-start ls out bs r = record { within = omega arith; stored = unfold answers in refl; reached = r }
-
-pub entering-length : (ls out₀ out bs : List ℕ) (i : ℕ) → Entering ls out₀ out bs i → length out ≡ length out₀
-entering-length ls out₀ out bs i w = ap length (w .stored) ∙ length-sets out₀ 0 (map number (answers [] (take i ls)))
-
-pub entering-turn : (ls out₀ out out′ bs : List ℕ) (i v : ℕ) (r : Entered) → i < length ls → Entering ls out₀ out bs i
-    → Modelled bs (getD ls i 0) r × ((ks : List ℕ) → Reached ks bs → Entry ks (getD ls i 0) r)
-    → v ≡ numberOf (r .answer) → out′ ≡ set out i v → Entering ls out₀ out′ (r .space .blocks) (i + 1)
-entering-turn ls out₀ out out′ bs i v r h w m e q =
-    let t = m .1 (take i ls) (w .reached) in
+pub entering-turn : (ls out₀ out bs : List ℕ) (left v : ℕ) (bs′ : List ℕ) → 0 < left → Entering ls out₀ out bs left
+    → Entered bs (getD ls (length ls - left) 0) v bs′ → Entering ls out₀ (set out (length ls - left) v) bs′ (left - 1)
+entering-turn ls out₀ out bs left v bs′ h w t =
+    let m = w .within in
+    let i = length ls - left in
+    let l : i < length ls = omega arith in
+    let next : length ls - (left - 1) ≡ suc i = omega arith in
     let o = answer (after [] (take i ls)) (getD ls i 0) in
     let done = map number (answers [] (take i ls)) in
-    let n : 0 + length done ≡ i = zero-add (length done) ∙ numbers-length (take i ls) ∙ length-take-le i ls (omega arith) in
-    let k : v ≡ number o = e ∙ ap numberOf (t .answer) ∙ number-of o in
+    let n : i ≡ length done = sym (numbers-length (take i ls) ∙ length-take-le i ls (omega arith)) in
     record {
       within = omega arith;
+      room = simp length-set (w .room);
+      long = simp length-set (w .long);
       stored =
-          q
-          ∙ rw (w .stored, k, add-one, take-suc ls i 0 h, answers-snoc (take i ls) [] (getD ls i 0), map-append number (answers [] (take i ls)) (o ∷ []))
-          (sym (sets-snoc done out₀ 0 (number o) ∙ ap (λ (j : ℕ). set (sets out₀ 0 done) j (number o)) n));
-      reached = rw (add-one, take-suc ls i 0 h) (t .next);
+          rw (w .stored, t .ledger (take i ls) (w .reached), next, take-suc ls i 0 l, answers-snoc (take i ls) [] (getD ls i 0), map-append number (answers [] (take i ls)) (o ∷ []))
+          (pad-set (length out₀) done i (number o) n);
+      reached = rw (next, take-suc ls i 0 l) (t .reached (take i ls) (w .reached));
     }
 
--- what all the answers, stored from the front, leave
-pub entering-end : (ls out₀ out bs : List ℕ) (i : ℕ) → length ls ≤ i → Entering ls out₀ out bs i → out ≡ sets out₀ 0 (map number (answers [] ls))
-entering-end ls out₀ out bs i h w = w .stored ∙ ap (λ (ks : List ℕ). sets out₀ 0 (map number (answers [] ks))) (take-all i ls h)
+-- cleared places, and each way out
+module _ (ls : List ℕ) (places : ℕ) (out₀ : List ℕ) (cleared : out₀ ≡ replicate places 0) where
+  all-places : length out₀ ≡ places
+  all-places = ap length cleared ∙ length-replicate places 0
 
-pub entered-balanced : (ls out₀ out : List ℕ) → out ≡ sets out₀ 0 (map number (answers [] ls)) → length ls ≡ length out₀ → Balanced ls (map outcome out)
-entered-balanced ls out₀ out e h =
-    let n = numbers-length ls in
-    let d : drop (0 + length (map number (answers [] ls))) out₀ ≡ [] = drop-of-length-le out₀ {i = 0 + length (map number (answers [] ls))} (omega arith) in
-    let s : sets out₀ 0 (map number (answers [] ls)) ≡ map number (answers [] ls)
-    = sets-eq (map number (answers [] ls)) out₀ 0 (omega arith) ∙ rw d (append-nil (map number (answers [] ls))) in
-    rw (e, s, outcomes ls []) (balanced ls)
+  pub entering-start : (bs : List ℕ) → length ls ≤ length out₀ → Reached [] bs → Entering ls out₀ out₀ bs (length ls)
+  entering-start bs l r =
+      record {
+        within = omega arith;
+        room = l;
+        long = refl;
+        stored = rw sub-self (unfold answers in cleared ∙ sym (pad-nil places) ∙ ap (λ (n : ℕ). pad n []) (sym all-places));
+        reached = rw sub-self r;
+      }
+
+  abbrev Balances : ℕ → List ℕ → Type 0
+  Balances r out = r ≡ 0 → Balanced ls (map outcome (take (length ls) out))
+
+  pub entered-short : length out₀ < length ls → ((17, out₀) ≡ enteredAll ls places) × Balances 17 out₀
+  unfolding enteredAll
+  entered-short l =
+      let n = all-places in (
+        rw (lt-ltb places (length ls) (omega arith), pad-nil places, cleared),
+        λ z. absurd (omega arith),
+      )
+
+  pub entered-all : (out bs : List ℕ) (left : ℕ) → left ≤ 0 → Entering ls out₀ out bs left → ((0, out) ≡ enteredAll ls places) × Balances 0 out
+  unfolding enteredAll
+  entered-all out bs left h w =
+      let all = map number (answers [] ls) in
+      let m = all-places in
+      let n = numbers-length ls in
+      let k = w .room in
+      let l = w .long in
+      let e : out ≡ pad places all
+      = w .stored ∙ rw (all-places, take-all (length ls - left) ls (omega arith)) in
+      let t : take (length ls) out ≡ all = rw (e, ← n) (pad-front places all (omega arith)) in (
+        rw (le-ltb places (length ls) (omega arith), e),
+        λ z. rw (t, outcomes ls []) (balanced ls),
+      )

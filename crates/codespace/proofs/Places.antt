@@ -1,10 +1,10 @@
--- Entering keeps the number of places, and answers a number of 32 bits, whatever stands in the places. Assumes nothing.
-use mathlib.Core.Bool.{Bool, true, false, cond}
+-- Entering keeps the number of places, answers a number of 32 bits, and changes no place where it refuses, whatever stands in the places. Assumes nothing.
+use mathlib.Core.Bool.{true, false}
 use mathlib.Core.List.{List, [], _∷_}
 use mathlib.Core.Option.{Option, none, some}
-use mathlib.Core.Path.{_≡_, refl, sym, ap, _∙_}
+use mathlib.Core.Path.{_≡_, refl, ap, _∙_}
 use mathlib.Core.Logic.{⊎-elim}
-use Prim.Native.Nat.{ℕ, zero, suc, _+_, _-_, _/_, _^_, _≤_, _<_}
+use Prim.Native.Nat.{ℕ, zero, suc, _-_, _^_, _<_}
 use native.Mathlib.Nat.{div-le-self, lt-of-le-of-lt}
 use native.Mathlib.Omega.{arith}
 use lib.ListN.{length}
@@ -12,7 +12,8 @@ use borrow.Author.Tests.{ltb-true}
 use lib.Dec.{ltb}
 use Rattle.reading.proofs.Least.{true-or-false}
 use Rattle.codespace.specs.Ledger.{isLength}
-use Rattle.codespace.specs.Blocks.{vacant, Block, halve, smallest, keep, blockAbove, blockFor, valueOf, restOf, enterAnswer, enterBlocks, runBlocks, emptyBlocks}
+use Rattle.codespace.specs.Answers.{number}
+use Rattle.codespace.specs.Blocks.{vacant, Block, halve, smallest, keep, blockAbove, blockFor, valueOf, restOf, enterAnswer, enterBlocks, runBlocks, emptyBlocks, Reached}
 
 -- a block out of n places
 abbrev Fits : ℕ → Option Block → Type 0
@@ -71,7 +72,23 @@ enter-length bs len = go (blockFor bs len) (for-fits bs len)
     go none p = refl
     go (some b) p = p .1
 
-pub run-length : (ls bs : List ℕ) → length (runBlocks bs ls) ≡ length bs
+-- a refusal leaves the places as they were
+pub refused-same : (bs : List ℕ) (len : ℕ) → number (enterAnswer bs len) ≡ vacant → enterBlocks bs len ≡ bs
+unfolding enterAnswer enterBlocks
+refused-same bs len = go (blockFor bs len) (for-fits bs len)
+  where
+    go : (r : Option Block) → Fits (length bs) r → number (valueOf (32 - len) r) ≡ vacant → restOf bs r ≡ bs
+    go none p e = refl
+    go (some b) p e = let l = lt-of-le-of-lt (div-le-self (b .first) (2 ^ (32 - len))) (p .0) in absurd (omega arith)
+
+run-length : (ls bs : List ℕ) → length (runBlocks bs ls) ≡ length bs
 unfolding runBlocks
 run-length [] bs = refl
 run-length (l ∷ ls) bs = run-length ls (enterBlocks bs l) ∙ enter-length bs l
+
+empty-length : length emptyBlocks ≡ 33
+unfolding emptyBlocks
+empty-length = refl
+
+pub reached-length : (ls bs : List ℕ) → Reached ls bs → length bs ≡ 33
+reached-length ls bs r = ap length (r .blocks) ∙ run-length ls emptyBlocks ∙ empty-length

@@ -155,7 +155,7 @@ block-above-is k bs e l =
     let z = above k bs [] 0 refl (omega arith) in
     sym (plain (blockAbove k 0 bs)) ∙ rw (zero-add, e, zero-add) at z
 
--- `take_codeword`: what is no length takes nothing
+-- `enter`: what is no length takes nothing
 module _ (bs : List ℕ) (len : ℕ) (n : IsLength len → ⊥) where
   pub outside-answer : vacant ≡ number (enterAnswer bs len)
   unfolding enterAnswer blockFor

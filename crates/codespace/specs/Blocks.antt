@@ -71,7 +71,7 @@ unfoldable pub runBlocks : List ℕ → List ℕ → List ℕ
 runBlocks bs [] = bs
 runBlocks bs (l ∷ ls) = runBlocks (enterBlocks bs l) ls
 
--- the space that these lengths, entered one by one from an empty one, have come to. What counts is that `Space::empty` gives that of no lengths,
+-- the space that these lengths, entered one by one from an empty one, have come to. What counts is that `empty_space` gives that of no lengths,
 -- and `enter` that of one length more
 pub record Reached (ls bs : List ℕ) : Type 0 where
   pub blocks : bs ≡ runBlocks emptyBlocks ls

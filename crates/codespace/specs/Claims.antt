@@ -5,7 +5,7 @@ use mathlib.Core.Logic.{_↔_}
 use mathlib.Core.Option.{Option, none, some}
 use mathlib.Core.Path.{_≡_}
 use Prim.Native.Nat.{ℕ, suc, _+_, _^_, _≤_, _<_}
-use lib.ListN.{length, getD, take}
+use lib.ListN.{length, getD, take, drop}
 use Rattle.reading.specs.Least.{one, Least}
 use Rattle.codespace.specs.Ledger.{Codeword, codeword, share, begins, freeStrings, freeCodeword, enlist, answers, IsLength}
 
@@ -39,6 +39,10 @@ starts s (l ∷ ls) (o ∷ os) = startsWith s l o + starts s ls os
 abbrev pub handedOutBy : ℕ → List ℕ → List (Option ℕ) → List Codeword
 handedOutBy i ls os = handedOut [] (take i ls) (take i os)
 
+-- the list without its element at place i
+unfoldable pub without : {A : Type 0} → ℕ → List A → List A
+without i l = take i l ++ drop (suc i) l
+
 -- THE CLAIM about a whole list of lengths ls, entered one by one from an empty space, and the answers os, refusals included
 pub record Balanced (ls : List ℕ) (os : List (Option ℕ)) : Type 0 where
   -- each answer is the ledger's
@@ -52,8 +56,8 @@ pub record Balanced (ls : List ℕ) (os : List (Option ℕ)) : Type 0 where
   pub refused : (i : ℕ) → i < length ls → IsLength (getD ls i 0)
       → (getD os i none ≡ none) ↔ (freeStrings (handedOutBy i ls os) < share (getD ls i 0))
   pub outside : (i : ℕ) → i < length ls → (IsLength (getD ls i 0) → ⊥) → getD os i none ≡ none
-  -- a refused one changed nothing
-  pub unchanged : (i : ℕ) → i < length ls → getD os i none ≡ none → handedOutBy (suc i) ls os ≡ handedOutBy i ls os
+  -- a refused one changed nothing: the other answers are those to the other lengths alone
+  pub unchanged : (i : ℕ) → i < length ls → getD os i none ≡ none → without i os ≡ answers [] (without i ls)
   -- where nothing is left, every string starts with exactly one entry's codeword
   pub complete : (i : ℕ) → i ≤ length ls → freeStrings (handedOutBy i ls os) ≡ 0
       → (s : ℕ) → s < 4294967296 → starts s (take i ls) (take i os) ≡ 1

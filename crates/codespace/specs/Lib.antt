@@ -4,5 +4,3 @@ pub mod Blocks
 pub mod Steps
 pub mod Answers
 pub mod Entering
-pub mod Book
-pub mod Figures

@@ -2,46 +2,27 @@
 // The free strings of 32 bits are kept as at most one block of each size: blocks[h] is the first of 2^h free strings in a row, or VACANT.
 // A length takes the smallest block that is large enough, from its lower end; the upper halves that are cut off on the way down are the
 // blocks of the sizes between, which were vacant.
-use reading::buffers::put_u64;
+use reading::buffers::clear_u64;
 ghost use mathlib.Core.Path.{_≡_};
-ghost use mathlib.Core.List.{List, [], map};
-ghost use Prim.Native.Nat.{ℕ, _+_, _-_, _*_, _<_, _≤_};
-ghost use lib.ListN.{length, set};
-ghost use lib.Seq.{sets};
-ghost use Rattle.codespace.specs.Ledger.{answers};
+ghost use mathlib.Core.List.{[], map};
+ghost use Prim.Native.Nat.{_-_, _<_, _≤_};
+ghost use lib.ListN.{length, set, take};
 ghost use Rattle.codespace.specs.Claims.{Balanced};
-ghost use Rattle.codespace.specs.Blocks.{vacant, emptyBlocks, enterAnswer, enterBlocks, Reached};
+ghost use Rattle.codespace.specs.Blocks.{vacant, emptyBlocks, enterAnswer, Reached};
 ghost use Rattle.codespace.specs.Steps.{firstHeld, upperHalves};
-ghost use Rattle.codespace.specs.Answers.{number, numberOf, outcome, isNone};
-ghost use Rattle.codespace.specs.Entering.{Modelled, Entry};
-ghost use Rattle.codespace.specs.Figures.{Figures};
+ghost use Rattle.codespace.specs.Answers.{outcome, isNone};
+ghost use Rattle.codespace.specs.Entering.{Entered, enteredAll};
 
-// No string of 32 bits: one past the last.
+// No string of 32 bits: one past the last. As an answer, a refusal.
 pub const VACANT: u64 = 4294967296;
 
-pub struct Space {
-    pub blocks: [u64; 33],
-}
-
-pub enum Answer {
-    Codeword(u32),
-    Refused,
-}
-
-pub struct Entered {
-    pub answer: Answer,
-    pub space: Space,
-}
-
-impl Space {
-    // Everything is free: one block of 2^32 strings.
-    pub fn empty() -> Space
-        ensures { λ r. ⌜ (r .blocks ≡ emptyBlocks) × Reached [] (r .blocks) ⌝ }
-    {
-        let mut blocks = [VACANT; 33];
-        blocks[32] = 0;
-        Space { blocks }
-    }
+// Everything is free: one block of 2^32 strings.
+pub fn empty_space() -> [u64; 33]
+    ensures { λ r. ⌜ (r ≡ emptyBlocks) × Reached [] r ⌝ }
+{
+    let mut blocks = [VACANT; 33];
+    blocks[32] = 0;
+    blocks
 }
 
 // The height of the smallest block of at least 2^height strings, or 33.
@@ -72,10 +53,11 @@ fn split_block(blocks: &mut [u64; 33], height: usize, from: usize, first: u64)
     }
 }
 
-// The lowest free codeword of a length, taken out of the blocks where they lie; or VACANT, and they stay.
-pub(crate) fn take_codeword(blocks: &mut [u64; 33], length: u8) -> u64
+// Enters one length (demand 3): the lowest free codeword of that length, taken out of the space where it lies; or VACANT, and the space stays.
+// A length outside 1 to 32 is refused.
+pub fn enter(blocks: &mut [u64; 33], length: u8) -> u64
     requires { ⌜ lib.ListN.length (now blocks) ≡ 33 ⌝ }
-    ensures { λ r. ⌜ (r ≡ number (enterAnswer (now (blocks .entry)) length)) × (now (blocks .exit) ≡ enterBlocks (now (blocks .entry)) length) ⌝ }
+    ensures { λ r. ⌜ Entered (now (blocks .entry)) length r (now (blocks .exit)) ⌝ }
 {
     if length < 1 {
         return VACANT;
@@ -94,57 +76,29 @@ pub(crate) fn take_codeword(blocks: &mut [u64; 33], length: u8) -> u64
 }
 
 // Nothing is left: a length of 32 would be refused.
-pub(crate) fn is_full(blocks: &[u64; 33]) -> bool
+pub fn is_full(blocks: &[u64; 33]) -> bool
     requires { ⌜ length (now blocks) ≡ 33 ⌝ }
     ensures { λ r. ⌜ r ≡ isNone (enterAnswer (now (blocks .entry)) 32) ⌝ }
 {
     smallest_block(blocks, 0) >= 33
 }
 
-// Enters one length (demand 3): the ledger's answer, and the space of one length more. A length outside 1 to 32 is refused.
-pub fn enter(space: Space, length: u8) -> Entered
-    ensures { λ r. ⌜ Modelled (space .blocks) length r × ((ls : List ℕ) → Reached ls (space .blocks) → Entry ls length r) ⌝ }
+// Enters a list of lengths one by one, from an empty space (demand 3). 0, and `answers` has each answer as a number, the codeword or VACANT, and
+// zeros behind them; or 17 where there are fewer places than lengths, and all are zero.
+pub fn enter_lengths(lengths: &[u8], answers: &mut [u64]) -> u32
+    ensures { λ r. ⌜ (r, now (answers .exit)) ≡ enteredAll (now (lengths .entry)) (length (now (answers .entry))) ⌝ }
+    ensures { λ r. ⌜ (r ≡ 0 → Balanced (now (lengths .entry)) (map outcome (take (length (now (lengths .entry))) (now (answers .exit))))) ⌝ }
 {
-    let mut blocks = space.blocks;
-    let value = take_codeword(&mut blocks, length);
-    if value < VACANT {
-        return Entered {
-            answer: Answer::Codeword(value as u32),
-            space: Space { blocks },
-        };
+    clear_u64(answers);
+    if answers.len() < lengths.len() {
+        return 17;
     }
-    Entered {
-        answer: Answer::Refused,
-        space: Space { blocks },
+    let mut blocks = empty_space();
+    let mut left = lengths.len();
+    while 0 < left {
+        let next = lengths.len() - left;
+        answers[next] = enter(&mut blocks, lengths[next]);
+        left -= 1;
     }
-}
-
-// An answer as a number: the codeword, or VACANT for a refusal.
-pub fn answer_number(answer: Answer) -> u64
-    ensures { λ r. ⌜ r ≡ numberOf answer ⌝ }
-{
-    match answer {
-        Answer::Codeword(value) => value as u64,
-        Answer::Refused => VACANT,
-    }
-}
-
-// Enters a list of lengths one by one, from an empty space: the answers go to `numbers`, as far as it has places.
-// With a place for each, the claim of demand 3 holds of the lengths and of what is there. 01's figures about lengths stand here too.
-pub fn enter_all(lengths: &[u8], numbers: &mut [u64])
-    ensures { λ _. ⌜ now (numbers .exit) ≡ sets (now (numbers .entry)) 0 (map number (answers [] (now (lengths .entry)))) ⌝ }
-    ensures { λ _. ⌜ (length (now (lengths .entry)) ≡ length (now (numbers .entry)) → Balanced (now (lengths .entry)) (map outcome (now (numbers .exit)))) ⌝ }
-    ensures { λ _. ⌜ Figures ⌝ }
-{
-    let mut space = Space::empty();
-    let mut i = 0;
-    while i < lengths.len() {
-        let entered = enter(space, lengths[i]);
-        let answer = entered.answer;
-        let value = answer_number(answer);
-        put_u64(numbers, i, value);
-        let next = entered.space;
-        space = next;
-        i += 1;
-    }
+    0
 }

@@ -9,7 +9,7 @@ use Rattle.reading.specs.Outcome.{refusal, ok, bad}
 use Rattle.reading.specs.Reader.{many, each, mapped}
 use Rattle.bits.specs.Field.{bitAt, valueAt, field}
 use Rattle.bits.specs.Ilog.{highestSet, ilog}
-use Rattle.codespace.specs.Book.{used, isUsed, isLone}
+use Rattle.codeword_assignment.specs.Book.{used, isUsed, isLone}
 use Rattle.codebook.specs.Codeword.{codeword, firstUsed}
 use Rattle.floors.specs.Content.{Floor}
 use Rattle.floor_points.specs.FinalY.{rangeOf}

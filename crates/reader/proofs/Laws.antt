@@ -1,7 +1,7 @@
 -- The front door's answers, as the code asks them; an accepted identity is sound and a refusal's is not. Assumes nothing.
-use Rattle.codespace.specs.Book as B
-use Rattle.codespace.specs.Book.{assigned, written}
-use Rattle.codespace.specs.declared.book.Assigned.{Assigned}
+use Rattle.codeword_assignment.specs.Book as B
+use Rattle.codeword_assignment.specs.Book.{assigned, written}
+use Rattle.codeword_assignment.specs.declared.book.Assigned.{Assigned}
 use Prim.Native.Nat.{ℕ, _≤_}
 use native.Mathlib.Omega.{arith}
 use borrow.Author.Needs.{needs}

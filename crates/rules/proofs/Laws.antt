@@ -8,9 +8,9 @@ use mathlib.Core.Option.{Option, none, some}
 use mathlib.Core.Path.{_≡_, refl}
 use lib.Dec.{eqb}
 use Rattle.codespace.specs.Answers.{isNone}
-use Rattle.codespace.specs.Book.{used, firstRefused, freeAfter, isLone, refusedOr, verdict}
-use Rattle.codespace.specs.declared.book.Assigned.{Assigned}
-use Rattle.codespace.specs.declared.book.Assigned.the-variants.{Accepted, Overspecified, Underspecified, Mismatched}
+use Rattle.codeword_assignment.specs.Book.{used, firstRefused, freeAfter, isLone, refusedOr, verdict}
+use Rattle.codeword_assignment.specs.declared.book.Assigned.{Assigned}
+use Rattle.codeword_assignment.specs.declared.book.Assigned.the-variants.{Accepted, Overspecified, Underspecified, TooShort}
 use Rattle.rules.specs.Rules.{meets7, meets8}
 
 abbrev judge : Option ℕ → Bool → Assigned
@@ -31,10 +31,10 @@ under-second none true e = let z : _≡_ {A = ℕ} 0 1 = cc in absurd (omega ari
 under-second none false e = (refl, refl)
 under-second (some v) b e = let z : _≡_ {A = ℕ} 0 1 = cc in absurd (omega arith)
 
-never-mismatched : (f : Option ℕ) (b : Bool) → judge f b ≡ Mismatched → ⊥
-never-mismatched none true e = let z : _≡_ {A = ℕ} 0 1 = cc in omega arith
-never-mismatched none false e = let z : _≡_ {A = ℕ} 0 1 = cc in omega arith
-never-mismatched (some v) b e = let z : _≡_ {A = ℕ} 0 1 = cc in omega arith
+never-short : (f : Option ℕ) (b : Bool) → judge f b ≡ TooShort → ⊥
+never-short none true e = let z : _≡_ {A = ℕ} 0 1 = cc in omega arith
+never-short none false e = let z : _≡_ {A = ℕ} 0 1 = cc in omega arith
+never-short (some v) b e = let z : _≡_ {A = ℕ} 0 1 = cc in omega arith
 
 both-accepted : (f : Option ℕ) (b : Bool) → isNone f ≡ true → b ≡ true → judge f b ≡ Accepted
 both-accepted none true p q = refl
@@ -54,9 +54,9 @@ module _ (lengths : List ℕ) where
   unfolding verdict
   underspecified-breaks8 e = under-second (firstRefused lengths) (eqb (freeAfter lengths) 0 || isLone (used lengths)) e
 
-  pub verdict-matches : verdict lengths ≡ Mismatched → ⊥
+  pub verdict-not-short : verdict lengths ≡ TooShort → ⊥
   unfolding verdict
-  verdict-matches e = never-mismatched (firstRefused lengths) (eqb (freeAfter lengths) 0 || isLone (used lengths)) e
+  verdict-not-short e = never-short (firstRefused lengths) (eqb (freeAfter lengths) 0 || isLone (used lengths)) e
 
   pub meets-accepted : meets7 lengths ≡ true → meets8 lengths ≡ true → verdict lengths ≡ Accepted
   unfolding verdict

@@ -7,7 +7,7 @@ use mathlib.Core.List.{List}
 use lib.Dec.{eqb, leb, ltb}
 use Rattle.reading.specs.Lists.{distinct}
 use Rattle.codespace.specs.Answers.{isNone}
-use Rattle.codespace.specs.Book.{used, firstRefused, freeAfter, isLone}
+use Rattle.codeword_assignment.specs.Book.{used, firstRefused, freeAfter, isLone}
 
 -- 6, of a book: pattern not 0x564342, dimensions 0, entries 0, ordered run past the entries, ordered length above 32 while entries remain, lookup type above 2
 pub data Of6 : Type 0 where

@@ -14,10 +14,10 @@ use Rattle.limits.specs.declared.Limits.{Limits}
 use Rattle.identification.specs.declared.Identity.{Identity}
 use Rattle.identification.specs.Sound.{allowedSizes, isSound}
 use Rattle.identification.specs.Sound as I
-use Rattle.codespace.specs.Book.{used, codewords, verdict, Begins}
-use Rattle.codespace.specs.declared.book.Assigned.the-variants.{Accepted}
+use Rattle.codeword_assignment.specs.Book.{used, codewords, verdict, Begins}
+use Rattle.codeword_assignment.specs.declared.book.Assigned.the-variants.{Accepted}
 use Rattle.codespace.proofs.Claimed.{balanced}
-use Rattle.codespace.proofs.Laws.{exactly-one-entry}
+use Rattle.codeword_assignment.proofs.Laws.{exactly-one-entry}
 use Rattle.codebook.specs.Codeword.{codeword}
 use Rattle.codebook.proofs.Laws.{read-whole, read-lone}
 use Rattle.book.specs.Content.{Book}
@@ -118,6 +118,7 @@ lengths-reached limits i s t c e b h = book-reached limits i s t c e b h
 pub demand3 : (limits : Limits) → Demand3 limits
 demand3 limits =
     record {
+      lists = λ ls. balanced ls;
       setups = λ i s t c e b h. subst (λ (u : Tables). BookDecodes limits i u b (lengthsOf c b)) (left-is limits i s t c e) (left-sound limits i s t c e b h);
       judged = λ i s t place ls x. judged-by-call x;
       reached = λ i s t c e b h. lengths-reached limits i s t c e b h;

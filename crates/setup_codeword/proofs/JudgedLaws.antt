@@ -8,8 +8,8 @@ use mathlib.Core.Option.{Option, none, some}
 use mathlib.Core.Path.{_≡_, refl, ap}
 use Rattle.codespace.specs.Ledger.{answer, answers, after, freeStrings}
 use Rattle.codespace.specs.Claims.{accepted, acceptedShare}
-use Rattle.codespace.specs.Book.{used, isLone, freeAfter, verdict, refusal}
-use Rattle.codespace.specs.declared.book.Assigned.the-variants.{Accepted}
+use Rattle.codeword_assignment.specs.Book.{used, isLone, freeAfter, verdict, refusal}
+use Rattle.codeword_assignment.specs.declared.book.Assigned.the-variants.{Accepted}
 use Rattle.codespace.proofs.Whole.{balance}
 use Rattle.setup_judged.specs.Judged.{LedgerTakes}
 use Rattle.setup_judged.proofs.JudgedLaws.{number-0}

@@ -9,7 +9,7 @@ use Rattle.reading.specs.Lists.{rows}
 use Rattle.reading.specs.Pad.{pad}
 use Rattle.reading.proofs.Pads.{pad-get}
 use Rattle.limits.specs.declared.Limits.{Limits}
-use Rattle.codespace.specs.Book.{codewords}
+use Rattle.codeword_assignment.specs.Book.{codewords}
 use Rattle.codebook.specs.Book.{Codebook}
 use Rattle.book.specs.Content.{Book}
 use Rattle.book.specs.Layout.{bookRow, numberAt, entriesAt, firstEntryAt}

@@ -11,8 +11,8 @@ use Rattle.limits.specs.declared.Limits.{Limits}
 use Rattle.identification.specs.declared.Identity.{Identity}
 use Rattle.codespace.specs.Ledger.{answers}
 use Rattle.codespace.specs.Claims.{Balanced}
-use Rattle.codespace.specs.Book.{used, isLone, freeAfter, codewords, verdict, Begins}
-use Rattle.codespace.specs.declared.book.Assigned.the-variants.{Accepted}
+use Rattle.codeword_assignment.specs.Book.{used, isLone, freeAfter, codewords, verdict, Begins}
+use Rattle.codeword_assignment.specs.declared.book.Assigned.the-variants.{Accepted}
 use Rattle.codebook.specs.Codeword.{bitsAt, firstUsed}
 use Rattle.setup.specs.Content.{Setup}
 use Rattle.setup.specs.Layout.{Tables}
@@ -40,6 +40,8 @@ pub record BookDecodes (limits : Limits) (i : Identity) (t : Tables) (b : ℕ) (
   pub lone : isLone (used ls) ≡ true → (s : List ℕ) (k : ℕ) → k ≤ 8 * length s → (r : Outcome (ℕ × ℕ)) → CodewordCall limits i t b s k r → r ≡ ok (firstUsed ls, k)
 
 pub record Demand3 (limits : Limits) : Type 0 where
+  -- every list of lengths, entered one by one from an empty space, refused ones included; `torchvalley_enter_lengths` gives these answers
+  pub lists : (ls : List ℕ) → Balanced ls (answers [] ls)
   -- each book of an accepted setup, by the tables as that setup left them, whatever was handed in
   pub setups : (i : Identity) (s : List ℕ) (t : Tables) (c : Setup) → setupOf limits i s t ≡ ok c
       → (b : ℕ) → b < length (c .books) → BookDecodes limits i (setupCall limits i s t .tables) b (lengthsOf c b)

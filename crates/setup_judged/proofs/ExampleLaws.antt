@@ -12,9 +12,9 @@ use Rattle.reading.specs.Lists.{listed, distinct, all, rows, sum}
 use Rattle.bits.specs.Field.{bitAt, valueAt, field}
 use Rattle.header.specs.Header.{exactly, commonHeader, framing}
 use Rattle.identification.specs.Sound.{isSound}
-use Rattle.codespace.specs.Book.{firstRefused}
-use Rattle.codespace.specs.Figures.{Figures}
-use Rattle.codespace.proofs.Figures.{figures}
+use Rattle.codeword_assignment.specs.Book.{firstRefused}
+use Rattle.codeword_assignment.specs.Figures.{Figures}
+use Rattle.codeword_assignment.proofs.Figures.{figures}
 use Rattle.book_head.specs.Reading as H
 use Rattle.book_lengths.specs.Reading as L
 use Rattle.book_lookup.specs.Reading as U

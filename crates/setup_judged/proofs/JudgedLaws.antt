@@ -16,8 +16,8 @@ use Rattle.reading.proofs.Outcomes.{ok-is, same-bad, then-ok}
 use Rattle.header.specs.Header.{framing}
 use Rattle.limits.specs.declared.Limits.{Limits}
 use Rattle.identification.specs.declared.Identity.{Identity}
-use Rattle.codespace.specs.Book as B
-use Rattle.codespace.specs.Book.{used, isLone, firstRefused, freeAfter, verdict}
+use Rattle.codeword_assignment.specs.Book as B
+use Rattle.codeword_assignment.specs.Book.{used, isLone, firstRefused, freeAfter, verdict}
 use Rattle.rules.specs.Rules.{meets7, meets8}
 use Rattle.book.specs.Content.{Book}
 use Rattle.book_head.specs.Reading.{Before}

@@ -13,7 +13,7 @@ use Rattle.header.specs.Header.{commonHeader}
 use Rattle.limits.specs.declared.Limits.{Limits}
 use Rattle.identification.specs.declared.Identity.{Identity}
 use Rattle.identification.specs.Sound.{isSound}
-use Rattle.codespace.specs.Book.{used, isLone, firstRefused, freeAfter}
+use Rattle.codeword_assignment.specs.Book.{used, isLone, firstRefused, freeAfter}
 use Rattle.book.specs.Content.{Book}
 use Rattle.book_head.specs.Reading.{Before, Head, head}
 use Rattle.book_lengths.specs.Reading.{lengths}

@@ -1,5 +1,6 @@
-//! The codewords of a book's entries: the number and every place of the lent list, zeros
-//! on a refusal.
+//! The codewords of a book's entries, and the answers to the same lengths entered one by
+//! one: the number and every place of the lent list, zeros on a refusal and behind what
+//! is used.
 
 use crate::lent::lend;
 use crate::library;
@@ -7,7 +8,8 @@ use crate::report::{hex, Answer, Call, Given, Report};
 use second::book::{verdict, Verdict};
 use second::generate::content::{arrange, complete_lengths};
 use second::generate::random::Random;
-use second::ledger;
+use second::ledger::{self, Codeword, STRINGS};
+use second::space::CodeSpace;
 
 /// What lent places hold before a call.
 const FILLING: u32 = 0xA5A5_A5A5;
@@ -18,17 +20,18 @@ const PLAIN_LEDGER_ENTRIES: usize = 600;
 /// The most entries a book may have (01, row 14).
 pub const MOST_ENTRIES: u32 = 8_192;
 
-/// The second program's answer. A lent list that has not just a place for each entry is
-/// 17, which is the library's choice where the list is too long.
+/// The second program's answer. A lent list with fewer places than entries is 17; one with
+/// more has zeros behind.
 fn second_answer(lengths: &[u8], places: usize) -> Given<Vec<u32>> {
     let refused = |number| Given { answer: Answer::Number(number), left: vec![0; places] };
-    if places != lengths.len() {
+    if places < lengths.len() {
         return refused(17);
     }
     match verdict(lengths) {
         Verdict::Accepted(words) => {
-            let words = words.into_iter().map(|word| word.map_or(0, |word| word.bits));
-            Given { answer: Answer::Number(0), left: words.collect() }
+            let mut left: Vec<u32> = words.into_iter().map(|word| word.map_or(0, |word| word.bits)).collect();
+            left.resize(places, 0);
+            Given { answer: Answer::Number(0), left }
         }
         Verdict::Exceeds { .. } => refused(7),
         Verdict::LeftOver { .. } => refused(8),
@@ -51,8 +54,36 @@ fn ledger_answer(lengths: &[u8]) -> Given<Vec<u32>> {
     Given { answer: Answer::Number(0), left: lengths.iter().map(word_of).collect() }
 }
 
+/// The second program's answers to lengths entered one by one, unused entries among them:
+/// the codeword, or 2^32 for a refusal.
+fn second_entered(lengths: &[u8], places: usize) -> Given<Vec<u64>> {
+    let number = |answer: Option<Codeword>| answer.map_or(STRINGS, |word| word.bits.into());
+    if places < lengths.len() {
+        return Given { answer: Answer::Number(17), left: vec![0; places] };
+    }
+    let lengths = lengths.iter().copied().map(u32::from);
+    let mut left: Vec<u64> = if lengths.len() <= PLAIN_LEDGER_ENTRIES {
+        ledger::answers(&lengths.collect::<Vec<u32>>()).0.into_iter().map(number).collect()
+    } else {
+        let mut space = CodeSpace::default();
+        lengths.map(|length| number(space.enter(length))).collect()
+    };
+    left.resize(places, 0);
+    Given { answer: Answer::Number(0), left }
+}
+
+/// Has both enter one list of lengths, with so many places for the answers.
+fn entered_into(lengths: &[u8], places: usize, report: &mut Report) -> Result<(), String> {
+    let filling = u64::from(FILLING);
+    let (number, answers) = lend(places, filling, |answers| library::enter_lengths(lengths, answers));
+    let library = Given { answer: Answer::Number(number), left: answers };
+    let input = || format!("lengths {} into {places} places", hex(lengths, 2));
+    report.compare(Call::EnterLengths, &library, &second_entered(lengths, places), input)
+}
+
 /// Hands one list of lengths to both, with so many places for the codewords.
 pub fn lengths_into(lengths: &[u8], places: usize, report: &mut Report) -> Result<(), String> {
+    entered_into(lengths, places, report)?;
     let (number, words) = lend(places, FILLING, |words| library::codewords(lengths, words));
     let library = Given { answer: Answer::Number(number), left: words };
     let input = || format!("lengths {} into {places} places", hex(lengths, 2));

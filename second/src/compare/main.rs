@@ -4,7 +4,7 @@
 //! |---|---|
 //! | `torchvalley_identification` | [`identification`] |
 //! | `torchvalley_identity_sound` | [`sound`] |
-//! | `torchvalley_codewords` | [`codewords`] |
+//! | `torchvalley_enter_lengths`, `torchvalley_codewords` | [`codewords`] |
 //! | `torchvalley_floor_points`, `torchvalley_floor_curve` | [`floor`] |
 //! | `torchvalley_setup` | [`setup`] |
 //! | `torchvalley_setup_sound` | [`setup_sound`] |

@@ -25,6 +25,7 @@ impl fmt::Display for Answer {
 pub enum Call {
     Identification,
     IdentitySound,
+    EnterLengths,
     Codewords,
     FloorPoints,
     FloorCurve,
@@ -34,9 +35,10 @@ pub enum Call {
 }
 
 impl Call {
-    pub const ALL: [Call; 8] = [
+    pub const ALL: [Call; 9] = [
         Call::Identification,
         Call::IdentitySound,
+        Call::EnterLengths,
         Call::Codewords,
         Call::FloorPoints,
         Call::FloorCurve,
@@ -49,6 +51,7 @@ impl Call {
         match self {
             Call::Identification => "identification",
             Call::IdentitySound => "identity_sound",
+            Call::EnterLengths => "enter_lengths",
             Call::Codewords => "codewords",
             Call::FloorPoints => "floor_points",
             Call::FloorCurve => "floor_curve",
@@ -62,6 +65,7 @@ impl Call {
     fn answers(self) -> Vec<Answer> {
         match self {
             Call::Identification => [0, 1, 2, 3, 4, 5, 14].map(Answer::Number).to_vec(),
+            Call::EnterLengths => [0, 17].map(Answer::Number).to_vec(),
             Call::Codewords => [0, 7, 8, 17].map(Answer::Number).to_vec(),
             Call::Setup => [0, 1, 2, 5, 6, 7, 8, 9, 10, 11, 12, 13, 14, 17, 18].map(Answer::Number).to_vec(),
             Call::Codeword => [0, 1, 11, 18].map(Answer::Number).to_vec(),

@@ -5,7 +5,7 @@ use mathlib.Core.Path.{_≡_, sym}
 use native.Mathlib.Omega.{arith}
 use lib.ListN.{length}
 use borrow.Author.Needs.{needs}
-use Rattle.codespace.specs.Book.{isUsed}
+use Rattle.codeword_assignment.specs.Book.{isUsed}
 use Rattle.codebook.proofs.Lone.{used-passed, lone-there, first-is}
 use Rattle.codebook.proofs.first_used.Statement.{statement}
 use Rattle.codebook.proofs.first_used.Tie as tie

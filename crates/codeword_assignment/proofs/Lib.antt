@@ -1,0 +1,4 @@
+pub mod Laws
+pub mod Figures
+pub mod Assigning
+pub mod Comparing
