@@ -15,10 +15,10 @@ use Rattle.reading.proofs.Outcomes.{then-ok, need-ok, judged-ok, same-ok}
 use Rattle.reading.proofs.Accepted.{many-number, many-all}
 use Rattle.bits.specs.Field.{field}
 use Rattle.bits.specs.Ilog.{ilog}
-use Rattle.codespace.specs.Book.{verdict}
+use Rattle.codespace.specs.Book.{used, firstRefused, freeAfter, isLone, verdict}
 use Rattle.codespace.specs.declared.book.Assigned.the-variants.{Accepted}
 use Rattle.rules.specs.Rules.{meets7, meets8}
-use Rattle.rules.proofs.Laws.{meets-accepted}
+use Rattle.book_lengths.proofs.Verdict.{meets-accepted}
 use Rattle.book_lengths.specs.Reading.{entryLength, runs, lengths, entered}
 use Rattle.book_lengths.specs.Parts.{entries}
 use Rattle.book_lengths.proofs.LengthLaws.{entry-small, length-run}
@@ -111,8 +111,10 @@ pub entries-known : (place n : ℕ) (s : List ℕ) (k : ℕ) {ls : List ℕ} {j 
 unfolding entries entered
 entries-known place n s k {ls} {j} e =
     let a = then-ok (lengths place n s k) _ e in
-    let v = need-ok (meets7 (a .0 .0)) (refusal 7 place) (need (meets8 (a .0 .0)) (refusal 8 place) (ok (a .0))) (a .2) in
-    let w = need-ok (meets8 (a .0 .0)) (refusal 8 place) (ok (a .0)) (v .1) in
+    let m7 = meets7 (firstRefused (a .0 .0)) in
+    let m8 = meets8 (freeAfter (a .0 .0)) (isLone (used (a .0 .0))) in
+    let v = need-ok m7 (refusal 7 place) (need m8 (refusal 8 place) (ok (a .0))) (a .2) in
+    let w = need-ok m8 (refusal 8 place) (ok (a .0)) (v .1) in
     let u : _≡_ {A = List ℕ × ℕ} (a .0) (ls, j) = same-ok (ok (a .0)) refl (w .1) in
     let m = lengths-known place n s k (a .1) in
     rw (← (ap (λ (x : List ℕ × ℕ). x .0) u)) (record { long = m .0; fit = m .1; accepted = meets-accepted (a .0 .0) (v .0) (w .0) })

@@ -18,7 +18,7 @@ use Rattle.bits.proofs.Steps.{wrote-bad, wrote-ok, wrote-refused, wrote-next}
 use Rattle.codespace.specs.Book.{verdict, assigned, written, codewords}
 use Rattle.codespace.specs.declared.book.Assigned.{Assigned}
 use Rattle.codespace.specs.declared.book.Assigned.the-variants.{Accepted, Overspecified, Underspecified, Mismatched}
-use Rattle.rules.proofs.Laws.{accepted-meets, overspecified-breaks7, underspecified-breaks8, verdict-matches}
+use Rattle.book_lengths.proofs.Verdict.{accepted-meets, overspecified-breaks7, underspecified-breaks8, verdict-matches}
 use Rattle.filling.proofs.Written.{mapped-mapped, wrote-mapped, wrote-as, part-back}
 use Rattle.book_lengths.specs.Reading.{lengths, entered}
 use Rattle.book_lengths.specs.Parts.{entries, coded, laid}

@@ -9,6 +9,7 @@ use Rattle.reading.specs.Outcome.{refusal, Outcome, ok, then, need}
 use Rattle.reading.specs.Reader.{Reader, judged, mapped, many}
 use Rattle.bits.specs.Field.{field}
 use Rattle.bits.specs.Ilog.{ilog}
+use Rattle.codespace.specs.Book.{used, firstRefused, freeAfter, isLone}
 use Rattle.rules.specs.Rules as Rule
 
 -- the length of one entry: 5 bits plus one; in a sparse book behind a flag, and 0, unused, where that is not set
@@ -38,4 +39,6 @@ lengths place entries s k =
 
 -- the lengths entered into an empty space of their own: 7, then 8
 unfoldable pub entered : ℕ → List ℕ → Outcome (List ℕ × ℕ) → Outcome (List ℕ × ℕ)
-entered place ls o = need (Rule.meets7 ls) (refusal 7 place) (need (Rule.meets8 ls) (refusal 8 place) o)
+entered place ls o =
+    need (Rule.meets7 (firstRefused ls)) (refusal 7 place)
+    (need (Rule.meets8 (freeAfter ls) (isLone (used ls))) (refusal 8 place) o)

@@ -16,6 +16,7 @@ use Rattle.header.specs.Header.{exactly, opening, commonHeader, framing}
 use Rattle.limits.specs.declared.Limits.{Limits}
 use Rattle.identification.specs.declared.Identity.{Identity}
 use Rattle.identification.specs.Sound.{isSound}
+use Rattle.codespace.specs.Book.{used, firstRefused, freeAfter, isLone}
 use Rattle.rules.specs.Rules.{meets7, meets8}
 use Rattle.book.specs.Content.{Book}
 use Rattle.book_head.specs.Reading as H
@@ -98,7 +99,9 @@ lengths-numbered place entries s k =
 
 entered-numbered : (place : ℕ) (ls : List ℕ) {o : Outcome (List ℕ × ℕ)} → Numbered o → Numbered (L.entered place ls o)
 unfolding L.entered
-entered-numbered place ls {o} n = need-numbered (meets7 ls) (refusal 7 place) (omega arith) (need-numbered (meets8 ls) (refusal 8 place) (omega arith) n)
+entered-numbered place ls {o} n =
+    need-numbered (meets7 (firstRefused ls)) (refusal 7 place) (omega arith)
+    (need-numbered (meets8 (freeAfter ls) (isLone (used ls))) (refusal 8 place) (omega arith) n)
 
 values-numbered : (place type count room : ℕ) (s : List ℕ) (k : ℕ) → Numbered (U.values place type count room s k)
 unfolding U.values

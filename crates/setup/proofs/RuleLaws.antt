@@ -12,7 +12,7 @@ use Rattle.reading.specs.Lists.{sum}
 use Rattle.reading.specs.Stand.{Each}
 use Rattle.limits.specs.declared.Limits.{Limits}
 use Rattle.rules.specs.Rules as Rule
-use Rattle.rules.proofs.Laws.{accepted-meets, meets-accepted}
+use Rattle.book_lengths.proofs.Verdict.{accepted-meets, meets-accepted}
 use Rattle.book.specs.Content.{Book}
 use Rattle.book_head.specs.Reading.{Before}
 use Rattle.books.specs.Reading.{andThis}

@@ -20,7 +20,7 @@ use Rattle.codespace.specs.declared.book.Assigned.{Assigned}
 use Rattle.codespace.specs.declared.book.Assigned.the-variants.{Accepted, Underspecified}
 use Rattle.codespace.proofs.Whole.{balance}
 use Rattle.rules.specs.Rules.{meets7, meets8}
-use Rattle.rules.proofs.Laws.{accepted-meets, meets-accepted}
+use Rattle.book_lengths.proofs.Verdict.{accepted-meets, meets-accepted}
 use Rattle.book_head.specs.Reading.{Before, Head, head}
 use Rattle.book_lengths.specs.Reading.{lengths, entered}
 use Rattle.book_lookup.specs.Reading.{valueCount, values, lookup}
@@ -122,18 +122,18 @@ module _ (limits : Limits) (before : Before) (s : List ℕ) (k : ℕ) (h : Head 
       let e = judged-so (x .0) .goes-on (m .0) (m .1) k (ok x) in
       rw (p, q, e) (then-clear (lookup k (h .0 .entries) (h .0 .dimensions) (limits .multiplicands - before .values) s (x .1)) _ (lookup-clear k (h .0 .entries) (h .0 .dimensions) (limits .multiplicands - before .values) s (x .1)) (λ l. tt))
 
-  book-refused7 : meets7 (x .0) ≡ false → book limits before s k ≡ bad (refusal 7 k)
+  book-refused7 : meets7 (firstRefused (x .0)) ≡ false → book limits before s k ≡ bad (refusal 7 k)
   unfolding book
   book-refused7 m = rw (p, q, judged-so (x .0) .refused7 m k (ok x))
 
-  book-refused8 : meets7 (x .0) ≡ true → meets8 (x .0) ≡ false → book limits before s k ≡ bad (refusal 8 k)
+  book-refused8 : meets7 (firstRefused (x .0)) ≡ true → meets8 (freeAfter (x .0)) (isLone (used (x .0))) ≡ false → book limits before s k ≡ bad (refusal 8 k)
   unfolding book
   book-refused8 m n = rw (p, q, judged-so (x .0) .refused8 m n k (ok x))
 
   only-accepted : Neither (book limits before s k) → LedgerTakes (x .0)
-  only-accepted f = go (meets7 (x .0)) (meets8 (x .0)) refl refl
+  only-accepted f = go (meets7 (firstRefused (x .0))) (meets8 (freeAfter (x .0)) (isLone (used (x .0)))) refl refl
     where
-      go : (a b : Bool) → meets7 (x .0) ≡ a → meets8 (x .0) ≡ b → LedgerTakes (x .0)
+      go : (a b : Bool) → meets7 (firstRefused (x .0)) ≡ a → meets8 (freeAfter (x .0)) (isLone (used (x .0))) ≡ b → LedgerTakes (x .0)
       go true true m n = judged-so (x .0) .exactly .0 (m, n)
       go true false m n = absurd (f (refusal 8 k) (book-refused8 m n) .1 refl)
       go false b m n = absurd (f (refusal 7 k) (book-refused7 m) .0 refl)

@@ -50,11 +50,11 @@ pub record BookDecodes (limits : Limits) (i : Identity) (t : Tables) (b : ℕ) (
 
 -- whether 7 or 8 is given for the lengths ls: neither exactly when the ledger takes them
 pub record Judged (ls : List ℕ) : Type 0 where
-  pub exactly : ((meets7 ls ≡ true) × (meets8 ls ≡ true)) ↔ LedgerTakes ls
+  pub exactly : ((meets7 (firstRefused ls) ≡ true) × (meets8 (freeAfter ls) (isLone (used ls)) ≡ true)) ↔ LedgerTakes ls
   -- then the reading goes on; else it is refused at the book's first bit
-  pub goes-on : meets7 ls ≡ true → meets8 ls ≡ true → (place : ℕ) (o : Outcome (List ℕ × ℕ)) → entered place ls o ≡ o
-  pub refused7 : meets7 ls ≡ false → (place : ℕ) (o : Outcome (List ℕ × ℕ)) → entered place ls o ≡ bad (refusal 7 place)
-  pub refused8 : meets7 ls ≡ true → meets8 ls ≡ false → (place : ℕ) (o : Outcome (List ℕ × ℕ)) → entered place ls o ≡ bad (refusal 8 place)
+  pub goes-on : meets7 (firstRefused ls) ≡ true → meets8 (freeAfter ls) (isLone (used ls)) ≡ true → (place : ℕ) (o : Outcome (List ℕ × ℕ)) → entered place ls o ≡ o
+  pub refused7 : meets7 (firstRefused ls) ≡ false → (place : ℕ) (o : Outcome (List ℕ × ℕ)) → entered place ls o ≡ bad (refusal 7 place)
+  pub refused8 : meets7 (firstRefused ls) ≡ true → meets8 (freeAfter ls) (isLone (used ls)) ≡ false → (place : ℕ) (o : Outcome (List ℕ × ℕ)) → entered place ls o ≡ bad (refusal 8 place)
 
 -- no refusal with 7 or 8
 abbrev pub Neither : {A : Type 0} → Outcome A → Type 0
