@@ -111,19 +111,18 @@ meets13 (classWords e d c) = leb (c ^ d) e
 meets13 (lookup type) = not (eqb type 0)
 meets13 (partition d size) = eqb (size % d) 0
 
--- 14: more than 8 channels, 8,192 entries in a book, 16,384 entries or 16,384 multiplicands in all, the limit of each first; floor type 0
+-- 14: more than 8 channels, 8,192 entries in a book, 16,384 entries or 16,384 multiplicands in all, the limit of each first; floor type 0. Of those in all the
+-- books before have so many
 pub data Of14 : Type 0 where
   channels : ℕ → ℕ → Of14
   bookEntries : ℕ → ℕ → Of14
-  -- the books before have so many
   allEntries : ℕ → ℕ → ℕ → Of14
-  -- the limit less what the books before have
-  multiplicands : ℕ → ℕ → Of14
+  multiplicands : ℕ → ℕ → ℕ → Of14
   noFloorType0 : ℕ → Of14
 
 abbrev pub meets14 : Of14 → Bool
 meets14 (channels most v) = leb v most
 meets14 (bookEntries most v) = leb v most
 meets14 (allEntries most before v) = leb (before + v) most
-meets14 (multiplicands room v) = leb v room
+meets14 (multiplicands most before v) = leb (before + v) most
 meets14 (noFloorType0 v) = not (eqb v 0)

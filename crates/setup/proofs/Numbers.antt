@@ -103,21 +103,21 @@ entered-numbered place ls {o} n =
     need-numbered (meets7 (firstRefused ls)) (refusal 7 place) (omega arith)
     (need-numbered (meets8 (freeAfter ls) (isLone (used ls))) (refusal 8 place) (omega arith) n)
 
-values-numbered : (place type count room : ℕ) (s : List ℕ) (k : ℕ) → Numbered (U.values place type count room s k)
+values-numbered : (place type count most before : ℕ) (s : List ℕ) (k : ℕ) → Numbered (U.values place type count most before s k)
 unfolding U.values
-values-numbered place type count room s k =
+values-numbered place type count most before s k =
     then-numbered (field-numbered 32 s k) (λ (minimum : ℕ × ℕ).
     then-numbered (field-numbered 32 s (minimum .1)) (λ (delta : ℕ × ℕ).
     then-numbered (field-numbered 4 s (delta .1)) (λ (width : ℕ × ℕ).
     then-numbered (field-numbered 1 s (width .1)) (λ (sequence : ℕ × ℕ).
-    need-numbered (leb count room) (refusal 14 place) (omega arith)
+    need-numbered (leb (before + count) most) (refusal 14 place) (omega arith)
     (then-numbered (many-numbered (field (width .0 + 1)) s (field-numbered (width .0 + 1) s) count (sequence .1)) (λ (list : List ℕ × ℕ). value _))))))
 
-lookup-numbered : (place entries dimensions room : ℕ) (s : List ℕ) (k : ℕ) → Numbered (U.lookup place entries dimensions room s k)
+lookup-numbered : (place entries dimensions most before : ℕ) (s : List ℕ) (k : ℕ) → Numbered (U.lookup place entries dimensions most before s k)
 unfolding U.lookup
-lookup-numbered place entries dimensions room s k =
+lookup-numbered place entries dimensions most before s k =
     then-numbered (judged-field (λ v. leb v 2) 6 4 s k (omega arith)) (λ (type : ℕ × ℕ).
-    either (eqb (type .0) 0) (value (U.noLookup, type .1)) (values-numbered place (type .0) (U.valueCount (type .0) entries dimensions) room s (type .1)))
+    either (eqb (type .0) 0) (value (U.noLookup, type .1)) (values-numbered place (type .0) (U.valueCount (type .0) entries dimensions) most before s (type .1)))
 
 head-numbered : (l : Limits) (before : H.Before) (s : List ℕ) (k : ℕ) → Numbered (H.head l before s k)
 unfolding H.head
@@ -133,7 +133,7 @@ unfolding K.book
 book-numbered l before s k =
     then-numbered (head-numbered l before s k) (λ (h : H.Head × ℕ).
     then-numbered (then-numbered (lengths-numbered k (h .0 .entries) s (h .1)) (λ (ls : List ℕ × ℕ). entered-numbered k (ls .0) (value ls))) (λ (ls : List ℕ × ℕ).
-    then-numbered (lookup-numbered k (h .0 .entries) (h .0 .dimensions) (l .multiplicands - before .values) s (ls .1)) (λ (x : U.Lookup × ℕ). value _)))
+    then-numbered (lookup-numbered k (h .0 .entries) (h .0 .dimensions) (l .multiplicands) (before .values) s (ls .1)) (λ (x : U.Lookup × ℕ). value _)))
 
 books-numbered : (l : Limits) (n : ℕ) (before : H.Before) (s : List ℕ) (k : ℕ) → Numbered (K.books l before n s k)
 unfolding K.books

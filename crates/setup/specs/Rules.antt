@@ -89,7 +89,7 @@ multiplicandsInAll bs = sum (map (λ b. length (b .multiplicands)) bs)
 pub record Rule14 (limits : Limits) (bs : List Book) : Type 0 where
   pub book : Each (λ b. Rule.meets14 (Rule.bookEntries (limits .«book_entries») (length (b .lengths))) ≡ true) bs
   pub entries : Rule.meets14 (Rule.allEntries (limits .entries) 0 (entriesInAll bs)) ≡ true
-  pub multiplicands : Rule.meets14 (Rule.multiplicands (limits .multiplicands) (multiplicandsInAll bs)) ≡ true
+  pub multiplicands : Rule.meets14 (Rule.multiplicands (limits .multiplicands) 0 (multiplicandsInAll bs)) ≡ true
 
 pub record MeetsRules (limits : Limits) (channels : ℕ) (c : Setup) : Type 0 where
   pub rule6 : Each Rule6 (c .books)

@@ -1,5 +1,5 @@
 -- When 7 or 8 is given for a book's lengths: exactly when the ledger does not take them; and by nothing else of a book. Assumes nothing.
-use Prim.Native.Nat.{ℕ, zero, suc, _+_, _-_, _*_, _≤_}
+use Prim.Native.Nat.{ℕ, zero, suc, _+_, _*_, _≤_}
 use native.Mathlib.Omega.{arith}
 use borrow.Author.Tests.{eq-eqb, eqb-true}
 use mathlib.Core.Bool.{Bool, true, false, cond, _||_}
@@ -92,26 +92,26 @@ unfolding many
 many-clear r s c zero k = tt
 many-clear r s c (suc n) k = then-clear (r s k) _ (c k) (λ x. then-clear (many r n s (x .1)) _ (many-clear r s c n (x .1)) (λ y. tt))
 
-values-clear : (place type count room : ℕ) (s : List ℕ) (k : ℕ) → Clear (values place type count room s k)
+values-clear : (place type count most before : ℕ) (s : List ℕ) (k : ℕ) → Clear (values place type count most before s k)
 unfolding values
-values-clear place type count room s k =
+values-clear place type count most before s k =
     then-clear (field 32 s k) _ (field-clear 32 s k) (λ a.
     then-clear (field 32 s (a .1)) _ (field-clear 32 s (a .1)) (λ b.
     then-clear (field 4 s (b .1)) _ (field-clear 4 s (b .1)) (λ c.
     then-clear (field 1 s (c .1)) _ (field-clear 1 s (c .1)) (λ d.
-    need-clear (leb count room) (refusal 14 place) _ ((λ e. omega arith), (λ e. omega arith))
+    need-clear (leb (before + count) most) (refusal 14 place) _ ((λ e. omega arith), (λ e. omega arith))
     (then-clear (many (field (c .0 + 1)) count s (d .1)) _ (many-clear (field (c .0 + 1)) s (λ k. field-clear (c .0 + 1) s k) count (d .1)) (λ l. tt))))))
 
 cond-clear : {A : Type 0} (t : Bool) (o p : Outcome A) → Clear o → Clear p → Clear (cond t o p)
 cond-clear true o p c d = c
 cond-clear false o p c d = d
 
-lookup-clear : (place entries dimensions room : ℕ) (s : List ℕ) (k : ℕ) → Clear (lookup place entries dimensions room s k)
+lookup-clear : (place entries dimensions most before : ℕ) (s : List ℕ) (k : ℕ) → Clear (lookup place entries dimensions most before s k)
 unfolding lookup
-lookup-clear place entries dimensions room s k =
+lookup-clear place entries dimensions most before s k =
     then-clear (judged (λ v. leb v 2) 6 (field 4) s k) _
     (then-clear (field 4 s k) _ (field-clear 4 s k) (λ x. need-clear (leb (x .0) 2) (refusal 6 k) (ok x) ((λ e. omega arith), (λ e. omega arith)) tt))
-    (λ t. cond-clear (eqb (t .0) 0) _ _ tt (values-clear place (t .0) (valueCount (t .0) entries dimensions) room s (t .1)))
+    (λ t. cond-clear (eqb (t .0) 0) _ _ tt (values-clear place (t .0) (valueCount (t .0) entries dimensions) most before s (t .1)))
 
 -- a book whose head and lengths are read
 module _ (limits : Limits) (before : Before) (s : List ℕ) (k : ℕ) (h : Head × ℕ) (x : List ℕ × ℕ) (p : head limits before s k ≡ ok h) (q : lengths k (h .0 .entries) s (h .1) ≡ ok x) where
@@ -120,7 +120,7 @@ module _ (limits : Limits) (before : Before) (s : List ℕ) (k : ℕ) (h : Head 
   book-clear t =
       let m = judged-so (x .0) .exactly .1 t in
       let e = judged-so (x .0) .goes-on (m .0) (m .1) k (ok x) in
-      rw (p, q, e) (then-clear (lookup k (h .0 .entries) (h .0 .dimensions) (limits .multiplicands - before .values) s (x .1)) _ (lookup-clear k (h .0 .entries) (h .0 .dimensions) (limits .multiplicands - before .values) s (x .1)) (λ l. tt))
+      rw (p, q, e) (then-clear (lookup k (h .0 .entries) (h .0 .dimensions) (limits .multiplicands) (before .values) s (x .1)) _ (lookup-clear k (h .0 .entries) (h .0 .dimensions) (limits .multiplicands) (before .values) s (x .1)) (λ l. tt))
 
   book-refused7 : meets7 (firstRefused (x .0)) ≡ false → book limits before s k ≡ bad (refusal 7 k)
   unfolding book
