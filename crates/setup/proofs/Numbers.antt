@@ -1,7 +1,7 @@
 -- NO REFUSAL OF A SETUP CALL HAS THE NUMBER 0, so that 0 stands for acceptance alone. Assumes nothing.
 use Prim.Native.Nat.{ℕ, zero, suc, _+_, _-_, _*_, _^_, _≤_}
 use native.Mathlib.Omega.{arith}
-use mathlib.Core.Bool.{Bool, true, false, not, cond}
+use mathlib.Core.Bool.{Bool, true, false, not, cond, _||_}
 use mathlib.Core.List.{List, [], _∷_, map}
 use mathlib.Core.Path.{_≡_, subst}
 use lib.Dec.{eqb, leb, ltb}
@@ -81,13 +81,14 @@ length-numbered sparse s k =
     either (eqb sparse 0) (mapped-numbered suc (field-numbered 5 s k))
     (then-numbered (field-numbered 1 s k) (λ (f : ℕ × ℕ). either (eqb (f .0) 0) (value (0, f .1)) (mapped-numbered suc (field-numbered 5 s (f .1)))))
 
-runs-numbered : (place t left : ℕ) (s : List ℕ) (k : ℕ) → Numbered (L.runs place t left s k)
+runs-numbered : (place turns bits left : ℕ) (s : List ℕ) (k : ℕ) → Numbered (L.runs place turns bits left s k)
 unfolding L.runs
-runs-numbered place zero left s k = need-numbered (eqb left 0) (refusal 6 place) (omega arith) (value ([], k))
-runs-numbered place (suc t) left s k =
+runs-numbered place zero bits left s k = number (refusal 6 place) (omega arith)
+runs-numbered place (suc turns) bits left s k =
     either (eqb left 0) (value ([], k))
+    (need-numbered (leb bits 32 || eqb left 0) (refusal 6 place) (omega arith)
     (then-numbered (judged-field (λ n. leb n left) 6 (ilog left) s k (omega arith)) (λ (n : ℕ × ℕ).
-    then-numbered (runs-numbered place t (left - n .0) s (n .1)) (λ (rest : List ℕ × ℕ). value _)))
+    then-numbered (runs-numbered place turns (bits + 1) (left - n .0) s (n .1)) (λ (rest : List ℕ × ℕ). value _))))
 
 lengths-numbered : (place entries : ℕ) (s : List ℕ) (k : ℕ) → Numbered (L.lengths place entries s k)
 unfolding L.lengths
@@ -95,7 +96,7 @@ lengths-numbered place entries s k =
     then-numbered (field-numbered 1 s k) (λ (ordered : ℕ × ℕ).
     either (eqb (ordered .0) 0)
     (then-numbered (field-numbered 1 s (ordered .1)) (λ (sparse : ℕ × ℕ). many-numbered (L.entryLength (sparse .0)) s (length-numbered (sparse .0) s) entries (sparse .1)))
-    (then-numbered (field-numbered 5 s (ordered .1)) (λ (first : ℕ × ℕ). runs-numbered place (32 - first .0) entries s (first .1))))
+    (then-numbered (field-numbered 5 s (ordered .1)) (λ (first : ℕ × ℕ). runs-numbered place 33 (first .0 + 1) entries s (first .1))))
 
 entered-numbered : (place : ℕ) (ls : List ℕ) {o : Outcome (List ℕ × ℕ)} → Numbered o → Numbered (L.entered place ls o)
 unfolding L.entered
