@@ -26,7 +26,7 @@ use Rattle.codespace.proofs.Claimed.{answers-at, answers-length}
 use Rattle.codespace.proofs.Laws.{after-used, handed-before, codewords-length, codewords-at}
 
 -- a book's codewords, verdict and free strings, from the answers os to its lengths
-abbrev verdictBy : List ℕ → List (Option ℕ) → Assigned
+abbrev pub verdictBy : List ℕ → List (Option ℕ) → Assigned
 verdictBy ls os =
     refusedOr (lowest (λ e. isUsed ls e && isNone (getD os e none)) (length ls))
     (cond (eqb (4294967296 - accepted ls os) 0 || isLone (used ls)) Accepted Underspecified)
@@ -53,11 +53,11 @@ module _ (ls : List ℕ) where
       let l : e < length ls = rw (codewords-length ls) at h in
       codewords-at ls e l ∙ word-is e ∙ ap orZero (entry-is e l) ∙ sym (List·getD-map orZero (answers [] ls) e none))
 
-  free-is : freeAfter ls ≡ 4294967296 - accepted ls (answers [] ls)
+  pub free-is : freeAfter ls ≡ 4294967296 - accepted ls (answers [] ls)
   unfolding freeAfter
   free-is = let b = balance ls in rw (after-used ls []) (omega arith)
 
-  verdict-is : verdict ls ≡ verdictBy ls (answers [] ls)
+  pub verdict-is : verdict ls ≡ verdictBy ls (answers [] ls)
   unfolding verdict firstRefused
   verdict-is =
       rw (
