@@ -4,14 +4,14 @@ use native.Mathlib.Numerals.{add-one}
 use native.Mathlib.Omega.{arith}
 use borrow.Author.Needs.{needs}
 use borrow.Author.Tests.{le-leb, lt-leb, eq-eqb, ne-eqb, leb-true}
-use mathlib.Core.Bool.{Bool, true, false, cond}
+use mathlib.Core.Bool.{Bool, true, false, cond, _||_}
 use mathlib.Core.List.{List, [], _++_}
 use mathlib.Core.Path.{_≡_, refl, sym, ap, _∙_}
 use lib.Dec.{eqb, leb}
 use lib.ListN.{length, getD, take, replicate, set, length-set}
 use lib.Seq.{sets, length-sets, take-all}
-use Rattle.reading.specs.Outcome.{Outcome, ok, bad, then}
-use Rattle.reading.specs.Reader.{many, mapped}
+use Rattle.reading.specs.Outcome.{Outcome, ok, bad, then, need, refusal}
+use Rattle.reading.specs.Reader.{judged, many, mapped}
 use Rattle.reading.proofs.Outcomes.{then-ok, judged-ok}
 use Rattle.reading.proofs.Readers.{mapped-ok}
 use Rattle.reading.proofs.Tables.{Writing, write-start, write-turn, write-end}
@@ -157,57 +157,85 @@ module _ (entry : List ℕ) (first number value : ℕ) where
     pub run-end : number ≤ i → part ≡ sets entry first (replicate number value)
     run-end h = let e = length-run number value in write-end entry first (replicate number value) part i (omega arith) (w .writing)
 
--- the ways out of `runs`
-module _ (place : ℕ) (s : List ℕ) where
-  runs-none : (t : ℕ) {left k : ℕ} → left ≡ 0 → runs place t left s k ≡ ok ([], k)
+-- the ways out of `runs`, each of the next turn
+module _ (place : ℕ) (s : List ℕ) (turns u : ℕ) (next : turns ≡ suc u) (bits left k : ℕ) where
+  runs-none : left ≡ 0 → runs place turns bits left s k ≡ ok ([], k)
   unfolding runs
-  runs-none zero e = rw (eq-eqb _ _ e)
-  runs-none (suc t) e = rw (eq-eqb _ _ e)
+  runs-none e = rw (next, eq-eqb left 0 e)
 
-  runs-long : (t : ℕ) {left : ℕ} (k : ℕ) → t ≡ 0 → (left ≡ 0 → ⊥) → runs place t left s k ≡ bad (record { number = 6; place = place })
-  unfolding runs
-  runs-long t k h e = rw (h, ne-eqb _ _ e)
+  module _ (e : left ≡ 0 → ⊥) where
+    runs-long : 32 < bits → runs place turns bits left s k ≡ bad (record { number = 6; place = place })
+    unfolding runs
+    runs-long l = rw (next, ne-eqb left 0 e, lt-leb bits 32 l)
 
-  runs-refused : (t u : ℕ) {left : ℕ} (k : ℕ) {z : _} → t ≡ suc u → (left ≡ 0 → ⊥) → runNumber left s k ≡ bad z → runs place t left s k ≡ bad z
-  unfolding runs runNumber
-  runs-refused t u k h e q = rw (h, ne-eqb _ _ e, q)
+    module _ (l : bits ≤ 32) where
+      runs-refused : {z : _} → runNumber left s k ≡ bad z → runs place turns bits left s k ≡ bad z
+      unfolding runs runNumber
+      runs-refused q = rw (next, ne-eqb left 0 e, le-leb bits 32 l, q)
 
-  runs-more : (t u : ℕ) {left : ℕ} (k : ℕ) {n j : ℕ} → t ≡ suc u → (left ≡ 0 → ⊥) → runNumber left s k ≡ ok (n, j)
-      → runs place t left s k ≡ behind (replicate n (32 - u)) (runs place u (left - n) s j)
-  unfolding runs runNumber behind
-  runs-more t u k h e q = rw (h, ne-eqb _ _ e, q)
+      runs-more : {n j : ℕ} → runNumber left s k ≡ ok (n, j) → runs place turns bits left s k ≡ behind (replicate n bits) (runs place u (bits + 1) (left - n) s j)
+      unfolding runs runNumber behind
+      runs-more q = rw (next, ne-eqb left 0 e, le-leb bits 32 l, q)
+
+-- THE TURNS ARE ENOUGH: one turn more changes nothing, where as many are left as it takes to pass 32
+pub runs-end : (place turns bits left : ℕ) (s : List ℕ) (k : ℕ) → bits ≤ 33 → 34 ≤ bits + turns → runs place turns bits left s k ≡ runs place (suc turns) bits left s k
+unfolding runs
+runs-end place zero bits left s k h g = absurd (omega arith)
+runs-end place (suc turns) bits left s k h g = go (λ l m i. runs-end place turns (bits + 1) m s i (omega arith) (omega arith)) (eqb left 0) (leb bits 32) refl
+  where
+    turn : (turns : ℕ) (a b : Bool) → Outcome (List ℕ × ℕ)
+    turn turns a b =
+        cond a
+        (ok ([], k))
+        (need (b || a) (refusal 6 place)
+        (then (judged (λ n. leb n left) 6 (field (ilog left)) s k) (λ n.
+        then (runs place turns (bits + 1) (left - n .0) s (n .1)) (λ rest.
+        ok (replicate (n .0) bits ++ rest .0, rest .1)))))
+
+    go : (bits ≤ 32 → (m i : ℕ) → runs place turns (bits + 1) m s i ≡ runs place (suc turns) (bits + 1) m s i) → (a b : Bool) → leb bits 32 ≡ b → turn turns a b ≡ turn (suc turns) a b
+    go again true b p = refl
+    go again false false p = refl
+    go again false true p =
+        λ j. then (judged (λ n. leb n left) 6 (field (ilog left)) s k) (λ n.
+        then (again (leb-true bits 32 p) (left - n .0) (n .1) j) (λ rest.
+        ok (replicate (n .0) bits ++ rest .0, rest .1)))
 
 -- the loop over runs
 module _ (place : Cursor) (first : ℕ) (s : List ℕ) (k : ℕ) (entry : List ℕ) where
   abbrev whole : Outcome (List ℕ × ℕ)
-  whole = runs (position place) (32 - first) (length entry) s k
+  whole = runs (position place) 33 (first + 1) (length entry) s k
 
   -- i entries have their lengths; the next run's length is bits
   pub record Running (c : Cursor) (bits : ℕ) (part : List ℕ) (i : ℕ) : Type 0 where
     pub within : i ≤ length entry
     pub long : length part ≡ length entry
-    pub low : 1 ≤ bits
     pub high : bits ≤ 33
-    pub rest : behind (take i part) (runs (position place) (33 - bits) (length entry - i) s (position c)) ≡ whole
+    pub rest : behind (take i part) (runs (position place) (34 + first - bits) bits (length entry - i) s (position c)) ≡ whole
 
   module _ {c : Cursor} {bits : ℕ} {part : List ℕ} {i : ℕ} (w : Running c bits part i) where
     here : (r : Field) → outcome r ≡ runNumber (length part - i) s (position c) → outcome r ≡ runNumber (length entry - i) s (position c)
     here r p = rw (← w .long) p
+
+    turn : 34 + first - bits ≡ suc (33 + first - bits)
+    turn = let h = w .high in omega arith
 
     pub running-done : length entry ≤ i → Wrote whole (S.Next c) part
     running-done h =
         let e = w .long in
         wrote-next
         (sym (w .rest)
-        ∙ behind-none (take i part) (runs-none (position place) s (33 - bits) {left = length entry - i} (omega arith))
+        ∙ behind-none (take i part) (runs-none (position place) s (34 + first - bits) (33 + first - bits) turn bits (length entry - i) (position c) (omega arith))
         ∙ ap (λ (l : List ℕ). ok (l, position c)) (take-all i part (omega arith)))
 
     module _ (h : i < length entry) where
+      some-left : length entry - i ≡ 0 → ⊥
+      some-left q = omega arith
+
       pub running-long : 32 < bits → (u : List ℕ) → Wrote whole (S.Refused (at 6 place)) u
       running-long l u =
           wrote-refused u
           (sym (w .rest)
-          ∙ behind-bad (take i part) (runs-long (position place) s (33 - bits) {left = length entry - i} (position c) (omega arith) (λ (q : length entry - i ≡ 0). omega arith)))
+          ∙ behind-bad (take i part) (runs-long (position place) s (34 + first - bits) (33 + first - bits) turn bits (length entry - i) (position c) some-left l))
 
       module _ (l : bits ≤ 32) {r : Field} (p : outcome r ≡ runNumber (length part - i) s (position c)) where
         pub running-refused : {z : Refusal} → r ≡ Refused z → (u : List ℕ) → Wrote whole (S.Refused z) u
@@ -215,7 +243,7 @@ module _ (place : Cursor) (first : ℕ) (s : List ℕ) (k : ℕ) (entry : List �
             wrote-refused u
             (sym (w .rest)
             ∙ behind-bad (take i part)
-            (runs-refused (position place) s (33 - bits) (32 - bits) {left = length entry - i} (position c) (omega arith) (λ (q : length entry - i ≡ 0). omega arith) (refused-is (here r p) q)))
+            (runs-refused (position place) s (34 + first - bits) (33 + first - bits) turn bits (length entry - i) (position c) some-left l (refused-is (here r p) q)))
 
         module _ {n : ℕ} {c′ : Cursor} (q : r ≡ Value n c′) where
           pub running-fits : i + n ≤ length part
@@ -226,31 +254,27 @@ module _ (place : Cursor) (first : ℕ) (s : List ℕ) (k : ℕ) (entry : List �
               let b = running-fits in
               let g = w .long in
               let m = length-run n bits in
-              let low = w .low in
               let t : take (i + n) (sets part i (replicate n bits)) ≡ take i part ++ replicate n bits
               = ap (λ (x : ℕ). take (i + x) (sets part i (replicate n bits))) (sym m) ∙ take-sets part (replicate n bits) i (omega arith) in
-              let f : 33 - (bits + 1) ≡ 32 - bits = omega arith in
+              let f : 34 + first - (bits + 1) ≡ 33 + first - bits = omega arith in
               let d : length entry - (i + n) ≡ length entry - i - n = omega arith in
-              let u : 32 - (32 - bits) ≡ bits = omega arith in
               record {
                 within = omega arith;
                 long = rw e (length-sets part i (replicate n bits) ∙ w .long);
-                low = omega arith;
                 high = omega arith;
                 rest =
                     rw (e, t, f, d)
-                    (sym (behind-append (take i part) (replicate n bits) (runs (position place) (32 - bits) (length entry - i - n) s (position c′)))
+                    (sym (behind-append (take i part) (replicate n bits) (runs (position place) (33 + first - bits) (bits + 1) (length entry - i - n) s (position c′)))
                     ∙ ap (behind (take i part))
-                    (ap (λ (x : ℕ). behind (replicate n x) (runs (position place) (32 - bits) (length entry - i - n) s (position c′))) (sym u)
-                    ∙ sym (runs-more (position place) s (33 - bits) (32 - bits) {left = length entry - i} (position c) (omega arith) (λ (q : length entry - i ≡ 0). omega arith) (value-is (here r p) q)))
+                    (sym (runs-more (position place) s (34 + first - bits) (33 + first - bits) turn bits (length entry - i) (position c) some-left l (value-is (here r p) q)))
                     ∙ w .rest);
               }
 
 pub running-start : (place : Cursor) (first : ℕ) (s : List ℕ) (c : Cursor) (entry : List ℕ) → first < 32 → Running place first s (position c) entry c (first + 1) entry 0
 running-start place first s c entry h =
-    let e : 33 - (first + 1) ≡ 32 - first = omega arith in
+    let e : 34 + first - (first + 1) ≡ 33 = omega arith in
     let f : length entry - 0 ≡ length entry = omega arith in
-    record { within = omega arith; long = refl; low = omega arith; high = omega arith; rest = rw (e, f) (behind-nil _) }
+    record { within = omega arith; long = refl; high = omega arith; rest = rw (e, f) (behind-nil _) }
 
 -- the flags in front
 module _ (n : ℕ) (s : List ℕ) (k : Cursor) {r : Field} (p : outcome r ≡ field 1 s (position k)) where
@@ -273,7 +297,7 @@ module _ (place n : ℕ) (s : List ℕ) (k : Cursor) where
       pub first-below : v < 32
       first-below = let b = value-below 5 s (position k) p q in omega arith
 
-      pub ordered-rest : {st : Step} {t : List ℕ} → Wrote (runs place (32 - v) n s (position c)) st t → Wrote (ordered place n s (position k)) st t
+      pub ordered-rest : {st : Step} {t : List ℕ} → Wrote (runs place 33 (v + 1) n s (position c)) st t → Wrote (ordered place n s (position k)) st t
       unfolding ordered
       ordered-rest w = rw (value-is p q) w
 

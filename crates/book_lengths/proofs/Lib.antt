@@ -1,3 +1,4 @@
+pub mod Verdict
 pub mod LengthLaws
 pub mod EntryLaws
 pub mod Accepted

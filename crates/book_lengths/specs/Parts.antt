@@ -1,5 +1,5 @@
 -- Pieces of specs/Reading.antt under names of their own, one for each function that reads one. Nothing is added to what is read.
-use Prim.Native.Nat.{ℕ, _-_}
+use Prim.Native.Nat.{ℕ, _+_}
 use mathlib.Core.List.{List}
 use lib.Seq.{sets}
 use Rattle.reading.specs.Outcome.{ok, then}
@@ -19,7 +19,7 @@ unfoldable pub unordered : ℕ → Reader (List ℕ)
 unordered entries s k = then (field 1 s k) (λ sparse. many (entryLength (sparse .0)) entries s (sparse .1))
 
 unfoldable pub ordered : ℕ → ℕ → Reader (List ℕ)
-ordered place entries s k = then (field 5 s k) (λ first. runs place (32 - first .0) entries s (first .1))
+ordered place entries s k = then (field 5 s k) (λ first. runs place 33 (first .0 + 1) entries s (first .1))
 
 -- the lengths, read and entered
 unfoldable pub entries : ℕ → ℕ → Reader (List ℕ)

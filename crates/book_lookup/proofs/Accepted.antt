@@ -1,6 +1,6 @@
 -- A LOOKUP THAT WAS READ meets every rule: its type, its numbers, how many multiplicands it has and how wide they are. By the way out that was taken.
 -- Assumes nothing.
-use Prim.Native.Nat.{ℕ, _^_, _≤_}
+use Prim.Native.Nat.{ℕ, _+_, _^_, _≤_}
 use native.Mathlib.Omega.{arith}
 use borrow.Author.Tests.{leb-true, lt-ltb, eqb-false}
 use mathlib.Core.Bool.{Bool, true, false, cond}
@@ -19,41 +19,41 @@ use Rattle.book_lookup.specs.Reading.{Lookup, noLookup, valueCount, valu
 use Rattle.book_lookup.specs.Parts.{Parameters, parameters}
 use Rattle.book_lookup.proofs.LookupLaws.{Narrow, parameters-ok, withValues, afterParameters, values-as}
 
-pub record LookupKnown (entries dimensions room : ℕ) (l : Lookup) : Type 0 where
+pub record LookupKnown (entries dimensions most before : ℕ) (l : Lookup) : Type 0 where
   pub lookup : l .lookup ≤ 2
   pub none : l .lookup ≡ 0 → l ≡ noLookup
   pub some : (l .lookup ≡ 0 → ⊥) → Narrow (record { minimum = l .minimum; delta = l .delta; width = l .width; sequence = l .sequence })
       × (length (l .multiplicands) ≡ valueCount (l .lookup) entries dimensions) × (all (λ v. ltb v (2 ^ l .width)) (l .multiplicands) ≡ true)
-  pub within : length (l .multiplicands) ≤ room
+  pub within : before ≤ most → before + length (l .multiplicands) ≤ most
 
-values-known : (place type count room : ℕ) (s : List ℕ) (k : ℕ) {l : Lookup} {j : ℕ} → values place type count room s k ≡ ok (l, j)
+values-known : (place type count most before : ℕ) (s : List ℕ) (k : ℕ) {l : Lookup} {j : ℕ} → values place type count most before s k ≡ ok (l, j)
     → (l .lookup ≡ type) × Narrow (record { minimum = l .minimum; delta = l .delta; width = l .width; sequence = l .sequence })
-    × (length (l .multiplicands) ≡ count) × (all (λ v. ltb v (2 ^ l .width)) (l .multiplicands) ≡ true) × (count ≤ room)
-values-known place type count room s k {l} {j} e =
-    let a = then-ok (parameters s k) (afterParameters place type count room s) (sym (values-as place type count room s k) ∙ e) in
+    × (length (l .multiplicands) ≡ count) × (all (λ v. ltb v (2 ^ l .width)) (l .multiplicands) ≡ true) × (before + count ≤ most)
+values-known place type count most before s k {l} {j} e =
+    let a = then-ok (parameters s k) (afterParameters place type count most before s) (sym (values-as place type count most before s k) ∙ e) in
     let p : Parameters = a .0 .0 in
-    let n = need-ok (leb count room) (refusal 14 place) (then (many (field (a .0 .0 .width)) count s (a .0 .1)) (λ list. ok (withValues type (a .0 .0) (list .0), list .1))) (a .2) in
+    let n = need-ok (leb (before + count) most) (refusal 14 place) (then (many (field (a .0 .0 .width)) count s (a .0 .1)) (λ list. ok (withValues type (a .0 .0) (list .0), list .1))) (a .2) in
     let b = then-ok (many (field (a .0 .0 .width)) count s (a .0 .1)) _ (n .1) in
     let q : _≡_ {A = Lookup × ℕ} (withValues type (a .0 .0) (b .0 .0), b .0 .1) (l, j) = same-ok (ok (withValues type (a .0 .0) (b .0 .0), b .0 .1)) refl (b .2) in
     let m = many-number (field (a .0 .0 .width)) s count (a .0 .1) (b .1) in
     let t = many-all (λ v. ltb v (2 ^ (a .0 .0 .width))) (field (a .0 .0 .width)) s (λ k x h. lt-ltb (x .0) (2 ^ (a .0 .0 .width)) (field-ok s k (a .0 .0 .width) h .below)) count (a .0 .1) (b .1) in
     rw (← (ap (λ (x : Lookup × ℕ). x .0) q)) (refl, parameters-ok s k (a .1), m, t, leb-true _ _ (n .0))
 
-pub lookup-known : (place entries dimensions room : ℕ) (s : List ℕ) (k : ℕ) {l : Lookup} {j : ℕ} → lookup place entries dimensions room s k ≡ ok (l, j)
-    → LookupKnown entries dimensions room l
+pub lookup-known : (place entries dimensions most before : ℕ) (s : List ℕ) (k : ℕ) {l : Lookup} {j : ℕ} → lookup place entries dimensions most before s k ≡ ok (l, j)
+    → LookupKnown entries dimensions most before l
 unfolding lookup
-lookup-known place entries dimensions room s k {l} {j} e =
+lookup-known place entries dimensions most before s k {l} {j} e =
     let a = then-ok (judged (λ v. leb v 2) 6 (field 4) s k) _ e in
     let t : a .0 .0 ≤ 2 = leb-true _ _ (judged-ok (λ v. leb v 2) 6 (field 4) s k (a .1) .1) in
     go (a .0 .0) (a .0 .1) t (eqb (a .0 .0) 0) refl (a .2)
   where
-    go : (type i : ℕ) → type ≤ 2 → (b : Bool) → eqb type 0 ≡ b → cond b (ok (noLookup, i)) (values place type (valueCount type entries dimensions) room s i) ≡ ok (l, j)
-        → LookupKnown entries dimensions room l
+    go : (type i : ℕ) → type ≤ 2 → (b : Bool) → eqb type 0 ≡ b → cond b (ok (noLookup, i)) (values place type (valueCount type entries dimensions) most before s i) ≡ ok (l, j)
+        → LookupKnown entries dimensions most before l
     go type i t true p f =
         let q : _≡_ {A = Lookup × ℕ} (noLookup, i) (l, j) = same-ok (ok (noLookup, i)) refl f in
-        rw (← (ap (λ (x : Lookup × ℕ). x .0) q)) (record { lookup = omega arith; none = λ z. refl; some = λ n. absurd (n refl); within = omega arith })
+        rw (← (ap (λ (x : Lookup × ℕ). x .0) q)) (record { lookup = omega arith; none = λ z. refl; some = λ n. absurd (n refl); within = λ h. omega arith })
     go type i t false p f =
-        let v = values-known place type (valueCount type entries dimensions) room s i f in
+        let v = values-known place type (valueCount type entries dimensions) most before s i f in
         let v₀ : l .lookup ≡ type = v .0 in
         let v₂ = v .2 in
         let v₄ = v .4 in
@@ -62,5 +62,5 @@ lookup-known place entries dimensions room s k {l} {j} e =
           lookup = omega arith;
           none = λ z. absurd (n (sym v₀ ∙ z));
           some = λ z. (v .1, v .2 ∙ ap (λ (x : ℕ). valueCount x entries dimensions) (sym v₀), v .3);
-          within = omega arith;
+          within = λ h. omega arith;
         }

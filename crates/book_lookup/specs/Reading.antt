@@ -33,18 +33,18 @@ pub record Lookup : Type 0 where
 abbrev pub noLookup : Lookup
 noLookup = record { lookup = 0; minimum = 0; delta = 0; width = 0; sequence = 0; multiplicands = [] }
 
--- room is how many more multiplicands the limit allows for
-unfoldable pub values : ℕ → ℕ → ℕ → ℕ → Reader Lookup
-values place type count room s k =
+-- most is the limit on multiplicands in all, of which the books before have so many
+unfoldable pub values : ℕ → ℕ → ℕ → ℕ → ℕ → Reader Lookup
+values place type count most before s k =
     then (field 32 s k) (λ minimum.
     then (field 32 s (minimum .1)) (λ delta.
     then (field 4 s (delta .1)) (λ width.
     then (field 1 s (width .1)) (λ sequence.
-    need (Rule.meets14 (Rule.multiplicands room count)) (refusal 14 place)
+    need (Rule.meets14 (Rule.multiplicands most before count)) (refusal 14 place)
     (then (many (field (width .0 + 1)) count s (sequence .1)) (λ list.
     ok (record { lookup = type; minimum = minimum .0; delta = delta .0; width = width .0 + 1; sequence = sequence .0; multiplicands = list .0 }, list .1)))))))
 
-unfoldable pub lookup : ℕ → ℕ → ℕ → ℕ → Reader Lookup
-lookup place entries dimensions room s k =
+unfoldable pub lookup : ℕ → ℕ → ℕ → ℕ → ℕ → Reader Lookup
+lookup place entries dimensions most before s k =
     then (judged (λ v. Rule.meets6 (Rule.lookupType v)) 6 (field 4) s k) (λ type.
-    cond (eqb (type .0) 0) (ok (noLookup, type .1)) (values place (type .0) (valueCount (type .0) entries dimensions) room s (type .1)))
+    cond (eqb (type .0) 0) (ok (noLookup, type .1)) (values place (type .0) (valueCount (type .0) entries dimensions) most before s (type .1)))

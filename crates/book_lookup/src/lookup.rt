@@ -5,7 +5,7 @@ use bits::Refusal;
 use bits::Step;
 ghost use mathlib.Core.Path.{_≡_};
 ghost use mathlib.Core.List.{[], _∷_};
-ghost use Prim.Native.Nat.{_+_, _-_, _≤_};
+ghost use Prim.Native.Nat.{_+_, _≤_};
 ghost use lib.ListN.{length};
 ghost use Rattle.reading.specs.Reader.{mapped, many};
 ghost use Rattle.bits.specs.Field.{field};
@@ -123,7 +123,7 @@ fn read_values(
     multiplicands: &mut [u16],
 ) -> LookupRead
     requires { ⌜ (first ≤ most) × (most ≤ length (now multiplicands)) ⌝ }
-    ensures { λ r. ⌜ Wrote (mapped (laid (now (multiplicands .entry)) first) (values (position place) lookup count (most - first) (now (packet .entry)) (position from))) (r .step) (numbersOf r, now (multiplicands .exit)) ⌝ }
+    ensures { λ r. ⌜ Wrote (mapped (laid (now (multiplicands .entry)) first) (values (position place) lookup count most first (now (packet .entry)) (position from))) (r .step) (numbersOf r, now (multiplicands .exit)) ⌝ }
     ensures { λ r. ⌜ first + r .count ≤ most ⌝ }
 {
     match read_parameters(packet, from) {
@@ -161,7 +161,7 @@ pub fn read_lookup(
     multiplicands: &mut [u16],
 ) -> LookupRead
     requires { ⌜ (first ≤ most) × (most ≤ length (now multiplicands)) ⌝ }
-    ensures { λ r. ⌜ Wrote (mapped (laid (now (multiplicands .entry)) first) (lookup (position place) entries dimensions (most - first) (now (packet .entry)) (position from))) (r .step) (numbersOf r, now (multiplicands .exit)) ⌝ }
+    ensures { λ r. ⌜ Wrote (mapped (laid (now (multiplicands .entry)) first) (lookup (position place) entries dimensions most first (now (packet .entry)) (position from))) (r .step) (numbersOf r, now (multiplicands .exit)) ⌝ }
     ensures { λ r. ⌜ first + r .count ≤ most ⌝ }
 {
     match from.field(packet, 4) {

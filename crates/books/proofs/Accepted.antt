@@ -1,5 +1,5 @@
 -- A book that was read meets every rule, and so does a list of them: by what is known of its head, of its lengths and of its lookup. Assumes nothing.
-use Prim.Native.Nat.{ℕ, zero, suc, _-_, _≤_}
+use Prim.Native.Nat.{ℕ, zero, suc, _≤_}
 use native.Mathlib.Omega.{arith}
 use mathlib.Core.List.{List, [], _∷_}
 use mathlib.Core.Path.{_≡_, refl, sym, ap, _∙_}
@@ -24,14 +24,14 @@ unfolding book entries
 book-valid l before s k {b} {n} within e =
     let h = then-ok (head l before s k) _ e in
     let c = then-ok (entries k (h .0 .0 .entries) s (h .0 .1)) _ (h .2) in
-    let o = then-ok (lookup k (h .0 .0 .entries) (h .0 .0 .dimensions) (l .multiplicands - before .values) s (c .0 .1)) _ (c .2) in
+    let o = then-ok (lookup k (h .0 .0 .entries) (h .0 .0 .dimensions) (l .multiplicands) (before .values) s (c .0 .1)) _ (c .2) in
     let q : _≡_ {A = Book × ℕ} (bookOf (h .0 .0) (c .0 .0) (o .0 .0), o .0 .1) (b, n) = same-ok (ok (bookOf (h .0 .0) (c .0 .0) (o .0 .0), o .0 .1)) refl (o .2) in
     valid (h .0 .0) (c .0 .0) (o .0 .0) b (ap (λ (x : Book × ℕ). x .0) q) (head-ok l before s k (h .1))
     (entries-known k (h .0 .0 .entries) s (h .0 .1) (c .1))
-    (lookup-known k (h .0 .0 .entries) (h .0 .0 .dimensions) (l .multiplicands - before .values) s (c .0 .1) (o .1))
+    (lookup-known k (h .0 .0 .entries) (h .0 .0 .dimensions) (l .multiplicands) (before .values) s (c .0 .1) (o .1))
   where
     valid : (h : Head) (ls : List ℕ) (o : Lookup) (b : Book) → bookOf h ls o ≡ b → HeadKnown l before h → EntriesKnown (h .entries) ls
-        → LookupKnown (h .entries) (h .dimensions) (l .multiplicands - before .values) o → ValidBook l before b
+        → LookupKnown (h .entries) (h .dimensions) (l .multiplicands) (before .values) o → ValidBook l before b
     valid h ls o b e k m w =
         let m₀ = m .long in
         rw (← e)
@@ -49,7 +49,7 @@ book-valid l before s k {b} {n} within e =
               record { minimum = ap (λ (x : Lookup). x .minimum) n; delta = ap (λ (x : Lookup). x .delta) n; width = ap (λ (x : Lookup). x .width) n; sequence = ap (λ (x : Lookup). x .sequence) n; multiplicands = ap (λ (x : Lookup). x .multiplicands) n };
           some-lookup = λ z. let n = w .some z in
               record { minimum = n .0 .minimum; delta = n .0 .delta; width-low = n .0 .width-low; width-high = n .0 .width-high; sequence = n .0 .sequence; count = n .1 ∙ ap (λ (x : ℕ). valueCount (o .lookup) x (h .dimensions)) (sym m₀); fit = n .2 };
-          values-all = omega (arith, w .within);
+          values-all = w .within within;
         })
 
 -- and so are all books of a section, of which there are as many as were asked for

@@ -47,19 +47,19 @@ module _ (h : Head) (bk m : List ℕ) (index before values : ℕ) where
       wrote-as (mapped-mapped rowed (laid m values) o) (λ j. (sym b j, m′, values + a₅)) (wrote-mapped rowed w)
 
 -- what follows the head
-module _ (place : Cursor) (h : Head) (room : ℕ) (s : List ℕ) (k : ℕ) (bk lens wds m : List ℕ) (index before values : ℕ) where
+module _ (place : Cursor) (h : Head) (most : ℕ) (s : List ℕ) (k : ℕ) (bk lens wds m : List ℕ) (index before values : ℕ) where
   abbrev at-entry : Tables
   at-entry = tables bk lens wds m index before values
 
   module _ {st : Step} {lens′ wds′ : List ℕ} (w : Wrote (mapped (L.laid lens wds before) (entries (position place) (h .entries) s k)) st (lens′, wds′)) where
-    pub body-refused : {z : Refusal} → st ≡ S.Refused z → (u : Tables) → Wrote (into1 putBook (body (position place) h room s k) at-entry) (S.Refused z) u
+    pub body-refused : {z : Refusal} → st ≡ S.Refused z → (u : Tables) → Wrote (into1 putBook (body (position place) h most values s k) at-entry) (S.Refused z) u
     unfolding into1 mapped body
     body-refused q u = wrote-refused u (rw (mapped-bad (L.laid lens wds before) (entries (position place) (h .entries) s k) (wrote-bad w q)))
 
     module _ {c : Cursor} (q : st ≡ S.Next c) where
       -- the lookup's definition, and the head with a number of entries
       abbrev rest : Outcome (Lookup × ℕ)
-      rest = lookup (position place) (h .entries) (h .dimensions) room s (position c)
+      rest = lookup (position place) (h .entries) (h .dimensions) most values s (position c)
 
       abbrev counted : ℕ → Head
       counted n = record { dimensions = h .dimensions; entries = n }
@@ -69,7 +69,7 @@ module _ (place : Cursor) (h : Head) (room : ℕ) (s : List ℕ) (k : ℕ) (bk l
       placed ls x = tables (x .0) (sets lens before ls) (sets wds before (codewords ls)) (x .1) (index + 1) (before + length ls) (x .2)
 
       body-as : (ls : List ℕ) → entries (position place) (h .entries) s k ≡ ok (ls, position c)
-          → into1 putBook (body (position place) h room s k) at-entry ≡ mapped (placed ls) (mapped (finished bk m (counted (length ls)) index before values) rest)
+          → into1 putBook (body (position place) h most values s k) at-entry ≡ mapped (placed ls) (mapped (finished bk m (counted (length ls)) index before values) rest)
       unfolding into1 body putBook bookRow finished
       body-as ls e =
           rw e
@@ -78,7 +78,7 @@ module _ (place : Cursor) (h : Head) (room : ℕ) (s : List ℕ) (k : ℕ) (bk l
 
       pub body-whole : {st₂ : Step} {bk′ m′ : List ℕ} {entries′ values′ : ℕ} → Wrote (mapped (finished bk m h index before values) rest) st₂ (bk′, m′, values′)
           → entries′ ≡ before + h .entries
-          → Wrote (into1 putBook (body (position place) h room s k) at-entry) st₂ (tables bk′ lens′ wds′ m′ (index + 1) entries′ values′)
+          → Wrote (into1 putBook (body (position place) h most values s k) at-entry) st₂ (tables bk′ lens′ wds′ m′ (index + 1) entries′ values′)
       body-whole {st₂} {bk′} {m′} {entries′} {values′} w₂ f =
           let a = mapped-ok (L.laid lens wds before) (entries (position place) (h .entries) s k) (wrote-ok w q) in
           let n : length (a .0) ≡ h .entries = entries-known (position place) (h .entries) s k (a .1) .long in
@@ -95,7 +95,7 @@ module _ (l : Limits) (before values : ℕ) (s : List ℕ) (k : Cursor) (t : Tab
   book-refused q u = wrote-refused u (rw (sym p ∙ ap headRead q))
 
   module _ {h : D.Head} {c : Cursor} (q : r ≡ H.Value h c) where
-    pub book-whole : {st : Step} {u : Tables} → Wrote (into1 putBook (body (position k) (headOf h) (l .multiplicands - values) s (position c)) t) st u
+    pub book-whole : {st : Step} {u : Tables} → Wrote (into1 putBook (body (position k) (headOf h) (l .multiplicands) values s (position c)) t) st u
         → Wrote (into1 putBook (book l (totals before values) s (position k)) t) st u
     unfolding book body entries head headRead
     book-whole w = rw (sym p ∙ ap headRead q) w

@@ -10,7 +10,7 @@ use Rattle.book_lengths.specs.Parts.{entries}
 use Rattle.book_lookup.specs.Reading.{Lookup, lookup}
 use Rattle.books.specs.Reading.{books}
 
--- what follows a book's head; place is the book's first bit, room how many more multiplicands the limit allows for
+-- what follows a book's head; place is the book's first bit, most the limit on multiplicands in all, of which the books before have so many
 abbrev pub bookOf : Head → List ℕ → Lookup → Book
 bookOf h ls l =
     record {
@@ -24,10 +24,10 @@ bookOf h ls l =
       multiplicands = l .multiplicands;
     }
 
-unfoldable pub body : ℕ → Head → ℕ → Reader Book
-body place h room s k =
+unfoldable pub body : ℕ → Head → ℕ → ℕ → Reader Book
+body place h most before s k =
     then (entries place (h .entries) s k) (λ ls.
-    then (lookup place (h .entries) (h .dimensions) room s (ls .1)) (λ l. ok (bookOf h (ls .0) (l .0), l .1)))
+    then (lookup place (h .entries) (h .dimensions) most before s (ls .1)) (λ l. ok (bookOf h (ls .0) (l .0), l .1)))
 
 -- the books of a setup packet, none before them
 abbrev pub section : Limits → ℕ → Reader (List Book)

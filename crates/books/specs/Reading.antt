@@ -1,6 +1,6 @@
 -- A codebook in a setup packet as 002's steps, in 01's order ("Order"): its head, its lengths, all read and then entered, then its lookup; and books one
 -- after the other. Some refusals of the lengths and of the lookup have their place at the book's first bit, which each is given.
-use Prim.Native.Nat.{ℕ, zero, suc, _+_, _-_}
+use Prim.Native.Nat.{ℕ, zero, suc, _+_}
 use mathlib.Core.List.{List, [], _∷_}
 use lib.ListN.{length}
 use Rattle.reading.specs.Outcome.{ok, then}
@@ -16,7 +16,7 @@ unfoldable pub book : Limits → Before → Reader Book
 book limits before s k =
     then (head limits before s k) (λ h.
     then (then (lengths k (h .0 .entries) s (h .1)) (λ ls. entered k (ls .0) (ok ls))) (λ ls.
-    then (lookup k (h .0 .entries) (h .0 .dimensions) (limits .multiplicands - before .values) s (ls .1)) (λ l.
+    then (lookup k (h .0 .entries) (h .0 .dimensions) (limits .multiplicands) (before .values) s (ls .1)) (λ l.
     ok (
       record {
         dimensions = h .0 .dimensions;

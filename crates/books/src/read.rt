@@ -11,7 +11,7 @@ use limits::Limits;
 use reading::buffers::write_u32;
 ghost use mathlib.Core.Path.{_≡_};
 ghost use mathlib.Core.List.{[], _∷_, _++_};
-ghost use Prim.Native.Nat.{_+_, _-_, _*_, _<_, _≤_};
+ghost use Prim.Native.Nat.{_+_, _*_, _<_, _≤_};
 ghost use lib.ListN.{length};
 ghost use lib.Seq.{sets};
 ghost use Rattle.reading.specs.Reader.{mapped, into, into1};
@@ -65,7 +65,7 @@ fn finish_book(
     multiplicands: &mut [u16],
 ) -> BooksRead
     requires { ⌜ (index < 256) × (entries + head .entries ≤ 16777216) × (values ≤ most) × (most ≤ length (now multiplicands)) × (most ≤ 16777216) ⌝ }
-    ensures { λ r. ⌜ Wrote (mapped (finished (now (books .entry)) (now (multiplicands .entry)) (headOf head) index entries values) (lookup (position place) (head .entries) (head .dimensions) (most - values) (now (packet .entry)) (position from))) (r .step) (now (books .exit), now (multiplicands .exit), r .values) ⌝ }
+    ensures { λ r. ⌜ Wrote (mapped (finished (now (books .entry)) (now (multiplicands .entry)) (headOf head) index entries values) (lookup (position place) (head .entries) (head .dimensions) most values (now (packet .entry)) (position from))) (r .step) (now (books .exit), now (multiplicands .exit), r .values) ⌝ }
     ensures { λ r. ⌜ (r .entries ≡ entries + head .entries) × (r .values ≤ most) ⌝ }
 {
     let l = read_lookup(
@@ -103,7 +103,7 @@ fn read_body(
     multiplicands: &mut [u16],
 ) -> BooksRead
     requires { ⌜ BookAt (head .entries) most index entries values (now lengths) (now words) (now multiplicands) ⌝ }
-    ensures { λ r. ⌜ Wrote (into1 putBook (body (position place) (headOf head) (most - values) (now (packet .entry)) (position from)) (tables (now (books .entry)) (now (lengths .entry)) (now (words .entry)) (now (multiplicands .entry)) index entries values)) (r .step) (tables (now (books .exit)) (now (lengths .exit)) (now (words .exit)) (now (multiplicands .exit)) (index + 1) (r .entries) (r .values)) ⌝ }
+    ensures { λ r. ⌜ Wrote (into1 putBook (body (position place) (headOf head) most values (now (packet .entry)) (position from)) (tables (now (books .entry)) (now (lengths .entry)) (now (words .entry)) (now (multiplicands .entry)) index entries values)) (r .step) (tables (now (books .exit)) (now (lengths .exit)) (now (words .exit)) (now (multiplicands .exit)) (index + 1) (r .entries) (r .values)) ⌝ }
     ensures { λ r. ⌜ (r .entries ≤ entries + head .entries) × (r .values ≤ most) ⌝ }
 {
     match read_entries_at(packet, from, place, entries, head.entries, lengths, words) {

@@ -26,8 +26,6 @@ use Rattle.codespace.proofs.Whole.{answer-are, refused-is}
 use Rattle.codespace.proofs.Claimed.{next-reached}
 use Rattle.codespace.proofs.Places.{Small, enter-small}
 use Rattle.codespace.proofs.Steps.{outside-blocks}
-use Rattle.codeword_assignment.specs.Figures.{Figures}
-use Rattle.codeword_assignment.proofs.Figures.{figures}
 use Rattle.codespace.proofs.Numbers.{pad-front}
 use Rattle.codeword_assignment.proofs.Laws.{codewords-length, after-used, handed-before, used-cons, used-skip, accepted-decodable}
 
@@ -232,7 +230,7 @@ written-refused TooShort ls places n = refl
 -- what `assign_codewords` promises of its answer and of what it leaves
 abbrev pub Promised : List ℕ → ℕ → Assigned → List ℕ → Type 0
 Promised ls places a out =
-    ((a ≡ assigned ls places) × (out ≡ written a ls places)) × ((a ≡ Accepted → Decodable ls (take (length ls) out)) × Figures)
+    ((a ≡ assigned ls places) × (out ≡ written a ls places)) × (a ≡ Accepted → Decodable ls (take (length ls) out))
 
 -- a list that was cleared
 module _ (places : ℕ) (words₀ : List ℕ) (cleared : words₀ ≡ replicate places 0) where
@@ -246,7 +244,7 @@ module _ (ls : List ℕ) (places : ℕ) (words₀ : List ℕ) (cleared : words�
   pub promised-short : length words₀ < length ls → Promised ls places TooShort words₀
   promised-short l =
       let n = all-places places words₀ cleared in
-      ((too-short ls places (omega arith), cleared), (λ z. absurd (short-accepted z), figures))
+      ((too-short ls places (omega arith), cleared), (λ z. absurd (short-accepted z)))
 
   module _ (r : Assigned) (l : length ls ≤ length words₀) (e : r ≡ verdict ls) where
     fits : length ls ≤ places
@@ -259,7 +257,7 @@ module _ (ls : List ℕ) (places : ℕ) (words₀ : List ℕ) (cleared : words�
         let m = fits in
         let t : take (length ls) out ≡ codewords ls = rw (o, ← n) (pad-front places (codewords ls) (omega arith)) in (
           (assigned-is ls places r fits e, rw q o),
-          (λ z. rw t (accepted-decodable ls (sym e ∙ q)), figures),
+          (λ z. rw t (accepted-decodable ls (sym e ∙ q))),
         )
 
     pub promised-refused : (a : Assigned) (words out : List ℕ) → (r ≡ Accepted → ⊥) → length words ≡ length words₀ → a ≡ r
@@ -270,5 +268,5 @@ module _ (ls : List ℕ) (places : ℕ) (words₀ : List ℕ) (cleared : words�
             assigned-is ls places a fits (q ∙ e),
             w ∙ ap (λ (k : ℕ). replicate k 0) (long ∙ all-places places words₀ cleared) ∙ sym (written-refused a ls places x),
           ),
-          (λ z. absurd (x z), figures),
+          (λ z. absurd (x z)),
         )

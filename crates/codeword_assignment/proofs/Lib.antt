@@ -1,4 +1,4 @@
 pub mod Laws
-pub mod Figures
+pub mod Computed
 pub mod Assigning
 pub mod Comparing

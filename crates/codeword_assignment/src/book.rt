@@ -15,7 +15,6 @@ ghost use Rattle.reading.specs.Pad.{pad};
 ghost use Rattle.codespace.specs.Blocks.{enterAnswer, enterBlocks};
 ghost use Rattle.codespace.specs.Answers.{number};
 ghost use Rattle.codeword_assignment.specs.Book.{used, isLone, verdict, assigned, written, codewords, Decodable, NextUsed, Coded};
-ghost use Rattle.codeword_assignment.specs.Figures.{Figures};
 
 pub enum Assigned {
     // Each used entry has its codeword, and no space is left over; or the only used entry has length 1.
@@ -29,11 +28,9 @@ pub enum Assigned {
 }
 
 // Assigns each used entry its codeword, and 0 to the unused ones; places behind them are 0. On any refusal the lent list is all zeros.
-// 01's figures about lengths stand here too.
 pub fn assign_codewords(lengths: &[u8], words: &mut [u32]) -> Assigned
     ensures { λ r. ⌜ (r ≡ assigned (now (lengths .entry)) (length (now (words .entry)))) × (now (words .exit) ≡ written r (now (lengths .entry)) (length (now (words .entry)))) ⌝ }
     ensures { λ r. ⌜ (r ≡ Assigned.Accepted → Decodable (now (lengths .entry)) (take (length (now (lengths .entry))) (now (words .exit)))) ⌝ }
-    ensures { λ _. ⌜ Figures ⌝ }
 {
     clear_u32(words);
     if words.len() < lengths.len() {

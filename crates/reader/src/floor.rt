@@ -5,8 +5,10 @@ ghost use Rattle.floor_points.specs.FinalY as final;
 ghost use Rattle.floor_points.specs.FinalY.{finalYs, Multiplies};
 ghost use Rattle.floor_curve.specs.Curve as drawing;
 ghost use Rattle.floor_curve.specs.Curve.{curveAt, Bytes};
+ghost use Rattle.figures.specs.Figures.{Figures};
 
 // Final Y and flags of a floor's X list and the values read for it. True where the lists fit each other; otherwise false, and both outputs are all zero.
+// `Figures` is 01's table of figures, those of lengths among them.
 #[no_mangle]
 pub extern "C" fn torchvalley_floor_points(
     x: &[u16],
@@ -16,6 +18,7 @@ pub extern "C" fn torchvalley_floor_points(
     flags: &mut [u8],
 ) -> bool
     ensures { λ r. ⌜ (final.left r (now (y .exit)) (now (flags .exit)) ≡ finalYs (now (x .entry)) (now (values .entry)) multiplier (length (now (y .entry))) (length (now (flags .entry)))) × Multiplies multiplier (now (y .exit)) ⌝ }
+    ensures { λ _. ⌜ Figures ⌝ }
 {
     floor_points::final_y(x, values, multiplier, y, flags)
 }

@@ -2,12 +2,11 @@
 -- Its cases are what the number judges, in 01's order; what it is judged against stands first. Reading judges each field by its case, and a content meets
 -- the rules when all that it holds does (crates/setup/specs/Rules.antt).
 use Prim.Native.Nat.{ℕ, _+_, _%_, _^_}
-use mathlib.Core.Bool.{Bool, not, _||_}
+use mathlib.Core.Bool.{Bool, true, false, not, _||_}
 use mathlib.Core.List.{List}
+use mathlib.Core.Option.{Option, none, some}
 use lib.Dec.{eqb, leb, ltb}
 use Rattle.reading.specs.Lists.{distinct}
-use Rattle.codespace.specs.Answers.{isNone}
-use Rattle.codeword_assignment.specs.Book.{used, firstRefused, freeAfter, isLone}
 
 -- 6, of a book: pattern not 0x564342, dimensions 0, entries 0, ordered run past the entries, ordered length above 32 while entries remain, lookup type above 2
 pub data Of6 : Type 0 where
@@ -28,13 +27,15 @@ meets6 (run remain v) = leb v remain
 meets6 (orderedLength remain v) = leb v 32 || eqb remain 0
 meets6 (lookupType v) = leb v 2
 
--- 7: a length's share exceeds the free code space. Of all lengths of a book, 0 for an unused entry: the ledger refuses none of those that are used
-abbrev pub meets7 : List ℕ → Bool
-meets7 lengths = isNone (firstRefused lengths)
+-- 7: a length's share exceeds the free code space. Of the first entry of a book whose length the ledger refuses, none where it refuses none
+abbrev pub meets7 : Option ℕ → Bool
+meets7 none = true
+meets7 (some entry) = false
 
--- 8: space left over (no used entry included), but not for a sole used entry of length 1
-abbrev pub meets8 : List ℕ → Bool
-meets8 lengths = eqb (freeAfter lengths) 0 || isLone (used lengths)
+-- 8: space left over (no used entry included), but not for a sole used entry of length 1. Of how many strings are free once all lengths are entered, and
+-- whether there is such a sole entry
+abbrev pub meets8 : ℕ → Bool → Bool
+meets8 free soleOfLength1 = eqb free 0 || soleOfLength1
 
 -- 9: a time value, mapping type, reserved field, window type or transform type not 0
 pub data Of9 : Type 0 where
@@ -110,19 +111,18 @@ meets13 (classWords e d c) = leb (c ^ d) e
 meets13 (lookup type) = not (eqb type 0)
 meets13 (partition d size) = eqb (size % d) 0
 
--- 14: more than 8 channels, 8,192 entries in a book, 16,384 entries or 16,384 multiplicands in all, the limit of each first; floor type 0
+-- 14: more than 8 channels, 8,192 entries in a book, 16,384 entries or 16,384 multiplicands in all, the limit of each first; floor type 0. Of those in all the
+-- books before have so many
 pub data Of14 : Type 0 where
   channels : ℕ → ℕ → Of14
   bookEntries : ℕ → ℕ → Of14
-  -- the books before have so many
   allEntries : ℕ → ℕ → ℕ → Of14
-  -- the limit less what the books before have
-  multiplicands : ℕ → ℕ → Of14
+  multiplicands : ℕ → ℕ → ℕ → Of14
   noFloorType0 : ℕ → Of14
 
 abbrev pub meets14 : Of14 → Bool
 meets14 (channels most v) = leb v most
 meets14 (bookEntries most v) = leb v most
 meets14 (allEntries most before v) = leb (before + v) most
-meets14 (multiplicands room v) = leb v room
+meets14 (multiplicands most before v) = leb (before + v) most
 meets14 (noFloorType0 v) = not (eqb v 0)

@@ -1,7 +1,7 @@
 -- NO REFUSAL OF A SETUP CALL HAS THE NUMBER 0, so that 0 stands for acceptance alone. Assumes nothing.
 use Prim.Native.Nat.{ℕ, zero, suc, _+_, _-_, _*_, _^_, _≤_}
 use native.Mathlib.Omega.{arith}
-use mathlib.Core.Bool.{Bool, true, false, not, cond}
+use mathlib.Core.Bool.{Bool, true, false, not, cond, _||_}
 use mathlib.Core.List.{List, [], _∷_, map}
 use mathlib.Core.Path.{_≡_, subst}
 use lib.Dec.{eqb, leb, ltb}
@@ -16,6 +16,7 @@ use Rattle.header.specs.Header.{exactly, opening, commonHeader, framing}
 use Rattle.limits.specs.declared.Limits.{Limits}
 use Rattle.identification.specs.declared.Identity.{Identity}
 use Rattle.identification.specs.Sound.{isSound}
+use Rattle.codeword_assignment.specs.Book.{used, firstRefused, freeAfter, isLone}
 use Rattle.rules.specs.Rules.{meets7, meets8}
 use Rattle.book.specs.Content.{Book}
 use Rattle.book_head.specs.Reading as H
@@ -80,13 +81,14 @@ length-numbered sparse s k =
     either (eqb sparse 0) (mapped-numbered suc (field-numbered 5 s k))
     (then-numbered (field-numbered 1 s k) (λ (f : ℕ × ℕ). either (eqb (f .0) 0) (value (0, f .1)) (mapped-numbered suc (field-numbered 5 s (f .1)))))
 
-runs-numbered : (place t left : ℕ) (s : List ℕ) (k : ℕ) → Numbered (L.runs place t left s k)
+runs-numbered : (place turns bits left : ℕ) (s : List ℕ) (k : ℕ) → Numbered (L.runs place turns bits left s k)
 unfolding L.runs
-runs-numbered place zero left s k = need-numbered (eqb left 0) (refusal 6 place) (omega arith) (value ([], k))
-runs-numbered place (suc t) left s k =
+runs-numbered place zero bits left s k = number (refusal 6 place) (omega arith)
+runs-numbered place (suc turns) bits left s k =
     either (eqb left 0) (value ([], k))
+    (need-numbered (leb bits 32 || eqb left 0) (refusal 6 place) (omega arith)
     (then-numbered (judged-field (λ n. leb n left) 6 (ilog left) s k (omega arith)) (λ (n : ℕ × ℕ).
-    then-numbered (runs-numbered place t (left - n .0) s (n .1)) (λ (rest : List ℕ × ℕ). value _)))
+    then-numbered (runs-numbered place turns (bits + 1) (left - n .0) s (n .1)) (λ (rest : List ℕ × ℕ). value _))))
 
 lengths-numbered : (place entries : ℕ) (s : List ℕ) (k : ℕ) → Numbered (L.lengths place entries s k)
 unfolding L.lengths
@@ -94,27 +96,29 @@ lengths-numbered place entries s k =
     then-numbered (field-numbered 1 s k) (λ (ordered : ℕ × ℕ).
     either (eqb (ordered .0) 0)
     (then-numbered (field-numbered 1 s (ordered .1)) (λ (sparse : ℕ × ℕ). many-numbered (L.entryLength (sparse .0)) s (length-numbered (sparse .0) s) entries (sparse .1)))
-    (then-numbered (field-numbered 5 s (ordered .1)) (λ (first : ℕ × ℕ). runs-numbered place (32 - first .0) entries s (first .1))))
+    (then-numbered (field-numbered 5 s (ordered .1)) (λ (first : ℕ × ℕ). runs-numbered place 33 (first .0 + 1) entries s (first .1))))
 
 entered-numbered : (place : ℕ) (ls : List ℕ) {o : Outcome (List ℕ × ℕ)} → Numbered o → Numbered (L.entered place ls o)
 unfolding L.entered
-entered-numbered place ls {o} n = need-numbered (meets7 ls) (refusal 7 place) (omega arith) (need-numbered (meets8 ls) (refusal 8 place) (omega arith) n)
+entered-numbered place ls {o} n =
+    need-numbered (meets7 (firstRefused ls)) (refusal 7 place) (omega arith)
+    (need-numbered (meets8 (freeAfter ls) (isLone (used ls))) (refusal 8 place) (omega arith) n)
 
-values-numbered : (place type count room : ℕ) (s : List ℕ) (k : ℕ) → Numbered (U.values place type count room s k)
+values-numbered : (place type count most before : ℕ) (s : List ℕ) (k : ℕ) → Numbered (U.values place type count most before s k)
 unfolding U.values
-values-numbered place type count room s k =
+values-numbered place type count most before s k =
     then-numbered (field-numbered 32 s k) (λ (minimum : ℕ × ℕ).
     then-numbered (field-numbered 32 s (minimum .1)) (λ (delta : ℕ × ℕ).
     then-numbered (field-numbered 4 s (delta .1)) (λ (width : ℕ × ℕ).
     then-numbered (field-numbered 1 s (width .1)) (λ (sequence : ℕ × ℕ).
-    need-numbered (leb count room) (refusal 14 place) (omega arith)
+    need-numbered (leb (before + count) most) (refusal 14 place) (omega arith)
     (then-numbered (many-numbered (field (width .0 + 1)) s (field-numbered (width .0 + 1) s) count (sequence .1)) (λ (list : List ℕ × ℕ). value _))))))
 
-lookup-numbered : (place entries dimensions room : ℕ) (s : List ℕ) (k : ℕ) → Numbered (U.lookup place entries dimensions room s k)
+lookup-numbered : (place entries dimensions most before : ℕ) (s : List ℕ) (k : ℕ) → Numbered (U.lookup place entries dimensions most before s k)
 unfolding U.lookup
-lookup-numbered place entries dimensions room s k =
+lookup-numbered place entries dimensions most before s k =
     then-numbered (judged-field (λ v. leb v 2) 6 4 s k (omega arith)) (λ (type : ℕ × ℕ).
-    either (eqb (type .0) 0) (value (U.noLookup, type .1)) (values-numbered place (type .0) (U.valueCount (type .0) entries dimensions) room s (type .1)))
+    either (eqb (type .0) 0) (value (U.noLookup, type .1)) (values-numbered place (type .0) (U.valueCount (type .0) entries dimensions) most before s (type .1)))
 
 head-numbered : (l : Limits) (before : H.Before) (s : List ℕ) (k : ℕ) → Numbered (H.head l before s k)
 unfolding H.head
@@ -130,7 +134,7 @@ unfolding K.book
 book-numbered l before s k =
     then-numbered (head-numbered l before s k) (λ (h : H.Head × ℕ).
     then-numbered (then-numbered (lengths-numbered k (h .0 .entries) s (h .1)) (λ (ls : List ℕ × ℕ). entered-numbered k (ls .0) (value ls))) (λ (ls : List ℕ × ℕ).
-    then-numbered (lookup-numbered k (h .0 .entries) (h .0 .dimensions) (l .multiplicands - before .values) s (ls .1)) (λ (x : U.Lookup × ℕ). value _)))
+    then-numbered (lookup-numbered k (h .0 .entries) (h .0 .dimensions) (l .multiplicands) (before .values) s (ls .1)) (λ (x : U.Lookup × ℕ). value _)))
 
 books-numbered : (l : Limits) (n : ℕ) (before : H.Before) (s : List ℕ) (k : ℕ) → Numbered (K.books l before n s k)
 unfolding K.books

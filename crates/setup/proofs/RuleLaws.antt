@@ -12,7 +12,7 @@ use Rattle.reading.specs.Lists.{sum}
 use Rattle.reading.specs.Stand.{Each}
 use Rattle.limits.specs.declared.Limits.{Limits}
 use Rattle.rules.specs.Rules as Rule
-use Rattle.rules.proofs.Laws.{accepted-meets, meets-accepted}
+use Rattle.book_lengths.proofs.Verdict.{accepted-meets, meets-accepted}
 use Rattle.book.specs.Content.{Book}
 use Rattle.book_head.specs.Reading.{Before}
 use Rattle.books.specs.Reading.{andThis}
@@ -309,7 +309,7 @@ module _ (limits : Limits) (channels : ℕ) (c : Setup) where
         rule14 = record {
           book = books-each limits (λ before b x. le-leb _ _ (x .entries-book)) none (c .books) (v .books);
           entries = le-leb (0 + entriesInAll (c .books)) (limits .entries) (w .0);
-          multiplicands = le-leb (multiplicandsInAll (c .books)) (limits .multiplicands) (omega (arith, w .1));
+          multiplicands = le-leb (0 + multiplicandsInAll (c .books)) (limits .multiplicands) (w .1);
         };
       }
 
@@ -318,7 +318,7 @@ module _ (limits : Limits) (channels : ℕ) (c : Setup) where
   unfolding known booksKnown
   meets-valid d r =
       let e : 0 + entriesInAll (c .books) ≤ limits .entries = leb-true _ _ (r .rule14 .entries) in
-      let m : multiplicandsInAll (c .books) ≤ limits .multiplicands = leb-true _ _ (r .rule14 .multiplicands) in
+      let m : 0 + multiplicandsInAll (c .books) ≤ limits .multiplicands = leb-true _ _ (r .rule14 .multiplicands) in
       record {
         book-count = d .book-count;
         books = books-valid limits none (c .books) (d .books) (r .rule6) (r .rule7) (r .rule8) (r .rule14 .book) (omega arith) (omega arith);

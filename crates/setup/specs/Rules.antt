@@ -9,6 +9,7 @@ use lib.ListN.{length}
 use Rattle.reading.specs.Lists.{all, rows, sum}
 use Rattle.reading.specs.Stand.{Each}
 use Rattle.limits.specs.declared.Limits.{Limits}
+use Rattle.codeword_assignment.specs.Book.{used, firstRefused, freeAfter, isLone}
 use Rattle.rules.specs.Rules as Rule
 use Rattle.book.specs.Content.{Book}
 use Rattle.floor_class.specs.Content.{Class}
@@ -26,12 +27,12 @@ pub record Rule6 (b : Book) : Type 0 where
   pub entries : Rule.meets6 (Rule.entries (length (b .lengths))) ≡ true
   pub lookup : Rule.meets6 (Rule.lookupType (b .lookup)) ≡ true
 
--- 7 and 8, of a book
+-- 7 and 8, of a book, by the ledger
 abbrev pub Rule7 : Book → Type 0
-Rule7 b = Rule.meets7 (b .lengths) ≡ true
+Rule7 b = Rule.meets7 (firstRefused (b .lengths)) ≡ true
 
 abbrev pub Rule8 : Book → Type 0
-Rule8 b = Rule.meets8 (b .lengths) ≡ true
+Rule8 b = Rule.meets8 (freeAfter (b .lengths)) (isLone (used (b .lengths))) ≡ true
 
 -- 10, of a residue
 abbrev pub Rule10 : Residue → Type 0
@@ -88,7 +89,7 @@ multiplicandsInAll bs = sum (map (λ b. length (b .multiplicands)) bs)
 pub record Rule14 (limits : Limits) (bs : List Book) : Type 0 where
   pub book : Each (λ b. Rule.meets14 (Rule.bookEntries (limits .«book_entries») (length (b .lengths))) ≡ true) bs
   pub entries : Rule.meets14 (Rule.allEntries (limits .entries) 0 (entriesInAll bs)) ≡ true
-  pub multiplicands : Rule.meets14 (Rule.multiplicands (limits .multiplicands) (multiplicandsInAll bs)) ≡ true
+  pub multiplicands : Rule.meets14 (Rule.multiplicands (limits .multiplicands) 0 (multiplicandsInAll bs)) ≡ true
 
 pub record MeetsRules (limits : Limits) (channels : ℕ) (c : Setup) : Type 0 where
   pub rule6 : Each Rule6 (c .books)

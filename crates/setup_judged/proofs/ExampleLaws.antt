@@ -1,20 +1,25 @@
--- THE SETUP PACKET THAT IS ACCEPTED, and the two that are not: each section computed from the packet. The ledger is never computed: what it says of the lengths is in
--- 01's table of figures (crates/codespace/specs/Figures.antt). Assumes nothing.
+-- THE SETUP PACKET THAT IS ACCEPTED, and the two that are not: each section computed from the packet. The ledger is never computed: what it says of the lengths is
+-- computed by the model, whose answers are the ledger's. Assumes nothing.
 use Prim.Native.Nat.{ℕ}
 use native.Mathlib.Omega.{arith}
 use mathlib.Core.Bool.{true}
 use mathlib.Core.List.{List, [], _∷_}
-use mathlib.Core.Option.{some}
-use mathlib.Core.Path.{_≡_, refl}
+use mathlib.Core.Option.{Option, some}
+use mathlib.Core.Path.{_≡_, refl, ap, _∙_}
 use Rattle.reading.specs.Outcome.{refusal, ok, bad}
+use Rattle.reading.specs.Least.{lowest}
 use Rattle.reading.specs.Reader.{many, each, mapped}
 use Rattle.reading.specs.Lists.{listed, distinct, all, rows, sum}
 use Rattle.bits.specs.Field.{bitAt, valueAt, field}
 use Rattle.header.specs.Header.{exactly, commonHeader, framing}
 use Rattle.identification.specs.Sound.{isSound}
-use Rattle.codeword_assignment.specs.Book.{firstRefused}
-use Rattle.codeword_assignment.specs.Figures.{Figures}
-use Rattle.codeword_assignment.proofs.Figures.{figures}
+use Rattle.codespace.specs.Ledger.{isLength}
+use Rattle.codespace.specs.Claims.{accepted}
+use Rattle.codespace.specs.Blocks.{smallest, blockAbove, blockFor, enterAnswer, enterBlocks, runAnswers, emptyBlocks}
+use Rattle.codespace.proofs.Whole.{answers-are}
+use Rattle.codeword_assignment.specs.Book.{used, isUsed, isLone, firstRefused, verdict}
+use Rattle.codeword_assignment.specs.Book as B
+use Rattle.codeword_assignment.proofs.Computed.{verdictBy, verdict-is}
 use Rattle.book_head.specs.Reading as H
 use Rattle.book_lengths.specs.Reading as L
 use Rattle.book_lookup.specs.Reading as U
@@ -34,15 +39,22 @@ use Rattle.setup_judged.specs.Judged.{LedgerTakes, LeavesSpace, LengthsR
 use Rattle.setup_judged.specs.Example.{standard, identity, packet, content, refused7, refused8, AcceptsExample}
 use Rattle.setup_judged.proofs.JudgedLaws.{none-7, takes-8, number-0, number-7, number-8, judged-by-call}
 
--- 01's lines
+-- the verdict of lengths, by the model's answers
+by-model : (ls : List ℕ) → B.refusal (verdict ls) ≡ B.refusal (verdictBy ls (runAnswers emptyBlocks ls))
+by-model ls = ap B.refusal (verdict-is ls) ∙ ap (λ (os : List (Option ℕ)). B.refusal (verdictBy ls os)) (answers-are ls)
+
+-- lines of 01's table of figures
 taken : LedgerTakes (2 ∷ 1 ∷ 2 ∷ [])
-taken = number-0 (2 ∷ 1 ∷ 2 ∷ []) (figures .1 .1 .0 .number)
+unfolding lowest isUsed isLone used accepted runAnswers enterAnswer enterBlocks blockFor isLength blockAbove smallest emptyBlocks
+taken = number-0 (2 ∷ 1 ∷ 2 ∷ []) (by-model (2 ∷ 1 ∷ 2 ∷ []))
 
 left-over : LeavesSpace (1 ∷ 2 ∷ [])
-left-over = number-8 (1 ∷ 2 ∷ []) (figures .1 .1 .1 .0 .number)
+unfolding lowest isUsed isLone used accepted runAnswers enterAnswer enterBlocks blockFor isLength blockAbove smallest emptyBlocks
+left-over = number-8 (1 ∷ 2 ∷ []) (by-model (1 ∷ 2 ∷ []))
 
 one-too-many : (e : ℕ) × (firstRefused (2 ∷ 4 ∷ 4 ∷ 4 ∷ 4 ∷ 2 ∷ 3 ∷ 3 ∷ 1 ∷ []) ≡ some e)
-one-too-many = number-7 (2 ∷ 4 ∷ 4 ∷ 4 ∷ 4 ∷ 2 ∷ 3 ∷ 3 ∷ 1 ∷ []) (figures .1 .1 .1 .1 .1 .1 .1 .0 .number)
+unfolding lowest isUsed isLone used accepted runAnswers enterAnswer enterBlocks blockFor isLength blockAbove smallest emptyBlocks
+one-too-many = number-7 (2 ∷ 4 ∷ 4 ∷ 4 ∷ 4 ∷ 2 ∷ 3 ∷ 3 ∷ 1 ∷ []) (by-model (2 ∷ 4 ∷ 4 ∷ 4 ∷ 4 ∷ 2 ∷ 3 ∷ 3 ∷ 1 ∷ []))
 
 -- the packet's fields, section by section, up to the bit that each ends at
 header-read : commonHeader 5 packet ≡ ok 56

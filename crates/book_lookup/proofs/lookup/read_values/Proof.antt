@@ -59,7 +59,7 @@ same-length : tie.Need-same-length
 same-length c = search needs
 
 returns-3 : tie.Need-returns-3
-returns-3 c = (values-whole _ _ _ _ _ _ _ _ (c .before .before .before .before .before .before .before .before .before .read-parameters .ensures) (c .before .before .before .before .before .before .before .p .given .1) (search needs) (search needs) (search needs) (c .before .before .read-multiplicands .ensures) (search needs), search needs)
+returns-3 c = (values-whole _ _ _ _ _ _ _ _ (c .before .before .before .before .before .before .before .before .before .read-parameters .ensures) (c .before .before .before .before .before .before .before .p .given .1) (search needs) (search needs) (search needs) (search needs) (c .before .before .read-multiplicands .ensures) (search needs), search needs)
 
 pub read-values-spec : {M : Type 1} → statement M
 read-values-spec =

@@ -1,5 +1,5 @@
--- The table of figures, proved of the ledger, which cannot be computed, by way of the model, which can: one computed test over all lines.
--- Assumes nothing.
+-- A book's codewords, verdict and free strings from the answers to its lengths, each in its place. The ledger's answers cannot be computed; the model's, which
+-- are the same, can: so worked figures are computed by these laws. Assumes nothing.
 use mathlib.Core.Bool.{Bool, true, false, cond, not, _&&_, _||_}
 use mathlib.Core.List.{List, [], _∷_, map}
 use mathlib.Core.Option.{Option, none, some}
@@ -20,13 +20,12 @@ use Rattle.codespace.specs.Answers.{isNone}
 use Rattle.codeword_assignment.specs.Book.{used, isUsed, entryAnswer, orZero, isRefused, firstRefused, codewordOf, codewords, freeAfter, isLone, refusedOr, verdict, refusal}
 use Rattle.codeword_assignment.specs.declared.book.Assigned.{Assigned}
 use Rattle.codeword_assignment.specs.declared.book.Assigned.the-variants.{Accepted, Underspecified}
-use Rattle.codeword_assignment.specs.Figures.{Line, Holds, Every, table, Figures}
 use Rattle.codespace.proofs.Whole.{answers-are, balance}
 use Rattle.codespace.proofs.Claimed.{answers-at, answers-length}
 use Rattle.codeword_assignment.proofs.Laws.{after-used, handed-before, codewords-length, codewords-at}
 
 -- a book's codewords, verdict and free strings, from the answers os to its lengths
-abbrev verdictBy : List ℕ → List (Option ℕ) → Assigned
+abbrev pub verdictBy : List ℕ → List (Option ℕ) → Assigned
 verdictBy ls os =
     refusedOr (lowest (λ e. isUsed ls e && isNone (getD os e none)) (length ls))
     (cond (eqb (4294967296 - accepted ls os) 0 || isLone (used ls)) Accepted Underspecified)
@@ -53,11 +52,11 @@ module _ (ls : List ℕ) where
       let l : e < length ls = rw (codewords-length ls) at h in
       codewords-at ls e l ∙ word-is e ∙ ap orZero (entry-is e l) ∙ sym (List·getD-map orZero (answers [] ls) e none))
 
-  free-is : freeAfter ls ≡ 4294967296 - accepted ls (answers [] ls)
+  pub free-is : freeAfter ls ≡ 4294967296 - accepted ls (answers [] ls)
   unfolding freeAfter
   free-is = let b = balance ls in rw (after-used ls []) (omega arith)
 
-  verdict-is : verdict ls ≡ verdictBy ls (answers [] ls)
+  pub verdict-is : verdict ls ≡ verdictBy ls (answers [] ls)
   unfolding verdict firstRefused
   verdict-is =
       rw (
@@ -65,56 +64,3 @@ module _ (ls : List ℕ) where
             (λ e h. unfold isRefused in rw (entry-is e h)),
         free-is,
       )
-
-same : List ℕ → List ℕ → Bool
-same [] [] = true
-same [] (y ∷ ys) = false
-same (x ∷ xs) [] = false
-same (x ∷ xs) (y ∷ ys) = eqb x y && same xs ys
-
-same-is : (xs ys : List ℕ) → same xs ys ≡ true → xs ≡ ys
-unfolding same
-same-is [] [] t = refl
-same-is [] (y ∷ ys) t = let z : _≡_ {A = ℕ} 0 1 = cc in absurd (omega arith)
-same-is (x ∷ xs) [] t = let z : _≡_ {A = ℕ} 0 1 = cc in absurd (omega arith)
-same-is (x ∷ xs) (y ∷ ys) t =
-    let p = and-split (eqb x y) (same xs ys) t in
-    rw (eqb-true x y (p .0), same-is xs ys (p .1))
-
--- a line's test, on the answers to its lengths
-test : Line → List (Option ℕ) → Bool
-test l os =
-    eqb (refusal (verdictBy (l .lengths) os)) (l .number)
-    && (same (map orZero os) (l .words) && eqb (4294967296 - accepted (l .lengths) os) (l .free))
-
-test-holds : (l : Line) → test l (answers [] (l .lengths)) ≡ true → Holds l
-unfolding test
-test-holds l t =
-    let os = answers [] (l .lengths) in
-    let a = eqb (refusal (verdictBy (l .lengths) os)) (l .number) in
-    let b = same (map orZero os) (l .words) in
-    let c = eqb (4294967296 - accepted (l .lengths) os) (l .free) in
-    let p = and-split a (b && c) t in
-    let q = and-split b c (p .1) in
-    record {
-      number = ap refusal (verdict-is (l .lengths)) ∙ eqb-true _ _ (p .0);
-      words = codewords-are (l .lengths) ∙ same-is _ _ (q .0);
-      free = free-is (l .lengths) ∙ eqb-true _ _ (q .1);
-    }
-
--- every line passes, with the model's answers
-tests : List Line → Bool
-tests [] = true
-tests (l ∷ ls) = test l (runAnswers emptyBlocks (l .lengths)) && tests ls
-
-tests-hold : (ls : List Line) → tests ls ≡ true → Every ls
-unfolding tests
-tests-hold [] t = tt
-tests-hold (l ∷ ls) t =
-    let p = and-split (test l (runAnswers emptyBlocks (l .lengths))) (tests ls) t in
-    (test-holds l (rw (answers-are (l .lengths)) at (p .0)), tests-hold ls (p .1))
-
-pub figures : Figures
-figures =
-    tests-hold table
-    (unfold tests test same lowest isUsed isLone used accepted runAnswers enterAnswer enterBlocks blockFor isLength blockAbove smallest emptyBlocks in refl)
