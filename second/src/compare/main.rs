@@ -82,6 +82,7 @@ fn rounds(seed: u64, count: u64, report: &mut Report) -> Result<u64, String> {
     sound::boundaries(&mut Random::new(seed), report).map_err(with_seed(seed))?;
     codewords::boundaries(report).map_err(with_seed(seed))?;
     setup::boundaries(&mut Random::new(seed), report).map_err(with_seed(seed))?;
+    codeword::boundaries(&mut Random::new(seed), report).map_err(with_seed(seed))?;
     let mut rounds = 0;
     while rounds == 0 || report.calls() < count {
         let seed = seed.wrapping_add(rounds);
