@@ -13,42 +13,51 @@ use second::ledger;
 const FILLING: u32 = 0xA5A5_A5A5;
 
 /// Lists up to this length are handed to the plain ledger too.
-const PLAIN_LEDGER_ENTRIES: usize = 600;
+pub const PLAIN_LEDGER_ENTRIES: usize = 600;
 
 /// The most entries a book may have (01, row 14).
 pub const MOST_ENTRIES: u32 = 8_192;
 
-/// The second program's answer. A lent list that has not just a place for each entry is
-/// 17, which is the library's choice where the list is too long.
-fn second_answer(lengths: &[u8], places: usize) -> Given<Vec<u32>> {
-    let refused = |number| Given { answer: Answer::Number(number), left: vec![0; places] };
-    if places != lengths.len() {
-        return refused(17);
+/// Codewords in a list of so many places, zeros behind them and on a refusal.
+fn in_places(words: Result<Vec<u32>, u32>, places: usize) -> Given<Vec<u32>> {
+    let (number, mut left) = match words {
+        Ok(words) => (0, words),
+        Err(number) => (number, Vec::new()),
+    };
+    left.resize(places, 0);
+    Given { answer: Answer::Number(number), left }
+}
+
+/// The second program's answer: 17 goes first, where there is not a place for each entry.
+fn second_answer(lengths: &[u8], places: usize) -> Result<Vec<u32>, u32> {
+    if places < lengths.len() {
+        return Err(17);
     }
     match verdict(lengths) {
         Verdict::Accepted(words) => {
-            let words = words.into_iter().map(|word| word.map_or(0, |word| word.bits));
-            Given { answer: Answer::Number(0), left: words.collect() }
+            Ok(words.into_iter().map(|word| word.map_or(0, |word| word.bits)).collect())
         }
-        Verdict::Exceeds { .. } => refused(7),
-        Verdict::LeftOver { .. } => refused(8),
+        Verdict::Exceeds { .. } => Err(7),
+        Verdict::LeftOver { .. } => Err(8),
     }
 }
 
-/// The same by the plain ledger, where there is a place for each entry.
-fn ledger_answer(lengths: &[u8]) -> Given<Vec<u32>> {
-    let refused = |number| Given { answer: Answer::Number(number), left: vec![0; lengths.len()] };
+/// The same by the plain ledger.
+fn ledger_answer(lengths: &[u8], places: usize) -> Result<Vec<u32>, u32> {
+    if places < lengths.len() {
+        return Err(17);
+    }
     let used: Vec<u32> = lengths.iter().copied().filter(|&length| length != 0).map(u32::from).collect();
     let (answers, free) = ledger::answers(&used);
     if answers.contains(&None) {
-        return refused(7);
+        return Err(7);
     }
     if free != 0 && used != [1] {
-        return refused(8);
+        return Err(8);
     }
     let mut words = answers.into_iter().flatten();
     let word_of = |&length| if length == 0 { 0 } else { words.next().map_or(0, |word| word.bits) };
-    Given { answer: Answer::Number(0), left: lengths.iter().map(word_of).collect() }
+    Ok(lengths.iter().map(word_of).collect())
 }
 
 /// Hands one list of lengths to both, with so many places for the codewords.
@@ -56,9 +65,10 @@ pub fn lengths_into(lengths: &[u8], places: usize, report: &mut Report) -> Resul
     let (number, words) = lend(places, FILLING, |words| library::codewords(lengths, words));
     let library = Given { answer: Answer::Number(number), left: words };
     let input = || format!("lengths {} into {places} places", hex(lengths, 2));
-    report.compare(Call::Codewords, &library, &second_answer(lengths, places), input)?;
-    if places == lengths.len() && places <= PLAIN_LEDGER_ENTRIES {
-        let plain = ledger_answer(lengths);
+    let second = in_places(second_answer(lengths, places), places);
+    report.compare(Call::Codewords, &library, &second, input)?;
+    if lengths.len() <= PLAIN_LEDGER_ENTRIES {
+        let plain = in_places(ledger_answer(lengths, places), places);
         if plain != library {
             return Err(format!("the plain ledger differs, {}\n  {plain:?}\n  {library:?}", input()));
         }
@@ -74,9 +84,11 @@ pub fn lengths(lengths: &[u8], report: &mut Report) -> Result<(), String> {
 /// The lists that random ones would hardly be.
 pub fn boundaries(report: &mut Report) -> Result<(), String> {
     let most = MOST_ENTRIES as usize;
-    lengths(&[], report)?;
-    lengths_into(&[], 1, report)?;
-    lengths_into(&[1], 0, report)?;
+    for places in 0..4 {
+        for list in [&[][..], &[1], &[1, 1], &[1, 1, 1], &[2, 2], &[0, 1], &[0], &[33]] {
+            lengths_into(list, places, report)?;
+        }
+    }
     for length in 0..=u8::MAX {
         lengths(&[length], report)?;
         lengths(&[0, length, 0], report)?;
@@ -106,7 +118,9 @@ pub fn round(random: &mut Random, report: &mut Report) -> Result<(), String> {
         around_full(&full_book(random), random, report)?;
         sole_entries(random, report)?;
         for _ in 0..8 {
-            lengths(&random_lengths(random), report)?;
+            let list = random_lengths(random);
+            lengths(&list, report)?;
+            lengths_into(&list, random.place(2 * list.len() + 2), report)?;
         }
     }
     Ok(())
