@@ -42,6 +42,7 @@ pub struct CodewordAnswer {
 extern "C" {
     fn torchvalley_identification(packet: *const u8, length: usize) -> IdentityAnswer;
     fn torchvalley_identity_sound(identity: Identity) -> bool;
+    fn torchvalley_enter_lengths(lengths: *const u8, count: usize, answers: *mut u64, places: usize) -> u32;
     fn torchvalley_codewords(lengths: *const u8, entries: usize, words: *mut u32, places: usize) -> u32;
     fn torchvalley_floor_points(
         x: *const u16,
@@ -151,6 +152,11 @@ pub fn identification(packet: &[u8]) -> IdentityAnswer {
 pub fn identity_sound(identity: Identity) -> bool {
     // SAFETY: nothing is lent.
     unsafe { torchvalley_identity_sound(identity) }
+}
+
+pub fn enter_lengths(lengths: &[u8], answers: &mut [u64]) -> u32 {
+    // SAFETY: each pointer stands beside the length of its slice; `answers` is lent alone.
+    unsafe { torchvalley_enter_lengths(lengths.as_ptr(), lengths.len(), answers.as_mut_ptr(), answers.len()) }
 }
 
 pub fn codewords(lengths: &[u8], words: &mut [u32]) -> u32 {
