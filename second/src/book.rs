@@ -59,15 +59,21 @@ pub fn verdict(lengths: &[u8]) -> Verdict {
         }
     }
     let strings = space.free_strings();
-    if strings == 0 || used_lengths(lengths).eq([1]) {
+    if strings == 0 || sole_entry(lengths).is_some() {
         Verdict::Accepted(codewords)
     } else {
         Verdict::LeftOver { strings }
     }
 }
 
-fn used_lengths(lengths: &[u8]) -> impl Iterator<Item = u8> + '_ {
-    lengths.iter().copied().filter(|&length| length != 0)
+/// The number of a sole used entry of length 1, which is taken though it leaves space
+/// over (01, row 8).
+pub fn sole_entry(lengths: &[u8]) -> Option<u32> {
+    let mut used = (0..).zip(lengths).filter(|&(_, &length)| length != 0);
+    match (used.next(), used.next()) {
+        (Some((entry, 1)), None) => Some(entry),
+        _ => None,
+    }
 }
 
 /// Reads one codeword of the book with these entry lengths: the entry and the

@@ -14,6 +14,7 @@
 //! | identification packet | [`identification`] |
 //! | the plain ledger of codewords | [`ledger`] |
 //! | entering lengths quickly | [`space`] |
+//! | counting strings, the balance of answers | [`strings`] |
 //! | books, codewords | [`book`] |
 //! | floor 1 | [`floor`] |
 //! | residues | [`residue`] |
@@ -47,5 +48,6 @@ pub mod residue;
 pub mod rules;
 pub mod setup;
 pub mod space;
+pub mod strings;
 pub mod tables;
 pub mod write;

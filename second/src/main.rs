@@ -69,7 +69,10 @@ fn check_generated(seed: &str, count: &str) -> Outcome {
     let (seed, count) = (seed.parse()?, count.parse()?);
     let seen = generated::check_seeds(seed, count)?;
     println!("generated: seed {seed}, streams {}, {}", seen.streams, seen.packets);
-    println!("generated: words {}, codewords read singly {}", seen.words, seen.codewords);
+    println!(
+        "generated: words {}, codewords read singly {}, lengths entered {}",
+        seen.words, seen.codewords, seen.lengths
+    );
     match seen.packets.missing()[..] {
         [] => Ok(()),
         ref missing => Err(format!("refusals never given: {missing:?}").into()),

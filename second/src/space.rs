@@ -44,3 +44,10 @@ impl CodeSpace {
         sizes.map(|size| STRINGS >> size).sum()
     }
 }
+
+/// The answer to each length of a list that is entered from an empty space: the codeword,
+/// or `None` where it is refused, which changes nothing.
+pub fn answers(lengths: &[u8]) -> Vec<Option<Codeword>> {
+    let mut space = CodeSpace::default();
+    lengths.iter().map(|&length| space.enter(length.into())).collect()
+}

@@ -1,14 +1,16 @@
 //! A setup's content laid out as ten tables of numbers, as docs/TABLES.md has them: each
 //! filled from the front, zeros behind what is written.
 
-use crate::book::{verdict, Book, Verdict};
+use crate::book::{sole_entry, verdict, Book, Verdict};
 use crate::floor::{Class, Floor, GREATEST_X_COUNT};
 use crate::mapping::{Mapping, Mode};
 use crate::residue::{Residue, PASSES};
 use crate::setup::Setup;
 
-/// Numbers of a book's row, and the most books there are.
-pub const BOOK_ROW: usize = 10;
+/// Numbers of a book's row, the place in it for a sole used entry, and the most books
+/// there are.
+pub const BOOK_ROW: usize = 11;
+pub const BOOK_SOLE_ENTRY: usize = 10;
 pub const MOST_BOOKS: usize = 256;
 
 /// The most floors, residues, mappings and modes, of each.
@@ -216,6 +218,7 @@ fn lay_books(tables: &mut Tables, books: &[Book]) {
     for (book, row) in books.iter().zip(tables.books.chunks_exact_mut(BOOK_ROW)) {
         put(row, &[book.dimensions(), book.entries(), entries as u32]);
         row[9] = multiplicands as u32;
+        row[BOOK_SOLE_ENTRY] = sole_entry(book.lengths()).map_or(0, |entry| entry + 1);
         put(&mut tables.lengths[entries..], book.lengths());
         put(&mut tables.codewords[entries..], &codewords(book.lengths()));
         entries += book.lengths().len();

@@ -1,5 +1,6 @@
 //! The ten tables of a setup (docs/TABLES.md), and their recogniser.
 
+use second::book::{sole_entry, Book};
 use second::generate::content;
 use second::generate::fields::{base, IDENTITY};
 use second::generate::random::Random;
@@ -7,7 +8,7 @@ use second::generate::Stream;
 use second::identification::Identity;
 use second::limits::Limits;
 use second::recognise::recognise;
-use second::setup::setup;
+use second::setup::{setup, Setup};
 use second::tables::{tables, Tables, COUNT, NEEDS};
 use second::write::write_setup;
 
@@ -26,7 +27,7 @@ fn holds<T: Copy + Into<u32>>(table: &[T], parts: &[(usize, &[u32])]) -> bool {
 
 #[test]
 fn every_table_has_its_fixed_need() {
-    assert_eq!(NEEDS, [5, 2_560, 16_384, 16_384, 16_384, 17_728, 384, 32_768, 51_456, 128]);
+    assert_eq!(NEEDS, [5, 2_816, 16_384, 16_384, 16_384, 17_728, 384, 32_768, 51_456, 128]);
     assert_eq!(small().places(), NEEDS);
 }
 
@@ -35,7 +36,7 @@ fn the_tables_of_a_small_setup() {
     let small = small();
     assert_eq!(small.counts, [2, 1, 1, 1, 3]);
     let books: [&[u32]; 2] = [&[1, 2, 0, 0], &[2, 4, 2, 1, 0x6280_0001, 0xE280_0001, 3, 1, 2, 0]];
-    assert!(holds(&small.books, &[(0, books[0]), (10, books[1])]));
+    assert!(holds(&small.books, &[(0, books[0]), (11, books[1])]));
     assert!(holds(&small.lengths, &[(0, &[1, 1, 2, 2, 2, 2])]));
     assert!(holds(&small.codewords, &[(0, &[0, 1, 0, 1, 2, 3])]));
     assert!(holds(&small.multiplicands, &[(0, &[5, 7])]));
@@ -48,26 +49,74 @@ fn the_tables_of_a_small_setup() {
     assert!(holds(&small.modes, &[(0, &[0, 0, 1, 0, 0, 0])]));
 }
 
+/// The small setup with a first book of other lengths.
+fn with_first_book(lengths: &[u8]) -> Setup {
+    let mut setup = base().read().expect("accepted");
+    setup.books[0] = Book::new(1, lengths.to_vec(), None).expect("a book");
+    setup
+}
+
+#[test]
+fn a_sole_used_entry_stands_in_its_books_row_as_its_number_plus_one() {
+    let books: [(&[u8], u32); 7] = [
+        (&[1, 0], 1),
+        (&[0, 1], 2),
+        (&[0, 0, 1, 0], 3),
+        (&[1, 1], 0),
+        (&[0, 1, 1], 0),
+        (&[1, 0, 2, 2], 0),
+        (&[2, 1, 2], 0),
+    ];
+    for (lengths, number) in books {
+        let content = with_first_book(lengths);
+        let mut tables = tables(&content);
+        assert_eq!((tables.books[10], tables.books[21]), (number, 0), "{lengths:?}");
+        assert_eq!(recognise(&IDENTITY, &tables), Some(content));
+        for other in (0..=5).chain([256, u32::MAX]).filter(|&other| other != number) {
+            tables.books[10] = other;
+            assert_eq!(recognise(&IDENTITY, &tables), None, "{lengths:?} with {other}");
+        }
+    }
+}
+
+#[test]
+fn a_sole_entry_has_length_1() {
+    assert_eq!(sole_entry(&[0, 0, 1]), Some(2));
+    let others: [&[u8]; 6] = [&[], &[0], &[2], &[0, 32, 0], &[1, 1], &[1, 0, 255]];
+    assert!(others.iter().all(|lengths| sole_entry(lengths).is_none()));
+}
+
+#[test]
+fn a_sole_entry_that_moves_takes_its_number_along() {
+    let mut tables = tables(&with_first_book(&[0, 1, 0]));
+    tables.lengths[..3].copy_from_slice(&[0, 0, 1]);
+    assert!(recognise(&IDENTITY, &tables).is_none());
+    tables.books[10] = 3;
+    assert_eq!(recognise(&IDENTITY, &tables), Some(with_first_book(&[0, 0, 1])));
+}
+
 #[test]
 fn later_books_begin_where_the_earlier_end() {
     let setup = content::largest_setup(&mut Random::new(1), &IDENTITY);
     let tables = tables(&setup);
     assert_eq!(tables.counts, [256, 64, 64, 64, 64]);
     assert_eq!(
-        tables.books[2_550..],
+        tables.books[2_805..],
         [
             1,
             64,
             510,
             2,
-            tables.books[2_554],
-            tables.books[2_555],
-            tables.books[2_556],
-            tables.books[2_557],
+            tables.books[2_809],
+            tables.books[2_810],
+            tables.books[2_811],
+            tables.books[2_812],
             64,
-            510
+            510,
+            0
         ]
     );
+    assert!(tables.books.chunks(11).take(255).all(|row| row[10] == 2), "the second of two entries");
     assert_eq!(tables.residues[5], 255);
     assert_eq!(tables.mappings[..4], [0, 1, 16, 0]);
     assert_eq!(tables.floors[..5], [31, 16, tables.floors[2], 15, 65]);
@@ -118,11 +167,11 @@ fn changed(table: usize, place: usize, number: u32) -> bool {
 
 #[test]
 fn one_number_changed_is_another_content_or_none() {
-    assert!(changed(1, 14, 0), "the least value is any word");
+    assert!(changed(1, 15, 0), "the least value is any word");
     assert!(changed(4, 0, 7), "a multiplicand of 3 bits");
     assert!(!changed(4, 0, 8), "one of 4 bits");
-    assert!(!changed(1, 17, 2), "a flag is 0 or 1");
-    assert!(!changed(1, 12, 3), "where a book begins");
+    assert!(!changed(1, 18, 2), "a flag is 0 or 1");
+    assert!(!changed(1, 13, 3), "where a book begins");
     assert!(!changed(2, 2, 3), "space is left over");
     assert!(!changed(3, 2, 1), "a codeword of another entry");
     assert!(changed(5, 214, 17) && !changed(5, 214, 8), "X values differ");

@@ -1,11 +1,13 @@
 //! Generated streams: what was written is read, a cut packet stands as 01 says,
-//! refusals leave nothing behind, and the ledger agrees with the books.
+//! refusals leave nothing behind, and the ledger agrees with the books and with lengths that
+//! are entered one by one.
 
 use super::{claim, hex, Counts};
 use crate::audio::{audio, Answer, Tally};
 use crate::bits::read_field;
 use crate::book::{read_codeword, verdict, Book, Verdict};
 use crate::floor::{curve, final_y, range};
+use crate::generate::content::lengths_to_enter;
 use crate::generate::packet::AudioPacket;
 use crate::generate::random::Random;
 use crate::generate::{spoilt, Stream};
@@ -17,6 +19,8 @@ use crate::recognise::recognise;
 use crate::refusal::Refusal;
 use crate::rules::meets_every_rule;
 use crate::setup::{setup, Setup};
+use crate::space;
+use crate::strings::balance;
 use crate::tables::tables;
 use crate::write::{write_setup, BitWriter};
 
@@ -37,6 +41,7 @@ pub struct Seen {
     pub packets: Counts,
     pub words: u64,
     pub codewords: u64,
+    pub lengths: u64,
 }
 
 /// Checks the streams of `seed`, `seed + 1` and so on, until so many packets have
@@ -78,7 +83,7 @@ impl Check {
         for packet in &stream.audio {
             self.audio(stream, packet, &mut tally, random)?;
         }
-        Ok(())
+        self.entering(&lengths_to_enter(random))
     }
 
     fn identification(&mut self, stream: &Stream, random: &mut Random) -> Result<(), String> {
@@ -153,6 +158,16 @@ impl Check {
             self.seen.codewords += 1;
         }
         Ok(())
+    }
+
+    /// The answers to lengths entered one by one are the ledger's, and balance.
+    fn entering(&mut self, lengths: &[u8]) -> Result<(), String> {
+        self.seen.lengths += lengths.len() as u64;
+        let answers = space::answers(lengths);
+        let wide: Vec<u32> = lengths.iter().map(|&length| length.into()).collect();
+        let plain = ledger::answers(&wide).0;
+        claim(plain == answers, || format!("lengths {lengths:?}: {answers:?}, the ledger {plain:?}"))?;
+        balance(lengths, &answers).map_err(|fault| format!("lengths {lengths:?}: {fault}"))
     }
 
     fn audio(

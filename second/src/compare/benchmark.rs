@@ -18,6 +18,7 @@ use second::ogg;
 use second::recognise::recognise;
 use second::records::Kind;
 use second::setup::setup;
+use second::space::answers;
 use second::tables::tables;
 use std::error::Error;
 use std::fs;
@@ -62,6 +63,7 @@ pub fn run(input: &str, side: &str, times: &str) -> Result<(), Box<dyn Error>> {
 fn call(input: &str, side: Side) -> Result<Box<dyn FnMut()>, Box<dyn Error>> {
     Ok(match input {
         "identification" => identification_call(side),
+        "enter_lengths" => enter_lengths_call(side),
         "codewords" => codewords_call(side),
         "points" => points_call(side),
         "curve1024" => curve_call(side, 1_024),
@@ -83,11 +85,29 @@ fn identification_call(side: Side) -> Box<dyn FnMut()> {
     }
 }
 
-/// A full book of 8,192 entries in any order.
-fn codewords_call(side: Side) -> Box<dyn FnMut()> {
+/// The lengths of a full book of 8,192 entries in any order.
+fn book_lengths() -> Vec<u8> {
     let random = &mut Random::new(SEED);
     let mut lengths = complete_lengths(random, codewords::MOST_ENTRIES);
     random.shuffle(&mut lengths);
+    lengths
+}
+
+fn enter_lengths_call(side: Side) -> Box<dyn FnMut()> {
+    let lengths = book_lengths();
+    let mut given = vec![0; lengths.len()];
+    match side {
+        Side::Library => Box::new(move || {
+            black_box(library::enter_lengths(black_box(&lengths), black_box(&mut given)));
+        }),
+        Side::Second => Box::new(move || {
+            black_box(answers(black_box(&lengths)));
+        }),
+    }
+}
+
+fn codewords_call(side: Side) -> Box<dyn FnMut()> {
+    let lengths = book_lengths();
     let mut words = vec![0; lengths.len()];
     match side {
         Side::Library => Box::new(move || {

@@ -1,15 +1,18 @@
 //! The call that reads one codeword of a book in the tables: the number, the entry and the
-//! place behind its codeword.
+//! place behind its codeword, which is settled as a byte and a bit below 8.
 
+use crate::identification::in_library_form;
 use crate::library::{self, CodewordAnswer, Identity};
 use crate::report::{hex, Answer, Call, Given, Report};
 use crate::setup_sound::in_words;
 use crate::sound;
 use second::bits::Cursor;
+use second::book::Book;
+use second::generate::fields::{base, IDENTITY};
 use second::generate::random::Random;
 use second::recognise::recognise;
 use second::setup::Setup;
-use second::tables::{tables, Tables, COUNT, NEEDS};
+use second::tables::{tables, Tables, BOOK_ROW, BOOK_SOLE_ENTRY, COUNT, NEEDS};
 
 /// Where a codeword is read.
 #[derive(Clone, Debug)]
@@ -87,10 +90,40 @@ pub fn around(
     let longer = exact.clone().resized(&NEEDS.map(|need| need + random.place(5)));
     read_any(identity, &longer, &place, report)?;
     let mut spoilt = exact;
+    for book in [place.book as usize, random.place(content.books.len())] {
+        let sole = book * BOOK_ROW + BOOK_SOLE_ENTRY;
+        if sole < spoilt.books.len() {
+            let old = spoilt.books[sole];
+            spoilt.books[sole] ^= 1 << random.below(4);
+            read_any(identity, &spoilt, &place, report)?;
+            spoilt.books[sole] = old;
+        }
+    }
     let table = random.place(COUNT);
     spoilt.set(table, random.place(NEEDS[table]), random.below(300));
     read_any(identity, &spoilt, &place, report)?;
     read_any(identity, &Tables::zero(&NEEDS), &place, report)
+}
+
+/// A sole entry and other books, from every bit a byte can count, in, at and past the end.
+pub fn boundaries(random: &mut Random, report: &mut Report) -> Result<(), String> {
+    let identity = in_library_form(&IDENTITY);
+    let mut content = base().read().map_err(|refusal| format!("{refusal:?}"))?;
+    content.books[0] = Book::new(1, vec![0, 1, 0], None).map_err(|verdict| format!("{verdict:?}"))?;
+    let tables = tables(&content);
+    for length in [0, 1, 33] {
+        let packet = random.bytes(length);
+        for byte in [0, 1, length.saturating_sub(2), length, length + 1, 1 << 61, usize::MAX - 31, usize::MAX]
+        {
+            for bit in 0..=u8::MAX {
+                for book in 0..2 {
+                    let place = Place { book, packet: &packet, byte, bit };
+                    read(identity, &tables, Some(&content), &place, report)?;
+                }
+            }
+        }
+    }
+    Ok(())
 }
 
 /// Reads one codeword of tables that may be unsound.

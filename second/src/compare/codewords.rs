@@ -1,6 +1,5 @@
-//! The codewords of a book's entries, and the answers to the same lengths entered one by
-//! one: the number and every place of the lent list, zeros on a refusal and behind what
-//! is used.
+//! The codewords of a book's entries: the number and every place of the lent list, zeros
+//! on a refusal.
 
 use crate::lent::lend;
 use crate::library;
@@ -8,88 +7,68 @@ use crate::report::{hex, Answer, Call, Given, Report};
 use second::book::{verdict, Verdict};
 use second::generate::content::{arrange, complete_lengths};
 use second::generate::random::Random;
-use second::ledger::{self, Codeword, STRINGS};
-use second::space::CodeSpace;
+use second::ledger;
 
 /// What lent places hold before a call.
 const FILLING: u32 = 0xA5A5_A5A5;
 
 /// Lists up to this length are handed to the plain ledger too.
-const PLAIN_LEDGER_ENTRIES: usize = 600;
+pub const PLAIN_LEDGER_ENTRIES: usize = 600;
 
 /// The most entries a book may have (01, row 14).
 pub const MOST_ENTRIES: u32 = 8_192;
 
-/// The second program's answer. A lent list with fewer places than entries is 17; one with
-/// more has zeros behind.
-fn second_answer(lengths: &[u8], places: usize) -> Given<Vec<u32>> {
-    let refused = |number| Given { answer: Answer::Number(number), left: vec![0; places] };
+/// Codewords in a list of so many places, zeros behind them and on a refusal.
+fn in_places(words: Result<Vec<u32>, u32>, places: usize) -> Given<Vec<u32>> {
+    let (number, mut left) = match words {
+        Ok(words) => (0, words),
+        Err(number) => (number, Vec::new()),
+    };
+    left.resize(places, 0);
+    Given { answer: Answer::Number(number), left }
+}
+
+/// The second program's answer: 17 goes first, where there is not a place for each entry.
+fn second_answer(lengths: &[u8], places: usize) -> Result<Vec<u32>, u32> {
     if places < lengths.len() {
-        return refused(17);
+        return Err(17);
     }
     match verdict(lengths) {
         Verdict::Accepted(words) => {
-            let mut left: Vec<u32> = words.into_iter().map(|word| word.map_or(0, |word| word.bits)).collect();
-            left.resize(places, 0);
-            Given { answer: Answer::Number(0), left }
+            Ok(words.into_iter().map(|word| word.map_or(0, |word| word.bits)).collect())
         }
-        Verdict::Exceeds { .. } => refused(7),
-        Verdict::LeftOver { .. } => refused(8),
+        Verdict::Exceeds { .. } => Err(7),
+        Verdict::LeftOver { .. } => Err(8),
     }
 }
 
-/// The same by the plain ledger, where there is a place for each entry.
-fn ledger_answer(lengths: &[u8]) -> Given<Vec<u32>> {
-    let refused = |number| Given { answer: Answer::Number(number), left: vec![0; lengths.len()] };
+/// The same by the plain ledger.
+fn ledger_answer(lengths: &[u8], places: usize) -> Result<Vec<u32>, u32> {
+    if places < lengths.len() {
+        return Err(17);
+    }
     let used: Vec<u32> = lengths.iter().copied().filter(|&length| length != 0).map(u32::from).collect();
     let (answers, free) = ledger::answers(&used);
     if answers.contains(&None) {
-        return refused(7);
+        return Err(7);
     }
     if free != 0 && used != [1] {
-        return refused(8);
+        return Err(8);
     }
     let mut words = answers.into_iter().flatten();
     let word_of = |&length| if length == 0 { 0 } else { words.next().map_or(0, |word| word.bits) };
-    Given { answer: Answer::Number(0), left: lengths.iter().map(word_of).collect() }
-}
-
-/// The second program's answers to lengths entered one by one, unused entries among them:
-/// the codeword, or 2^32 for a refusal.
-fn second_entered(lengths: &[u8], places: usize) -> Given<Vec<u64>> {
-    let number = |answer: Option<Codeword>| answer.map_or(STRINGS, |word| word.bits.into());
-    if places < lengths.len() {
-        return Given { answer: Answer::Number(17), left: vec![0; places] };
-    }
-    let lengths = lengths.iter().copied().map(u32::from);
-    let mut left: Vec<u64> = if lengths.len() <= PLAIN_LEDGER_ENTRIES {
-        ledger::answers(&lengths.collect::<Vec<u32>>()).0.into_iter().map(number).collect()
-    } else {
-        let mut space = CodeSpace::default();
-        lengths.map(|length| number(space.enter(length))).collect()
-    };
-    left.resize(places, 0);
-    Given { answer: Answer::Number(0), left }
-}
-
-/// Has both enter one list of lengths, with so many places for the answers.
-fn entered_into(lengths: &[u8], places: usize, report: &mut Report) -> Result<(), String> {
-    let filling = u64::from(FILLING);
-    let (number, answers) = lend(places, filling, |answers| library::enter_lengths(lengths, answers));
-    let library = Given { answer: Answer::Number(number), left: answers };
-    let input = || format!("lengths {} into {places} places", hex(lengths, 2));
-    report.compare(Call::EnterLengths, &library, &second_entered(lengths, places), input)
+    Ok(lengths.iter().map(word_of).collect())
 }
 
 /// Hands one list of lengths to both, with so many places for the codewords.
 pub fn lengths_into(lengths: &[u8], places: usize, report: &mut Report) -> Result<(), String> {
-    entered_into(lengths, places, report)?;
     let (number, words) = lend(places, FILLING, |words| library::codewords(lengths, words));
     let library = Given { answer: Answer::Number(number), left: words };
     let input = || format!("lengths {} into {places} places", hex(lengths, 2));
-    report.compare(Call::Codewords, &library, &second_answer(lengths, places), input)?;
-    if places == lengths.len() && places <= PLAIN_LEDGER_ENTRIES {
-        let plain = ledger_answer(lengths);
+    let second = in_places(second_answer(lengths, places), places);
+    report.compare(Call::Codewords, &library, &second, input)?;
+    if lengths.len() <= PLAIN_LEDGER_ENTRIES {
+        let plain = in_places(ledger_answer(lengths, places), places);
         if plain != library {
             return Err(format!("the plain ledger differs, {}\n  {plain:?}\n  {library:?}", input()));
         }
@@ -105,9 +84,11 @@ pub fn lengths(lengths: &[u8], report: &mut Report) -> Result<(), String> {
 /// The lists that random ones would hardly be.
 pub fn boundaries(report: &mut Report) -> Result<(), String> {
     let most = MOST_ENTRIES as usize;
-    lengths(&[], report)?;
-    lengths_into(&[], 1, report)?;
-    lengths_into(&[1], 0, report)?;
+    for places in 0..4 {
+        for list in [&[][..], &[1], &[1, 1], &[1, 1, 1], &[2, 2], &[0, 1], &[0], &[33]] {
+            lengths_into(list, places, report)?;
+        }
+    }
     for length in 0..=u8::MAX {
         lengths(&[length], report)?;
         lengths(&[0, length, 0], report)?;
@@ -137,7 +118,9 @@ pub fn round(random: &mut Random, report: &mut Report) -> Result<(), String> {
         around_full(&full_book(random), random, report)?;
         sole_entries(random, report)?;
         for _ in 0..8 {
-            lengths(&random_lengths(random), report)?;
+            let list = random_lengths(random);
+            lengths(&list, report)?;
+            lengths_into(&list, random.place(2 * list.len() + 2), report)?;
         }
     }
     Ok(())

@@ -4,7 +4,8 @@
 //! |---|---|
 //! | `torchvalley_identification` | [`identification`] |
 //! | `torchvalley_identity_sound` | [`sound`] |
-//! | `torchvalley_enter_lengths`, `torchvalley_codewords` | [`codewords`] |
+//! | `torchvalley_enter_lengths` | [`enter_lengths`] |
+//! | `torchvalley_codewords` | [`codewords`] |
 //! | `torchvalley_floor_points`, `torchvalley_floor_curve` | [`floor`] |
 //! | `torchvalley_setup` | [`setup`] |
 //! | `torchvalley_setup_sound` | [`setup_sound`] |
@@ -19,6 +20,7 @@
 mod benchmark;
 mod codeword;
 mod codewords;
+mod enter_lengths;
 mod floor;
 mod identification;
 mod lent;
@@ -80,8 +82,10 @@ fn calls(seed: &str, count: &str) -> Outcome {
 fn rounds(seed: u64, count: u64, report: &mut Report) -> Result<u64, String> {
     let with_seed = |seed: u64| move |fault: String| format!("seed {seed}: {fault}");
     sound::boundaries(&mut Random::new(seed), report).map_err(with_seed(seed))?;
+    enter_lengths::boundaries(report).map_err(with_seed(seed))?;
     codewords::boundaries(report).map_err(with_seed(seed))?;
     setup::boundaries(&mut Random::new(seed), report).map_err(with_seed(seed))?;
+    codeword::boundaries(&mut Random::new(seed), report).map_err(with_seed(seed))?;
     let mut rounds = 0;
     while rounds == 0 || report.calls() < count {
         let seed = seed.wrapping_add(rounds);
@@ -94,6 +98,7 @@ fn rounds(seed: u64, count: u64, report: &mut Report) -> Result<u64, String> {
 fn round(random: &mut Random, report: &mut Report) -> Result<(), String> {
     identification::round(random, report)?;
     sound::round(random, report)?;
+    enter_lengths::round(random, report)?;
     codewords::round(random, report)?;
     floor::round(random, report)?;
     setup::round(random, report)

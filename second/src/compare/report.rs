@@ -9,6 +9,8 @@ pub enum Answer {
     /// 0 or the number of a refusal (01).
     Number(u32),
     Holds(bool),
+    /// Of many answers in one list: a codeword was handed out, or refused.
+    Within(bool),
 }
 
 impl fmt::Display for Answer {
@@ -16,6 +18,8 @@ impl fmt::Display for Answer {
         match self {
             Answer::Number(number) => f.pad(&number.to_string()),
             Answer::Holds(holds) => f.pad(&holds.to_string()),
+            Answer::Within(true) => f.pad("word"),
+            Answer::Within(false) => f.pad("refused"),
         }
     }
 }
@@ -65,7 +69,11 @@ impl Call {
     fn answers(self) -> Vec<Answer> {
         match self {
             Call::Identification => [0, 1, 2, 3, 4, 5, 14].map(Answer::Number).to_vec(),
-            Call::EnterLengths => [0, 17].map(Answer::Number).to_vec(),
+            Call::EnterLengths => {
+                let numbers = [0, 17].map(Answer::Number);
+                let within = [true, false].map(Answer::Within);
+                [numbers, within].concat()
+            }
             Call::Codewords => [0, 7, 8, 17].map(Answer::Number).to_vec(),
             Call::Setup => [0, 1, 2, 5, 6, 7, 8, 9, 10, 11, 12, 13, 14, 17, 18].map(Answer::Number).to_vec(),
             Call::Codeword => [0, 1, 11, 18].map(Answer::Number).to_vec(),
@@ -113,6 +121,16 @@ impl Report {
             return Ok(());
         }
         Err(format!("{} of {}\n  library {library:?}\n  second  {second:?}", call.name(), input()))
+    }
+
+    /// Counts the answers in a list that a call left, the library's and the second
+    /// program's.
+    pub fn count_within(&mut self, call: Call, sides: [impl Iterator<Item = bool>; 2]) {
+        for (side, answers) in sides.into_iter().enumerate() {
+            for answer in answers {
+                self.given.entry((call, Answer::Within(answer))).or_default()[side] += 1;
+            }
+        }
     }
 
     /// Answers that a side has not given twice.

@@ -5,7 +5,7 @@ use crate::identification::in_library_form;
 use crate::library::{self, Identity};
 use crate::report::{Answer, Call, Given, Report};
 use crate::sound;
-use second::book::{Book, Values};
+use second::book::{sole_entry, Book, Values};
 use second::floor::Floor;
 use second::generate::fields::{base, IDENTITY};
 use second::generate::random::Random;
@@ -13,7 +13,8 @@ use second::recognise::recognise;
 use second::setup::Setup;
 use second::space::CodeSpace;
 use second::tables::{
-    tables, Tables, CLASS_ROW, CLASS_SUBCLASSES, COUNT, FLOOR_CLASSES, NAMES, NEEDS, RESIDUE_ROW,
+    tables, Tables, BOOK_ROW, BOOK_SOLE_ENTRY, CLASS_ROW, CLASS_SUBCLASSES, COUNT, FLOOR_CLASSES, FLOOR_ROW,
+    MAPPING_ROW, MODE_ROW, NAMES, NEEDS, PLAN_ROW, RESIDUE_ROW,
 };
 
 /// Most entries and most multiplicands of a setup (01, row 14).
@@ -32,6 +33,22 @@ fn ask(
     let input = || format!("{identity:?}, {}\n  {}", what(), in_words(tables));
     report.compare(Call::SetupSound, &library, &given(second), input)?;
     Ok(second)
+}
+
+/// Hands tables to both, which have to give this answer.
+fn expect(
+    good: bool,
+    identity: Identity,
+    tables: &Tables,
+    report: &mut Report,
+    what: impl Fn() -> String,
+) -> Result<(), String> {
+    let answer = ask(identity, tables, report, &what)?;
+    if answer == good {
+        Ok(())
+    } else {
+        Err(format!("both sides answer {answer} to {}", what()))
+    }
 }
 
 /// Each table up to its last number that is not 0.
@@ -63,6 +80,7 @@ pub fn around(
         ask(other, exact, report, || "another identity".into())?;
     }
     other_lengths(identity, exact, random, report)?;
+    sole_entries(identity, exact, content, random, report)?;
     for _ in 0..times {
         change_and_ask(identity, exact, content, random, report)?;
     }
@@ -93,6 +111,72 @@ fn other_lengths(
     places[table] = if random.one_in(4) { random.place(NEEDS[table]) } else { NEEDS[table] - 1 };
     let short = exact.clone().resized(&places);
     ask(identity, &short, report, || format!("{} too short", NAMES[table]))?;
+    Ok(())
+}
+
+/// The place for a sole used entry in the rows of three books, of those with one where there
+/// are such.
+fn sole_entries(
+    identity: Identity,
+    tables: &mut Tables,
+    content: &Setup,
+    random: &mut Random,
+    report: &mut Report,
+) -> Result<(), String> {
+    let mut books: Vec<usize> = (0..content.books.len()).collect();
+    random.shuffle(&mut books);
+    books.sort_by_key(|&book| sole_entry(content.books[book].lengths()).is_none());
+    for &book in books.iter().take(3) {
+        let row = book * BOOK_ROW;
+        other_sole_entries(identity, tables, row, random, report)?;
+        moved_sole_entry(identity, tables, row, random, report)?;
+    }
+    Ok(())
+}
+
+/// No other number is good for the sole entry of the book whose row begins here.
+fn other_sole_entries(
+    identity: Identity,
+    tables: &mut Tables,
+    row: usize,
+    random: &mut Random,
+    report: &mut Report,
+) -> Result<(), String> {
+    let place = row + BOOK_SOLE_ENTRY;
+    let (entries, right) = (tables.books[row + 1], tables.books[place]);
+    let near = [0, 1, right.wrapping_sub(1), right + 1, entries, right | 1 << 16, u32::MAX];
+    let any = [random.below(entries + 2), random.next_u64() as u32, 1 << random.below(32)];
+    for wrong in near.into_iter().chain(any).filter(|&wrong| wrong != right) {
+        tables.books[place] = wrong;
+        let what = || format!("sole entry at {place} was {right:x}, is {wrong:x}");
+        expect(false, identity, tables, report, what)?;
+    }
+    tables.books[place] = right;
+    Ok(())
+}
+
+/// A sole entry that moves in its book takes its number along.
+fn moved_sole_entry(
+    identity: Identity,
+    tables: &mut Tables,
+    row: usize,
+    random: &mut Random,
+    report: &mut Report,
+) -> Result<(), String> {
+    let place = row + BOOK_SOLE_ENTRY;
+    let [entries, begin, right] = [row + 1, row + 2, place].map(|place| tables.books[place] as usize);
+    if right == 0 || entries == 1 {
+        return Ok(());
+    }
+    let old = right - 1;
+    let new = (right + random.place(entries - 1)) % entries;
+    let what = || format!("sole entry {old} of the book at {row} moved to {new}");
+    tables.lengths.swap(begin + old, begin + new);
+    expect(false, identity, tables, report, what)?;
+    tables.books[place] = new as u32 + 1;
+    expect(true, identity, tables, report, what)?;
+    tables.lengths.swap(begin + old, begin + new);
+    tables.books[place] = right as u32;
     Ok(())
 }
 
@@ -155,15 +239,15 @@ fn filled(content: &Setup) -> [usize; COUNT] {
     let (entries, multiplicands) = totals(books);
     [
         5,
-        10 * books.len(),
+        BOOK_ROW * books.len(),
         entries,
         entries,
         multiplicands,
-        277 * floors.len(),
-        6 * residues.len(),
-        512 * residues.len(),
-        804 * mappings.len(),
-        2 * modes.len(),
+        FLOOR_ROW * floors.len(),
+        RESIDUE_ROW * residues.len(),
+        PLAN_ROW * residues.len(),
+        MAPPING_ROW * mappings.len(),
+        MODE_ROW * modes.len(),
     ]
 }
 
@@ -368,28 +452,25 @@ pub fn boundaries(random: &mut Random, report: &mut Report) -> Result<(), String
 /// and as subclass book, which no field can name.
 pub fn last_book(identity: Identity, content: &Setup, report: &mut Report) -> Result<(), String> {
     let tables = &mut tables(content);
-    let expect = |tables: &mut Tables, (table, place): (usize, usize), good: bool, report: &mut Report| {
+    let mut at = |(table, place): (usize, usize), good: bool| {
         let old = tables.number(table, place);
         tables.set(table, place, if table == 6 { 255 } else { 256 });
-        let answer =
-            ask(identity, tables, report, || format!("the last book in {} at {place}", NAMES[table]))?;
+        let what = || format!("the last book in {} at {place}", NAMES[table]);
+        expect(good, identity, tables, report, what)?;
         tables.set(table, place, old);
-        if answer == good {
-            Ok(())
-        } else {
-            Err(format!("both sides answer {answer} to book 255 in {} at {place}", NAMES[table]))
-        }
+        Ok::<(), String>(())
     };
     for (number, class) in content.floors[0].classes().iter().enumerate() {
         let row = FLOOR_CLASSES + number * CLASS_ROW;
-        expect(tables, (5, row + CLASS_SUBCLASSES), false, report)?;
-        expect(tables, (5, row + CLASS_SUBCLASSES - 1), class.subclass_bits != 0, report)?;
+        at((5, row + CLASS_SUBCLASSES), false)?;
+        at((5, row + CLASS_SUBCLASSES - 1), class.subclass_bits != 0)?;
     }
-    expect(tables, (7, 0), true, report)?;
-    expect(tables, (6, RESIDUE_ROW - 1), true, report)
+    at((7, 0), true)?;
+    at((6, RESIDUE_ROW - 1), true)
 }
 
-/// The small setup's first book with any two lengths, good or not.
+/// The small setup's first book with any two lengths, good or not, each as the sole entry,
+/// none or one that is not there.
 fn small_lengths(identity: Identity, tables: &mut Tables, report: &mut Report) -> Result<(), String> {
     const LENGTHS: [u8; 8] = [0, 1, 2, 3, 31, 32, 33, 255];
     let old = (tables.lengths.clone(), tables.codewords.clone());
@@ -400,9 +481,20 @@ fn small_lengths(identity: Identity, tables: &mut Tables, report: &mut Report) -
                 tables.lengths[place] = length;
                 tables.codewords[place] = space.enter(length.into()).map_or(0, |codeword| codeword.bits);
             }
-            ask(identity, tables, report, || format!("lengths {first} and {second}"))?;
+            for sole in 0..=3 {
+                tables.books[BOOK_SOLE_ENTRY] = sole;
+                let good = match (first, second) {
+                    (1, 1) => sole == 0,
+                    (1, 0) => sole == 1,
+                    (0, 1) => sole == 2,
+                    _ => false,
+                };
+                let what = || format!("lengths {first} and {second}, sole entry {sole}");
+                expect(good, identity, tables, report, what)?;
+            }
         }
     }
+    tables.books[BOOK_SOLE_ENTRY] = 0;
     (tables.lengths, tables.codewords) = old;
     Ok(())
 }

@@ -7,7 +7,7 @@ use crate::floor::Points;
 use crate::identification::in_library_form;
 use crate::lent::Rooms;
 use crate::report::Report;
-use crate::{codeword, codewords, floor, identification, setup, setup_sound, sound};
+use crate::{codeword, codewords, enter_lengths, floor, identification, setup, setup_sound, sound};
 use second::audio::floor_values;
 use second::generate::random::Random;
 use second::identification::Identity;
@@ -97,6 +97,7 @@ fn setup_packet(
     seen.setups_accepted += 1;
     for book in &content.books {
         codewords::lengths(book.lengths(), report)?;
+        enter_lengths::lengths(book.lengths(), report)?;
         seen.books += 1;
     }
     setup_sound::around(form, &content, 4, random, report)?;

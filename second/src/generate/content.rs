@@ -186,6 +186,29 @@ pub fn complete_lengths(random: &mut Random, count: u32) -> Vec<u8> {
     lengths
 }
 
+/// Lengths to be entered one by one, some of them refused: lengths below a bound, or those
+/// of a full book with others among them, 0 and above 32 too. Now and then thousands.
+pub fn lengths_to_enter(random: &mut Random) -> Vec<u8> {
+    let most = match random.below(60) {
+        0 => 10_000,
+        1..=6 => 600,
+        _ => 40,
+    };
+    if random.one_in(2) {
+        let bound = *random.pick(&[2, 3, 5, 9, 17, 33, 34, 256]);
+        let least = random.below(bound);
+        return (0..random.below(most)).map(|_| random.between(least, bound - 1) as u8).collect();
+    }
+    let count = random.between(2, most);
+    let mut lengths = complete_lengths(random, count);
+    arrange(random, &mut lengths);
+    for _ in 0..random.below(1 + count / 2) {
+        let other = if random.one_in(4) { random.below(256) } else { random.between(1, 32) };
+        lengths.insert(random.place(lengths.len() + 1), other as u8);
+    }
+    lengths
+}
+
 /// Sorts lengths, shuffles them, or leaves them as they are.
 pub fn arrange(random: &mut Random, lengths: &mut [u8]) {
     match random.below(3) {
