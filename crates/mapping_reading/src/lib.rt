@@ -1,5 +1,8 @@
-// Reading mappings into their table (003, section 4.2.4, "Mappings"; 01, refusal 9).
+// Reading mappings into their table (003, section 4.2.4, "Mappings"; 01, refusals 9 and 11).
 // Each field is judged as soon as it is read; a refusal says nothing of the buffer, which the outermost function clears.
+pub mod couplings; // the coupling steps, into their part of a mapping's row
+pub mod submaps; // each channel's submap, and the submaps, into theirs
+
 use bits::Cursor;
 use bits::Field;
 use bits::Refusal;
@@ -26,7 +29,7 @@ fn read_parts(
     requires { ⌜ (1 ≤ known .channels) × (known .channels ≤ 255) × (submaps ≤ 16) × (steps ≤ 256) ⌝ }
     ensures { λ r. ⌜ Wrote (mapped (partsInto (now (row .entry))) (parts known submaps steps (now (packet .entry)) (position from))) r (now (row .exit)) ⌝ }
 {
-    match mapping_parts::couplings::read_couplings(packet, from, steps, known.channels, row) {
+    match crate::couplings::read_couplings(packet, from, steps, known.channels, row) {
         Step::Refused(z) => Step::Refused(z),
         Step::Next(at_reserved) => match at_reserved.field(packet, 2) {
             Field::Refused(z) => Step::Refused(z),
@@ -37,7 +40,7 @@ fn read_parts(
                         place: at_reserved,
                     });
                 }
-                match mapping_parts::submaps::read_multiplexes(
+                match crate::submaps::read_multiplexes(
                     packet,
                     at_multiplex,
                     known.channels,
@@ -45,7 +48,7 @@ fn read_parts(
                     row,
                 ) {
                     Step::Refused(z) => Step::Refused(z),
-                    Step::Next(at_submaps) => mapping_parts::submaps::read_submaps(
+                    Step::Next(at_submaps) => crate::submaps::read_submaps(
                         packet,
                         at_submaps,
                         submaps,

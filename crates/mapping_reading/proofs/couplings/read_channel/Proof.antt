@@ -1,8 +1,8 @@
--- `mapping_parts::couplings::read_channel` meets its contract, by CouplingLaws. Assumes nothing.
-use Rattle.mapping_parts.proofs.CouplingLaws.{coupling-laws}
+-- `mapping_reading::couplings::read_channel` meets its contract, by CouplingLaws. Assumes nothing.
+use Rattle.mapping_reading.proofs.CouplingLaws.{coupling-laws}
 use borrow.Author.Needs.{needs}
-use Rattle.mapping_parts.proofs.couplings.read_channel.Statement.{statement}
-use Rattle.mapping_parts.proofs.couplings.read_channel.Tie as tie
+use Rattle.mapping_reading.proofs.couplings.read_channel.Statement.{statement}
+use Rattle.mapping_reading.proofs.couplings.read_channel.Tie as tie
 
 sub-ilog : tie.Need-sub-ilog
 sub-ilog c = search needs

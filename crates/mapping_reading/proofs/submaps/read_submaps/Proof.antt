@@ -1,12 +1,12 @@
--- `mapping_parts::submaps::read_submaps` meets its contract, by Fillings. Assumes nothing.
+-- `mapping_reading::submaps::read_submaps` meets its contract, by Fillings. Assumes nothing.
 use Prim.Native.Nat.{_+_, _*_, _-_, _≤_}
 use mathlib.Core.Path.{_≡_}
-use Rattle.mapping_parts.proofs.Fillings.{Filling, filling, fill-refused, fill-next, fill-done}
+use Rattle.mapping_reading.proofs.Fillings.{Filling, filling, fill-refused, fill-next, fill-done}
 use Rattle.mappings.specs.Reading.{submap}
 use Rattle.mappings.specs.Layout.{submapRow}
 use borrow.Author.Needs.{needs}
-use Rattle.mapping_parts.proofs.submaps.read_submaps.Statement.{statement}
-use Rattle.mapping_parts.proofs.submaps.read_submaps.Tie as tie
+use Rattle.mapping_reading.proofs.submaps.read_submaps.Statement.{statement}
+use Rattle.mapping_reading.proofs.submaps.read_submaps.Tie as tie
 
 abbrev Inv-loop : tie.InvT-loop
 Inv-loop packet count known row₀ k₀ i₀ at₀ row k i at = (count ≤ 16) × (at ≡ 772 + 2 * i) × Filling submapRow (submap known) packet count k₀ row₀ 772 i k row at

@@ -1,8 +1,8 @@
--- `mapping_parts::submaps::read_multiplex` meets its contract, by SubmapLaws. Assumes nothing.
-use Rattle.mapping_parts.proofs.SubmapLaws.{multiplex-laws}
+-- `mapping_reading::submaps::read_multiplex` meets its contract, by SubmapLaws. Assumes nothing.
+use Rattle.mapping_reading.proofs.SubmapLaws.{multiplex-laws}
 use borrow.Author.Needs.{needs}
-use Rattle.mapping_parts.proofs.submaps.read_multiplex.Statement.{statement}
-use Rattle.mapping_parts.proofs.submaps.read_multiplex.Tie as tie
+use Rattle.mapping_reading.proofs.submaps.read_multiplex.Statement.{statement}
+use Rattle.mapping_reading.proofs.submaps.read_multiplex.Tie as tie
 
 field-requires : tie.Need-field-requires
 field-requires c κs = search needs

@@ -1,12 +1,12 @@
--- `mapping_parts::submaps::read_channels` meets its contract, by Fillings. Assumes nothing.
+-- `mapping_reading::submaps::read_channels` meets its contract, by Fillings. Assumes nothing.
 use Prim.Native.Nat.{_+_, _-_, _≤_}
 use mathlib.Core.Path.{_≡_}
-use Rattle.mapping_parts.proofs.Fillings.{Filling, filling, fill-refused, fill-next, fill-done}
+use Rattle.mapping_reading.proofs.Fillings.{Filling, filling, fill-refused, fill-next, fill-done}
 use Rattle.mappings.specs.Reading.{multiplex}
 use Rattle.mappings.specs.Layout.{multiplexRow}
 use borrow.Author.Needs.{needs}
-use Rattle.mapping_parts.proofs.submaps.read_channels.Statement.{statement}
-use Rattle.mapping_parts.proofs.submaps.read_channels.Tie as tie
+use Rattle.mapping_reading.proofs.submaps.read_channels.Statement.{statement}
+use Rattle.mapping_reading.proofs.submaps.read_channels.Tie as tie
 
 abbrev Inv-loop : tie.InvT-loop
 Inv-loop packet channels submaps row₀ k₀ i₀ at₀ row k i at = (channels ≤ 255) × (at ≡ 516 + i) × Filling multiplexRow (multiplex submaps) packet channels k₀ row₀ 516 i k row at

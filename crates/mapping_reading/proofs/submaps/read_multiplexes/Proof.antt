@@ -1,8 +1,8 @@
--- `mapping_parts::submaps::read_multiplexes` meets its contract, by SubmapLaws. Assumes nothing.
-use Rattle.mapping_parts.proofs.SubmapLaws.{multiplex-laws, multiplex-each}
+-- `mapping_reading::submaps::read_multiplexes` meets its contract, by SubmapLaws. Assumes nothing.
+use Rattle.mapping_reading.proofs.SubmapLaws.{multiplex-laws, multiplex-each}
 use borrow.Author.Needs.{needs}
-use Rattle.mapping_parts.proofs.submaps.read_multiplexes.Statement.{statement}
-use Rattle.mapping_parts.proofs.submaps.read_multiplexes.Tie as tie
+use Rattle.mapping_reading.proofs.submaps.read_multiplexes.Statement.{statement}
+use Rattle.mapping_reading.proofs.submaps.read_multiplexes.Tie as tie
 
 returns : tie.Need-returns
 returns c = search multiplex-laws

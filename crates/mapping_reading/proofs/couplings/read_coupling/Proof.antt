@@ -1,8 +1,8 @@
--- `mapping_parts::couplings::read_coupling` meets its contract, by CouplingLaws. Assumes nothing.
-use Rattle.mapping_parts.proofs.CouplingLaws.{coupling-laws, both-one, magnitude-refused, angle-refused, coupling-whole}
+-- `mapping_reading::couplings::read_coupling` meets its contract, by CouplingLaws. Assumes nothing.
+use Rattle.mapping_reading.proofs.CouplingLaws.{coupling-laws, both-one, magnitude-refused, angle-refused, coupling-whole}
 use borrow.Author.Needs.{needs}
-use Rattle.mapping_parts.proofs.couplings.read_coupling.Statement.{statement}
-use Rattle.mapping_parts.proofs.couplings.read_coupling.Tie as tie
+use Rattle.mapping_reading.proofs.couplings.read_coupling.Statement.{statement}
+use Rattle.mapping_reading.proofs.couplings.read_coupling.Tie as tie
 
 read-channel-requires : tie.Need-read-channel-requires
 read-channel-requires c κs = search needs

@@ -1,8 +1,8 @@
--- `mapping_parts::submaps::read_submap` meets its contract, by SubmapLaws. Assumes nothing.
-use Rattle.mapping_parts.proofs.SubmapLaws.{byte-fits, floor-unknown, residue-unknown, discarded-cut, floor-cut, residue-cut, submap-whole}
+-- `mapping_reading::submaps::read_submap` meets its contract, by SubmapLaws. Assumes nothing.
+use Rattle.mapping_reading.proofs.SubmapLaws.{byte-fits, floor-unknown, residue-unknown, discarded-cut, floor-cut, residue-cut, submap-whole}
 use borrow.Author.Needs.{needs}
-use Rattle.mapping_parts.proofs.submaps.read_submap.Statement.{statement}
-use Rattle.mapping_parts.proofs.submaps.read_submap.Tie as tie
+use Rattle.mapping_reading.proofs.submaps.read_submap.Statement.{statement}
+use Rattle.mapping_reading.proofs.submaps.read_submap.Tie as tie
 
 field-requires : tie.Need-field-requires
 field-requires c κs = search needs

@@ -1,12 +1,12 @@
--- `mapping_parts::couplings::read_couplings` meets its contract, by Fillings. Assumes nothing.
+-- `mapping_reading::couplings::read_couplings` meets its contract, by Fillings. Assumes nothing.
 use Prim.Native.Nat.{_+_, _*_, _-_, _≤_}
 use mathlib.Core.Path.{_≡_}
-use Rattle.mapping_parts.proofs.Fillings.{Filling, filling, fill-refused, fill-next, fill-done}
+use Rattle.mapping_reading.proofs.Fillings.{Filling, filling, fill-refused, fill-next, fill-done}
 use Rattle.mappings.specs.Reading.{coupling}
 use Rattle.mappings.specs.Layout.{couplingRow}
 use borrow.Author.Needs.{needs}
-use Rattle.mapping_parts.proofs.couplings.read_couplings.Statement.{statement}
-use Rattle.mapping_parts.proofs.couplings.read_couplings.Tie as tie
+use Rattle.mapping_reading.proofs.couplings.read_couplings.Statement.{statement}
+use Rattle.mapping_reading.proofs.couplings.read_couplings.Tie as tie
 
 abbrev Inv-loop : tie.InvT-loop
 Inv-loop packet count channels row₀ k₀ i₀ at₀ row k i at = (1 ≤ channels) × (channels ≤ 255) × (count ≤ 256) × (at ≡ 4 + 2 * i) × Filling couplingRow (coupling channels) packet count k₀ row₀ 4 i k row at
