@@ -19,11 +19,11 @@ use Rattle.residues.specs.FromTable.{booksOf}
 use Rattle.residues.specs.Heads.{headOf, headRead}
 use Rattle.residues.specs.Layout.{Tables, putResidue}
 use Rattle.residues.specs.Plans.{residueFrom, tablesAt}
-use Rattle.residue_plan.specs.Slots.{padWith}
+use Rattle.residue_reading.specs.Slots.{padWith}
 use Rattle.residues.specs.declared.head.Head as D
 use Rattle.residues.specs.declared.head.HeadRead.{HeadRead}
 use Rattle.residues.specs.declared.head.HeadRead.the-variants as H
-use Rattle.residue_plan.proofs.SlotLaws.{length-padWith, take-padWith}
+use Rattle.residue_reading.proofs.SlotLaws.{length-padWith, take-padWith}
 use Rattle.residues.proofs.HeadSound.{head-sound}
 
 module _ {r : HeadRead} {o : Outcome (Head × ℕ)} (p : headRead r ≡ o) where

@@ -1,4 +1,7 @@
-// Reading residues into the tables (003, 4.2.4, "Residues"; 001, "header decode").
+// Reading residues into the tables (003, 4.2.4, "Residues"; 001, "header decode"; 01, refusals 11 and 13).
+pub mod cascade; // which passes each class has a book for
+pub mod plan; // the plan: which book each class has at each pass
+
 use bits::Cursor;
 use bits::Refusal;
 use bits::Step;
@@ -59,7 +62,7 @@ fn read_plan(
     let mut at = from;
     let mut i: usize = 0;
     while i < classes {
-        let row = residue_plan::plan::read_row(packet, at, count, cascades[i]);
+        let row = crate::plan::read_row(packet, at, count, cascades[i]);
         let step = row.step;
         match step {
             Step::Refused(z) => {
@@ -80,7 +83,7 @@ fn read_plan(
         return Step::Refused(Refusal { number: 13, place });
     }
     write_head(residues, 6 * index, head);
-    residue_plan::plan::write_plan(plans, 512 * index, plan);
+    crate::plan::write_plan(plans, 512 * index, plan);
     Step::Next(at)
 }
 
@@ -100,7 +103,7 @@ pub fn read_residue(
     match residues::head::read_head(packet, from, count) {
         HeadRead::Refused(z) => Step::Refused(z),
         HeadRead::Value(head, at_cascades) => {
-            let cascades = residue_plan::cascade::read_cascades(
+            let cascades = crate::cascade::read_cascades(
                 packet,
                 at_cascades,
                 wide(head.classifications),

@@ -12,7 +12,7 @@ use Rattle.bits.specs.declared.Step.{Step}
 use Rattle.bits.specs.declared.Step.the-variants.{Next, Refused}
 use Rattle.bits.specs.Cursors.{position, refusalOf, Wrote}
 use Rattle.bits.proofs.Steps.{wrote-next, wrote-refused, EachRest, each-loop-start, each-loop-next, each-loop-refused, each-loop-done}
-use Rattle.residue_plan.specs.Slots.{padWith, Slots, slots, store}
+use Rattle.residue_reading.specs.Slots.{padWith, Slots, slots, store}
 
 -- `padWith`: its length, nothing but fillers, the items in front
 module _ {A : Type 0} (z : A) where

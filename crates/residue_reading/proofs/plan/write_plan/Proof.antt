@@ -1,9 +1,9 @@
--- `residue_plan::plan::write_plan` meets its contract, by WritingLaws. Assumes nothing.
+-- `residue_reading::plan::write_plan` meets its contract, by WritingLaws. Assumes nothing.
 use Prim.Native.Nat.{_-_}
-use Rattle.residue_plan.proofs.WritingLaws.{WritingRows, writing-laws}
+use Rattle.residue_reading.proofs.WritingLaws.{WritingRows, writing-laws}
 use borrow.Author.Needs.{needs}
-use Rattle.residue_plan.proofs.plan.write_plan.Statement.{statement}
-use Rattle.residue_plan.proofs.plan.write_plan.Tie as tie
+use Rattle.residue_reading.proofs.plan.write_plan.Statement.{statement}
+use Rattle.residue_reading.proofs.plan.write_plan.Tie as tie
 
 abbrev Inv-loop : tie.InvT-loop
 Inv-loop plans₀ at plan i₀ plans i = WritingRows plans₀ at plan plans i

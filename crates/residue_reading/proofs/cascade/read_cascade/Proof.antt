@@ -1,8 +1,8 @@
--- `residue_plan::cascade::read_cascade` meets its contract, by CascadeLaws. Assumes nothing.
-use Rattle.residue_plan.proofs.CascadeLaws.{cascade-laws, low-alone, low-cut, flag-cut, high-cut, high-and-low}
+-- `residue_reading::cascade::read_cascade` meets its contract, by CascadeLaws. Assumes nothing.
+use Rattle.residue_reading.proofs.CascadeLaws.{cascade-laws, low-alone, low-cut, flag-cut, high-cut, high-and-low}
 use borrow.Author.Needs.{needs}
-use Rattle.residue_plan.proofs.cascade.read_cascade.Statement.{statement}
-use Rattle.residue_plan.proofs.cascade.read_cascade.Tie as tie
+use Rattle.residue_reading.proofs.cascade.read_cascade.Statement.{statement}
+use Rattle.residue_reading.proofs.cascade.read_cascade.Tie as tie
 
 field-requires : tie.Need-field-requires
 field-requires c κs = search needs

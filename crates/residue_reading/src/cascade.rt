@@ -5,7 +5,7 @@ use bits::Step;
 ghost use mathlib.Core.Path.{_≡_};
 ghost use Prim.Native.Nat.{_≤_};
 ghost use Rattle.reading.specs.Reader.{many, mapped};
-ghost use Rattle.residue_plan.specs.Slots.{padWith};
+ghost use Rattle.residue_reading.specs.Slots.{padWith};
 ghost use Rattle.bits.specs.Cursors.{position, outcome, Wrote};
 ghost use Rattle.residues.specs.Reading.{cascade};
 

@@ -16,8 +16,8 @@ use Rattle.bits.specs.Cursors.{position, outcome, Wrote}
 use Rattle.bits.specs.Field.{field}
 use Rattle.bits.proofs.Answers.{value-is, refused-is, value-below}
 use Rattle.residues.specs.Reading.{cascade}
-use Rattle.residue_plan.specs.Slots.{padWith}
-use Rattle.residue_plan.proofs.SlotLaws.{Filling, fill-start, fill-next, fill-refused, fill-done, many-each}
+use Rattle.residue_reading.specs.Slots.{padWith}
+use Rattle.residue_reading.proofs.SlotLaws.{Filling, fill-start, fill-next, fill-refused, fill-done, many-each}
 
 -- a cascade
 module _ (s : List ℕ) (k : Cursor) {r : Field} (p : outcome r ≡ field 3 s (position k)) where

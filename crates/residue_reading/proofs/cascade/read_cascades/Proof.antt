@@ -1,9 +1,9 @@
--- `residue_plan::cascade::read_cascades` meets its contract, by CascadeLaws. Assumes nothing.
+-- `residue_reading::cascade::read_cascades` meets its contract, by CascadeLaws. Assumes nothing.
 use Prim.Native.Nat.{_-_}
-use Rattle.residue_plan.proofs.CascadeLaws.{Cascading, cascades-laws}
+use Rattle.residue_reading.proofs.CascadeLaws.{Cascading, cascades-laws}
 use borrow.Author.Needs.{needs}
-use Rattle.residue_plan.proofs.cascade.read_cascades.Statement.{statement}
-use Rattle.residue_plan.proofs.cascade.read_cascades.Tie as tie
+use Rattle.residue_reading.proofs.cascade.read_cascades.Statement.{statement}
+use Rattle.residue_reading.proofs.cascade.read_cascades.Tie as tie
 
 abbrev Inv-loop : tie.InvT-loop
 Inv-loop packet classes numbers₀ at₀ i₀ numbers at i = Cascading packet classes at₀ numbers at i

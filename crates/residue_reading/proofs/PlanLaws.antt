@@ -22,8 +22,8 @@ use Rattle.bits.specs.Field.{field}
 use Rattle.bits.proofs.Answers.{value-is, refused-is, value-below}
 use Rattle.residues.specs.Reading.{passes, planBook, planRow}
 use Rattle.residues.proofs.PlanSound.{place-sound}
-use Rattle.residue_plan.specs.Slots.{padWith}
-use Rattle.residue_plan.proofs.SlotLaws.{padWith-whole, Filling, fill-start, fill-next, fill-refused, fill-done}
+use Rattle.residue_reading.specs.Slots.{padWith}
+use Rattle.residue_reading.proofs.SlotLaws.{padWith-whole, Filling, fill-start, fill-next, fill-refused, fill-done}
 
 abbrev at : ℕ → Cursor → Refusal
 at n c = record { number = n; place = c }

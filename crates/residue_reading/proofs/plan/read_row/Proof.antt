@@ -1,9 +1,9 @@
--- `residue_plan::plan::read_row` meets its contract, by PlanLaws. Assumes nothing.
+-- `residue_reading::plan::read_row` meets its contract, by PlanLaws. Assumes nothing.
 use Prim.Native.Nat.{_-_}
-use Rattle.residue_plan.proofs.PlanLaws.{RowFilling, row-laws}
+use Rattle.residue_reading.proofs.PlanLaws.{RowFilling, row-laws}
 use borrow.Author.Needs.{needs}
-use Rattle.residue_plan.proofs.plan.read_row.Statement.{statement}
-use Rattle.residue_plan.proofs.plan.read_row.Tie as tie
+use Rattle.residue_reading.proofs.plan.read_row.Statement.{statement}
+use Rattle.residue_reading.proofs.plan.read_row.Tie as tie
 
 abbrev Inv-loop : tie.InvT-loop
 Inv-loop packet count cascade books₀ at₀ j₀ books at j = RowFilling packet count cascade at₀ books at j

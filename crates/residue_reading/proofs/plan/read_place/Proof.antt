@@ -1,8 +1,8 @@
--- `residue_plan::plan::read_place` meets its contract, by PlanLaws. Assumes nothing.
-use Rattle.residue_plan.proofs.PlanLaws.{place-laws, place-none, place-unset, place-cut, place-book}
+-- `residue_reading::plan::read_place` meets its contract, by PlanLaws. Assumes nothing.
+use Rattle.residue_reading.proofs.PlanLaws.{place-laws, place-none, place-unset, place-cut, place-book}
 use borrow.Author.Needs.{needs}
-use Rattle.residue_plan.proofs.plan.read_place.Statement.{statement}
-use Rattle.residue_plan.proofs.plan.read_place.Tie as tie
+use Rattle.residue_reading.proofs.plan.read_place.Statement.{statement}
+use Rattle.residue_reading.proofs.plan.read_place.Tie as tie
 
 returns : tie.Need-returns
 returns c = search place-none
