@@ -15,8 +15,8 @@ use Rattle.reading.specs.Lists.{distinct}
 use Rattle.reading.proofs.Least.{below-suc}
 use Rattle.reading.proofs.Parts.{part-slice}
 use Rattle.floors.specs.Pieces.{classesTo, valuesTo}
-use Rattle.floor_class_tables.specs.Rules.{Below, ClassesRules}
-use Rattle.floor_class_tables.proofs.TestLaws.{fails, passes, refuted, shown}
+use Rattle.floor_tables.specs.ClassRules.{Below, ClassesRules}
+use Rattle.floor_tables.proofs.ClassTestLaws.{fails, passes, refuted, shown}
 use Rattle.floor_tables.specs.Rules.{PartitionRules, NamedRules, CountRules, HeadRules, ListRules, FloorRules, FloorsRules}
 
 -- floors

@@ -29,10 +29,10 @@ use Rattle.floor_class.proofs.Decoded.{class-long}
 use Rattle.floors.proofs.RowLaws.{class-count-most, classes-counted, values-counted}
 use Rattle.floors.proofs.Decoded.{floor-long, FloorLies, floor-lies, xs-lie}
 use Rattle.floors.proofs.Laws.{floors-row}
-use Rattle.floor_class_tables.specs.Rules.{Below}
-use Rattle.floor_class_tables.proofs.TestLaws.{fails, refuted, shown}
-use Rattle.floor_class_tables.proofs.Runs.{slice-long, lies-cons, slice-lies, lies-padded, padded-zeros, padded-below, slice-below, lies-whole, lies-of, place}
-use Rattle.floor_class_tables.proofs.Tested.{classes-stand, classes-tested}
+use Rattle.floor_tables.specs.ClassRules.{Below}
+use Rattle.floor_tables.proofs.ClassTestLaws.{fails, refuted, shown}
+use Rattle.floor_tables.proofs.Runs.{slice-long, lies-cons, slice-lies, lies-padded, padded-zeros, padded-below, slice-below, lies-whole, lies-of, place}
+use Rattle.floor_tables.proofs.ClassTested.{classes-stand, classes-tested}
 
 -- ---- parts of a row
 

@@ -8,7 +8,7 @@ use lib.ListN.{getD}
 use lib.Seq.{slice}
 use Rattle.reading.specs.Lists.{distinct}
 use Rattle.floors.specs.Pieces.{classesTo, valuesTo}
-use Rattle.floor_class_tables.specs.Rules.{Below, ClassesRules}
+use Rattle.floor_tables.specs.ClassRules.{Below, ClassesRules}
 
 -- a floor's partitions, where its row begins at place `at`
 pub record PartitionRules (t : List ℕ) (at : ℕ) : Type 0 where

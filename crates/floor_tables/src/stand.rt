@@ -1,7 +1,7 @@
 // Whether a table of floors that anyone hands in is the writing-out of floors that meet every rule.
-use floor_class_tables::below::are_below;
-use floor_class_tables::below::number;
-use floor_class_tables::classes::are_classes;
+use crate::below::are_below;
+use crate::below::number;
+use crate::classes::are_classes;
 use floors::floor;
 use reading::buffers;
 ghost use mathlib.Core.Path.{_≡_};

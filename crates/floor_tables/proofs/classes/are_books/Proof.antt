@@ -1,8 +1,8 @@
--- `floor_class_tables::classes::are_books` meets its contract. Assumes nothing.
-use Rattle.floor_class_tables.proofs.TestLaws.{books-unset, books-large, books-end}
+-- `floor_tables::classes::are_books` meets its contract. Assumes nothing.
+use Rattle.floor_tables.proofs.ClassTestLaws.{books-unset, books-large, books-end}
 use borrow.Author.Needs.{needs}
-use Rattle.floor_class_tables.proofs.classes.are_books.Statement.{statement}
-use Rattle.floor_class_tables.proofs.classes.are_books.Tie as tie
+use Rattle.floor_tables.proofs.classes.are_books.Statement.{statement}
+use Rattle.floor_tables.proofs.classes.are_books.Tie as tie
 
 add-are-below : tie.Need-add-are-below
 add-are-below c = search needs

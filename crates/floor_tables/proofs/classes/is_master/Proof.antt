@@ -1,7 +1,7 @@
--- `floor_class_tables::classes::is_master` meets its contract. Assumes nothing.
-use Rattle.floor_class_tables.proofs.TestLaws.{master-test-laws}
-use Rattle.floor_class_tables.proofs.classes.is_master.Statement.{statement}
-use Rattle.floor_class_tables.proofs.classes.is_master.Tie as tie
+-- `floor_tables::classes::is_master` meets its contract. Assumes nothing.
+use Rattle.floor_tables.proofs.ClassTestLaws.{master-test-laws}
+use Rattle.floor_tables.proofs.classes.is_master.Statement.{statement}
+use Rattle.floor_tables.proofs.classes.is_master.Tie as tie
 
 returns : tie.Need-returns
 returns c = search master-test-laws

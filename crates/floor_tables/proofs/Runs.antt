@@ -15,7 +15,7 @@ use Rattle.reading.specs.Pad.{pad}
 use Rattle.reading.proofs.Least.{and-split}
 use Rattle.reading.proofs.Pads.{pad-get, length-pad}
 use Rattle.numbers.proofs.Lies.{Lies, lies-both, lies-self}
-use Rattle.floor_class_tables.specs.Rules.{Below}
+use Rattle.floor_tables.specs.ClassRules.{Below}
 
 -- ---- tests of every number, place by place
 

@@ -1,8 +1,8 @@
--- `floor_class_tables::classes::is_class` meets its contract. Assumes nothing.
-use Rattle.floor_class_tables.proofs.TestLaws.{class-test-laws, class-low, class-high, class-many, class-master-not, class-end}
+-- `floor_tables::classes::is_class` meets its contract. Assumes nothing.
+use Rattle.floor_tables.proofs.ClassTestLaws.{class-test-laws, class-low, class-high, class-many, class-master-not, class-end}
 use borrow.Author.Needs.{needs}
-use Rattle.floor_class_tables.proofs.classes.is_class.Statement.{statement}
-use Rattle.floor_class_tables.proofs.classes.is_class.Tie as tie
+use Rattle.floor_tables.proofs.classes.is_class.Statement.{statement}
+use Rattle.floor_tables.proofs.classes.is_class.Tie as tie
 
 number-requires : tie.Need-number-requires
 number-requires c κs = search needs

@@ -17,8 +17,8 @@ use Rattle.numbers.proofs.Lies.{Lies, lies-at, lies-both}
 use Rattle.floor_class.proofs.Decoded.{class-long}
 use Rattle.floor_class.proofs.Decoded.{ClassLies, class-lies}
 use Rattle.floor_row.proofs.Laws.{class-row}
-use Rattle.floor_class_tables.specs.Rules.{ClassRules, ClassesRules}
-use Rattle.floor_class_tables.proofs.Runs.{slice-long, lies-cons, slice-lies, lies-padded, padded-zeros, padded-below, slice-below, same-limit, other-limit}
+use Rattle.floor_tables.specs.ClassRules.{ClassRules, ClassesRules}
+use Rattle.floor_tables.proofs.Runs.{slice-long, lies-cons, slice-lies, lies-padded, padded-zeros, padded-below, slice-below, same-limit, other-limit}
 
 -- ---- a class
 

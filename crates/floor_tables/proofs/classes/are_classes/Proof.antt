@@ -1,12 +1,12 @@
--- `floor_class_tables::classes::are_classes` meets its contract. Assumes nothing.
+-- `floor_tables::classes::are_classes` meets its contract. Assumes nothing.
 use Prim.Native.Nat.{_≤_, _-_}
 use mathlib.Core.Path.{refl}
 use native.Mathlib.Omega.{arith}
-use Rattle.floor_class_tables.specs.Rules.{ClassesRules}
-use Rattle.floor_class_tables.proofs.TestLaws.{classes-start, classes-not, classes-more, classes-all}
+use Rattle.floor_tables.specs.ClassRules.{ClassesRules}
+use Rattle.floor_tables.proofs.ClassTestLaws.{classes-start, classes-not, classes-more, classes-all}
 use borrow.Author.Needs.{needs}
-use Rattle.floor_class_tables.proofs.classes.are_classes.Statement.{statement}
-use Rattle.floor_class_tables.proofs.classes.are_classes.Tie as tie
+use Rattle.floor_tables.proofs.classes.are_classes.Statement.{statement}
+use Rattle.floor_tables.proofs.classes.are_classes.Tie as tie
 
 abbrev Inv-loop : tie.InvT-loop
 Inv-loop floors at count books c₀ c = (at ≤ 20000) × (count ≤ 16) × (books ≤ 256) × (c ≤ count) × ClassesRules books floors at c

@@ -12,7 +12,7 @@ use lib.ListN.{getD}
 use lib.Pow.{pow-mono}
 use Rattle.reading.proofs.Least.{below-suc}
 use Rattle.floor_class.specs.Valid.{MasterFits}
-use Rattle.floor_class_tables.specs.Rules.{Below, BookRules, ClassRules, ClassesRules}
+use Rattle.floor_tables.specs.ClassRules.{Below, BookRules, ClassRules, ClassesRules}
 
 -- a test that failed, and one that passed
 pub fails : {P : Type 0} → (P → ⊥) → (false ≡ true) ↔ P

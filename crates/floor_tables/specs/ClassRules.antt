@@ -1,5 +1,5 @@
 -- The rules of a class as they are tested along a table: what holds of the numbers from place `at` on where the row of a class that meets every
--- rule lies there. proofs/Tested shows that these are the same (Valid, Layout).
+-- rule lies there. proofs/ClassTested shows that these are the same (Valid, Layout).
 use Prim.Native.Nat.{ℕ, _+_, _*_, _^_, _≤_, _<_}
 use mathlib.Core.List.{List}
 use lib.ListN.{getD}

@@ -1,10 +1,10 @@
--- `floor_class_tables::below::are_below` meets its contract. Assumes nothing.
+-- `floor_tables::below::are_below` meets its contract. Assumes nothing.
 use Prim.Native.Nat.{_≤_, _-_}
-use Rattle.floor_class_tables.specs.Rules.{Below}
-use Rattle.floor_class_tables.proofs.TestLaws.{below-laws}
+use Rattle.floor_tables.specs.ClassRules.{Below}
+use Rattle.floor_tables.proofs.ClassTestLaws.{below-laws}
 use borrow.Author.Needs.{needs}
-use Rattle.floor_class_tables.proofs.below.are_below.Statement.{statement}
-use Rattle.floor_class_tables.proofs.below.are_below.Tie as tie
+use Rattle.floor_tables.proofs.below.are_below.Statement.{statement}
+use Rattle.floor_tables.proofs.below.are_below.Tie as tie
 
 abbrev Inv-loop : tie.InvT-loop
 Inv-loop floors from to limit i₀ i = (from ≤ i) × Below floors from i limit
