@@ -13,7 +13,7 @@ use Rattle.floor_class.specs.Content.{Class}
 use Rattle.floor_class.specs.Layout.{classRow}
 use Rattle.floor_class.specs.Valid.{ValidClass, ValidClasses}
 use Rattle.floor_class.specs.Decode.{classAt, classesAt, noClass}
-use Rattle.numbers.proofs.Lies.{Lies, lies-at, lies-both}
+use Rattle.reading.proofs.Lies.{Lies, lies-at, lies-both}
 use Rattle.floor_class.proofs.Decoded.{class-long}
 use Rattle.floor_class.proofs.Decoded.{ClassLies, class-lies}
 use Rattle.floor_row.proofs.Laws.{class-row}

@@ -6,7 +6,7 @@ use native.Mathlib.Omega.{arith}
 use borrow.Author.Tests.{lt-ltb, ltb-true, le-leb, leb-true}
 use mathlib.Core.Bool.{Bool, true}
 use mathlib.Core.List.{List, [], _∷_}
-use mathlib.Core.Path.{_≡_, refl, sym, ap, _∙_, subst}
+use mathlib.Core.Path.{_≡_, refl, sym, ap, _∙_}
 use lib.Dec.{ltb, leb}
 use lib.ListN.{length, getD, take, List·getD-eq-default}
 use lib.Seq.{slice, length-slice, getD-drop, getD-take, ext-getD}
@@ -14,7 +14,7 @@ use Rattle.reading.specs.Lists.{all}
 use Rattle.reading.specs.Pad.{pad}
 use Rattle.reading.proofs.Least.{and-split}
 use Rattle.reading.proofs.Pads.{pad-get, length-pad}
-use Rattle.numbers.proofs.Lies.{Lies, lies-both, lies-self}
+use Rattle.reading.proofs.Lies.{Lies, lies-both}
 use Rattle.floor_tables.specs.ClassRules.{Below}
 
 -- ---- tests of every number, place by place
@@ -109,9 +109,6 @@ module _ {t : List ℕ} where
       rw e
       (ext-getD 0 (slice at (at + m) t) (pad m xs) (slice-long t at m (omega arith) ∙ sym p)
       (λ i k. let q = slice-long t at m (omega arith) in slice-at t at (at + m) i (omega arith) ∙ l .same i (omega arith)))
-
-pub lies-of : (t run : List ℕ) → t ≡ run → Lies t 0 run
-lies-of t run e = subst (λ (x : List ℕ). Lies x 0 run) (sym e) (lies-self run)
 
 -- the two ways of writing the limit of a book's number
 pub same-limit : (books : ℕ) (l : List ℕ) → all (λ b. ltb b (books + 1)) l ≡ true → all (λ b. leb b books) l ≡ true

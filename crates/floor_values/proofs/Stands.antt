@@ -11,7 +11,7 @@ use Rattle.floors.specs.Valid.{ValidFloor}
 use Rattle.floors.specs.Valid.{ValidFloors}
 use Rattle.floor_tables.specs.Stand.{FloorsStand}
 use Rattle.floors.proofs.Decoded.{floor-long, floor-decoded-at}
-use Rattle.numbers.proofs.Lies.{Lies}
+use Rattle.reading.proofs.Lies.{Lies}
 use Rattle.floors.proofs.Laws.{floors-row}
 use Rattle.floor_partition.specs.Lying.{Readable}
 use Rattle.floor_values.specs.Lying.{floorIn, FloorLies}

@@ -96,13 +96,6 @@ fn are_submaps(part: &[u8], count: usize, known: Known) -> bool
     reading::zeros::zeros_u8(part, 2 * count)
 }
 
-// The number of coupling steps, which takes two places.
-pub fn two_places(low: u8, high: u8) -> usize
-    ensures { λ r. ⌜ (r ≡ low + 256 * high) × (low < 256) ⌝ }
-{
-    (low as usize) + 256 * (high as usize)
-}
-
 // How many multiplex numbers there are: none where there is one submap.
 fn multiplex_count(submaps: u8, channels: u32) -> usize
     ensures { λ r. ⌜ r ≡ multiplexCount submaps channels ⌝ }
@@ -118,7 +111,7 @@ fn is_mapping(row: &[u8], known: Known) -> bool
     requires { ⌜ (length (now row) ≡ 804) × (known .channels ≤ 255) ⌝ }
     ensures { λ r. ⌜ (r ≡ true) ↔ RowOf mappingRow (ValidMapping known) (now (row .entry)) ⌝ }
 {
-    let steps = two_places(row[0], row[1]);
+    let steps = mapping_row::two_places(row[0], row[1]);
     if steps > 256 {
         return false;
     }

@@ -1,4 +1,6 @@
 // Whether tables that are handed in are the writing-out of residues that meet every rule (01, "What the reader takes and gives").
+use reading::widths::u32_from_u16;
+use reading::widths::wide_u32;
 use residues::head::Head;
 ghost use mathlib.Core.Path.{_≡_};
 ghost use mathlib.Core.Bool.{true};
@@ -11,18 +13,6 @@ ghost use Rattle.residues.specs.FromTable.{booksOf};
 ghost use Rattle.residues.specs.Heads.{headOf};
 ghost use Rattle.residue_tables.specs.Stand.{headTest, residueTest, ResiduesStand, OneContent};
 
-fn wide(x: u32) -> usize
-    ensures { λ r. ⌜ r ≡ x ⌝ }
-{
-    x as usize
-}
-
-fn wider(x: u16) -> u32
-    ensures { λ r. ⌜ r ≡ x ⌝ }
-{
-    x as u32
-}
-
 // The places from `from` up to `to` name books that are set up.
 fn places_set_up(places: &[u16], from: usize, to: usize, count: u32) -> bool
     ensures { λ r. ⌜ r ≡ all (λ b. leb b count) (take (to - from) (drop from (now (places .entry)))) ⌝ }
@@ -32,7 +22,7 @@ fn places_set_up(places: &[u16], from: usize, to: usize, count: u32) -> bool
         if places.len() <= i {
             return true;
         }
-        let place = wider(places[i]);
+        let place = u32_from_u16(places[i]);
         let known = place <= count;
         if !known {
             return false;
@@ -78,12 +68,12 @@ fn stands(residues: &[u32], plans: &[u16], index: u32, count: u32, books: &[u32]
     requires { ⌜ (index ≤ 63) × (32768 ≤ length (now plans)) ⌝ }
     ensures { λ r. ⌜ r ≡ residueTest (booksOf count (now (books .entry))) (drop (6 * index) (now (residues .entry))) (drop (512 * index) (now (plans .entry))) ⌝ }
 {
-    let head = crate::table::head(residues, index);
+    let head = residue_row::head(residues, index);
     if !head_stands(head, count, books) {
         return false;
     }
-    let first = 512 * wide(index);
-    let used = 8 * wide(head.classifications);
+    let first = 512 * wide_u32(index);
+    let used = 8 * wide_u32(head.classifications);
     let last = first + used;
     if !places_set_up(plans, first, last, count) {
         return false;
@@ -113,8 +103,8 @@ pub fn are_residues(residues: &[u32], plans: &[u16], n: u32, count: u32, books: 
         }
         i = i + 1;
     }
-    if !reading::zeros::zeros_u32(residues, 6 * wide(n)) {
+    if !reading::zeros::zeros_u32(residues, 6 * wide_u32(n)) {
         return false;
     }
-    reading::zeros::zeros_u16(plans, 512 * wide(n))
+    reading::zeros::zeros_u16(plans, 512 * wide_u32(n))
 }

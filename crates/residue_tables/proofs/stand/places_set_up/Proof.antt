@@ -18,14 +18,14 @@ loop-holds c = search testing-laws
 returns : tie.Need-returns Inv-loop μ-loop
 returns c = search testing-laws
 
-mul-wider : tie.Need-mul-wider Inv-loop μ-loop
-mul-wider c = search needs
+mul-u32-from-u16 : tie.Need-mul-u32-from-u16 Inv-loop μ-loop
+mul-u32-from-u16 c = search needs
 
-shared-slice-read-wider : tie.Need-shared-slice-read-wider Inv-loop μ-loop
-shared-slice-read-wider c = search needs
+shared-slice-read-u32-from-u16 : tie.Need-shared-slice-read-u32-from-u16 Inv-loop μ-loop
+shared-slice-read-u32-from-u16 c = search needs
 
-wider-requires : tie.Need-wider-requires Inv-loop μ-loop
-wider-requires c κs = search needs
+u32-from-u16-requires : tie.Need-u32-from-u16-requires Inv-loop μ-loop
+u32-from-u16-requires c κs = search needs
 
 returns-2 : tie.Need-returns-2 Inv-loop μ-loop
 returns-2 c = search testing-laws
@@ -50,9 +50,9 @@ places-set-up-spec =
     μ-loop
     loop-holds
     returns
-    mul-wider
-    shared-slice-read-wider
-    wider-requires
+    mul-u32-from-u16
+    shared-slice-read-u32-from-u16
+    u32-from-u16-requires
     returns-2
     add-i
     loop-less

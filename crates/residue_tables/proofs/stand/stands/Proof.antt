@@ -14,14 +14,14 @@ head-stands-requires c κs = search needs
 returns : tie.Need-returns
 returns c = head-fails (c .before .before .before .before .before .before .args .count) (c .before .before .before .before .before .before .args .books .now) (c .before .before .before .before .before .before .args .residues .now) (c .before .before .before .before .before .before .args .plans .now) (c .before .before .before .before .before .before .args .index) (c .before .before .head .result) (c .before .before .head .ensures) refl refl (c .before .head-stands .ensures) (c .if1 .taken)
 
-wide-requires : tie.Need-wide-requires
-wide-requires c κs = search needs
+wide-u32-requires : tie.Need-wide-u32-requires
+wide-u32-requires c κs = search needs
 
 mul-first : tie.Need-mul-first
 mul-first c = search needs
 
-wide-requires-2 : tie.Need-wide-requires-2
-wide-requires-2 c κs = search needs
+wide-u32-requires-2 : tie.Need-wide-u32-requires-2
+wide-u32-requires-2 c κs = search needs
 
 mul-used : tie.Need-mul-used
 mul-used c = search needs
@@ -33,13 +33,13 @@ places-set-up-requires : tie.Need-places-set-up-requires
 places-set-up-requires c κs = search needs
 
 returns-2 : tie.Need-returns-2
-returns-2 c = set-up-fails (c .before .before .before .before .before .before .before .before .before .before .args .count) (c .before .before .before .before .before .before .before .before .before .before .args .books .now) (c .before .before .before .before .before .before .before .before .before .before .args .residues .now) (c .before .before .before .before .before .before .before .before .before .before .args .plans .now) (c .before .before .before .before .before .before .before .before .before .before .args .index) (c .before .before .before .before .before .before .head .result) (c .before .before .before .before .before .before .head .ensures) (c .before .before .before .wide .ensures) (c .before .before .wide2 .ensures) (c .before .before .before .before .before .head-stands .ensures) (c .before .before .before .before .if1 .left) (c .before .places-set-up .ensures) (c .if2 .taken)
+returns-2 c = set-up-fails (c .before .before .before .before .before .before .before .before .before .before .args .count) (c .before .before .before .before .before .before .before .before .before .before .args .books .now) (c .before .before .before .before .before .before .before .before .before .before .args .residues .now) (c .before .before .before .before .before .before .before .before .before .before .args .plans .now) (c .before .before .before .before .before .before .before .before .before .before .args .index) (c .before .before .before .before .before .before .head .result) (c .before .before .before .before .before .before .head .ensures) (c .before .before .before .wide-u32 .ensures) (c .before .before .wide-u322 .ensures) (c .before .before .before .before .before .head-stands .ensures) (c .before .before .before .before .if1 .left) (c .before .places-set-up .ensures) (c .if2 .taken)
 
 places-fit-requires : tie.Need-places-fit-requires
 places-fit-requires c κs = search needs
 
 returns-3 : tie.Need-returns-3
-returns-3 c = fits-fails (c .before .before .before .before .before .before .before .before .before .before .before .before .args .count) (c .before .before .before .before .before .before .before .before .before .before .before .before .args .books .now) (c .before .before .before .before .before .before .before .before .before .before .before .before .args .residues .now) (c .before .before .before .before .before .before .before .before .before .before .before .before .args .plans .now) (c .before .before .before .before .before .before .before .before .before .before .before .before .args .index) (c .before .before .before .before .before .before .before .before .head .result) (c .before .before .before .before .before .before .before .before .head .ensures) (c .before .before .before .before .before .wide .ensures) (c .before .before .before .before .wide2 .ensures) (c .before .before .before .before .before .before .before .head-stands .ensures) (c .before .before .before .before .before .before .if1 .left) (c .before .before .before .places-set-up .ensures) (c .before .before .if2 .left) (c .before .places-fit .ensures) (c .if3 .taken)
+returns-3 c = fits-fails (c .before .before .before .before .before .before .before .before .before .before .before .before .args .count) (c .before .before .before .before .before .before .before .before .before .before .before .before .args .books .now) (c .before .before .before .before .before .before .before .before .before .before .before .before .args .residues .now) (c .before .before .before .before .before .before .before .before .before .before .before .before .args .plans .now) (c .before .before .before .before .before .before .before .before .before .before .before .before .args .index) (c .before .before .before .before .before .before .before .before .head .result) (c .before .before .before .before .before .before .before .before .head .ensures) (c .before .before .before .before .before .wide-u32 .ensures) (c .before .before .before .before .wide-u322 .ensures) (c .before .before .before .before .before .before .before .head-stands .ensures) (c .before .before .before .before .before .before .if1 .left) (c .before .before .before .places-set-up .ensures) (c .before .before .if2 .left) (c .before .places-fit .ensures) (c .if3 .taken)
 
 add-zeros-u16 : tie.Need-add-zeros-u16
 add-zeros-u16 c = search needs
@@ -60,7 +60,7 @@ zeros-u16-requires : tie.Need-zeros-u16-requires
 zeros-u16-requires c κs = search needs
 
 returns-4 : tie.Need-returns-4
-returns-4 c = stands-whole (c .before .before .before .before .before .before .before .before .before .before .before .before .before .before .args .count) (c .before .before .before .before .before .before .before .before .before .before .before .before .before .before .args .books .now) (c .before .before .before .before .before .before .before .before .before .before .before .before .before .before .args .residues .now) (c .before .before .before .before .before .before .before .before .before .before .before .before .before .before .args .plans .now) (c .before .before .before .before .before .before .before .before .before .before .before .before .before .before .args .index) (c .before .before .before .before .before .before .before .before .before .before .head .result) (c .before .before .before .before .before .before .before .before .before .before .head .ensures) (c .before .before .before .before .before .before .before .wide .ensures) (c .before .before .before .before .before .before .wide2 .ensures) (c .before .before .before .before .before .before .before .before .before .head-stands .ensures) (c .before .before .before .before .before .before .before .before .if1 .left) (c .before .before .before .before .before .places-set-up .ensures) (c .before .before .before .before .if2 .left) (c .before .before .before .places-fit .ensures) (c .before .before .if3 .left) _ (c .zeros-u16 .ensures)
+returns-4 c = stands-whole (c .before .before .before .before .before .before .before .before .before .before .before .before .before .before .args .count) (c .before .before .before .before .before .before .before .before .before .before .before .before .before .before .args .books .now) (c .before .before .before .before .before .before .before .before .before .before .before .before .before .before .args .residues .now) (c .before .before .before .before .before .before .before .before .before .before .before .before .before .before .args .plans .now) (c .before .before .before .before .before .before .before .before .before .before .before .before .before .before .args .index) (c .before .before .before .before .before .before .before .before .before .before .head .result) (c .before .before .before .before .before .before .before .before .before .before .head .ensures) (c .before .before .before .before .before .before .before .wide-u32 .ensures) (c .before .before .before .before .before .before .wide-u322 .ensures) (c .before .before .before .before .before .before .before .before .before .head-stands .ensures) (c .before .before .before .before .before .before .before .before .if1 .left) (c .before .before .before .before .before .places-set-up .ensures) (c .before .before .before .before .if2 .left) (c .before .before .before .places-fit .ensures) (c .before .before .if3 .left) _ (c .zeros-u16 .ensures)
 
 pub stands-spec : {M : Type 1} → statement M
 stands-spec =
@@ -69,9 +69,9 @@ stands-spec =
     head-requires
     head-stands-requires
     returns
-    wide-requires
+    wide-u32-requires
     mul-first
-    wide-requires-2
+    wide-u32-requires-2
     mul-used
     add-last
     places-set-up-requires

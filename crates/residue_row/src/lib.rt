@@ -1,4 +1,6 @@
-// Reading a residue's numbers back from the tables. A number past a table's end reads as zero.
+// The numbers of a residue, read from its rows in the tables: `residue` is the residue's number, its rows begin at 6 * residue and 512 * residue. A place
+// past a table's end reads as 0.
+use reading::widths::wide_u32;
 use residues::head::Head;
 ghost use mathlib.Core.Path.{_≡_};
 ghost use Prim.Native.Nat.{_+_, _*_, _<_};
@@ -6,18 +8,12 @@ ghost use lib.ListN.{getD};
 ghost use Rattle.residues.specs.Decode.{headAt};
 ghost use Rattle.residues.specs.Heads.{headOf};
 
-fn wide(x: u32) -> usize
-    ensures { λ r. ⌜ r ≡ x ⌝ }
-{
-    x as usize
-}
-
 // Number `column` of a residue's row.
 fn number(residues: &[u32], residue: u32, column: usize) -> u32
     requires { ⌜ column < 6 ⌝ }
     ensures { λ r. ⌜ r ≡ getD (now (residues .entry)) (6 * residue + column) 0 ⌝ }
 {
-    let place = 6 * wide(residue) + column;
+    let place = 6 * wide_u32(residue) + column;
     reading::buffers::get_u32(residues, place)
 }
 
@@ -81,7 +77,7 @@ pub fn head(residues: &[u32], residue: u32) -> Head
 pub fn plan_place(plans: &[u16], residue: u32, class: u32, pass: u32) -> u16
     ensures { λ r. ⌜ r ≡ getD (now (plans .entry)) (512 * residue + (8 * class + pass)) 0 ⌝ }
 {
-    let row = 512 * wide(residue);
-    let place = 8 * wide(class) + wide(pass);
+    let row = 512 * wide_u32(residue);
+    let place = 8 * wide_u32(class) + wide_u32(pass);
     reading::buffers::get_u16(plans, row + place)
 }

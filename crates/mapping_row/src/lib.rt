@@ -1,16 +1,25 @@
-// What a table of mappings says of each: proofs/Places.antt tells which number of the content each answer is.
+// The numbers of a mapping, read from its row in the table: `mapping` is the mapping's number, its row begins at 804 * mapping. A place past the table's end
+// reads as 0.
+use reading::buffers::get_u8;
 ghost use Prim.Native.Nat.{_+_, _-_, _*_, _<_};
 ghost use mathlib.Core.Path.{_≡_};
 ghost use lib.ListN.{getD};
+
+// The number of coupling steps, which takes two places.
+pub fn two_places(low: u8, high: u8) -> usize
+    ensures { λ r. ⌜ (r ≡ low + 256 * high) × (low < 256) ⌝ }
+{
+    (low as usize) + 256 * (high as usize)
+}
 
 // How many coupling steps a mapping has, 0 to 256.
 pub fn coupling_steps(mappings: &[u8], mapping: usize) -> usize
     requires { ⌜ mapping < 64 ⌝ }
     ensures { λ r. ⌜ r ≡ getD (now (mappings .entry)) (804 * mapping) 0 + 256 * getD (now (mappings .entry)) (804 * mapping + 1) 0 ⌝ }
 {
-    super::stand::two_places(
-        reading::buffers::get_u8(mappings, 804 * mapping),
-        reading::buffers::get_u8(mappings, 804 * mapping + 1),
+    two_places(
+        get_u8(mappings, 804 * mapping),
+        get_u8(mappings, 804 * mapping + 1),
     )
 }
 
@@ -19,7 +28,7 @@ pub fn magnitude(mappings: &[u8], mapping: usize, step: usize) -> u8
     requires { ⌜ (mapping < 64) × (step < 256) ⌝ }
     ensures { λ r. ⌜ r ≡ getD (now (mappings .entry)) (804 * mapping + (4 + 2 * step)) 0 ⌝ }
 {
-    reading::buffers::get_u8(mappings, 804 * mapping + (4 + 2 * step))
+    get_u8(mappings, 804 * mapping + (4 + 2 * step))
 }
 
 // The channel that a coupling step treats as angle.
@@ -27,7 +36,7 @@ pub fn angle(mappings: &[u8], mapping: usize, step: usize) -> u8
     requires { ⌜ (mapping < 64) × (step < 256) ⌝ }
     ensures { λ r. ⌜ r ≡ getD (now (mappings .entry)) (804 * mapping + (5 + 2 * step)) 0 ⌝ }
 {
-    reading::buffers::get_u8(mappings, 804 * mapping + (5 + 2 * step))
+    get_u8(mappings, 804 * mapping + (5 + 2 * step))
 }
 
 // How many submaps a mapping has, 1 to 16.
@@ -35,7 +44,7 @@ pub fn submaps(mappings: &[u8], mapping: usize) -> u8
     requires { ⌜ mapping < 64 ⌝ }
     ensures { λ r. ⌜ r ≡ getD (now (mappings .entry)) (804 * mapping + 2) 0 ⌝ }
 {
-    reading::buffers::get_u8(mappings, 804 * mapping + 2)
+    get_u8(mappings, 804 * mapping + 2)
 }
 
 // A channel's submap; 0 where there is but one.
@@ -43,7 +52,7 @@ pub fn channel_submap(mappings: &[u8], mapping: usize, channel: usize) -> u8
     requires { ⌜ (mapping < 64) × (channel < 256) ⌝ }
     ensures { λ r. ⌜ r ≡ getD (now (mappings .entry)) (804 * mapping + (516 + channel)) 0 - 1 ⌝ }
 {
-    let number = reading::buffers::get_u8(mappings, 804 * mapping + (516 + channel));
+    let number = get_u8(mappings, 804 * mapping + (516 + channel));
     if number == 0 {
         return 0;
     }
@@ -55,7 +64,7 @@ pub fn submap_floor(mappings: &[u8], mapping: usize, submap: usize) -> u8
     requires { ⌜ (mapping < 64) × (submap < 16) ⌝ }
     ensures { λ r. ⌜ r ≡ getD (now (mappings .entry)) (804 * mapping + (772 + 2 * submap)) 0 ⌝ }
 {
-    reading::buffers::get_u8(mappings, 804 * mapping + (772 + 2 * submap))
+    get_u8(mappings, 804 * mapping + (772 + 2 * submap))
 }
 
 // The number of a submap's residue.
@@ -63,5 +72,5 @@ pub fn submap_residue(mappings: &[u8], mapping: usize, submap: usize) -> u8
     requires { ⌜ (mapping < 64) × (submap < 16) ⌝ }
     ensures { λ r. ⌜ r ≡ getD (now (mappings .entry)) (804 * mapping + (773 + 2 * submap)) 0 ⌝ }
 {
-    reading::buffers::get_u8(mappings, 804 * mapping + (773 + 2 * submap))
+    get_u8(mappings, 804 * mapping + (773 + 2 * submap))
 }

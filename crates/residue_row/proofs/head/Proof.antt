@@ -1,8 +1,8 @@
--- `residue_tables::table::head` meets its contract, by TableLaws. Assumes nothing.
-use Rattle.residue_tables.proofs.TableLaws.{table-laws}
+-- `residue_row::head` meets its contract, by Laws. Assumes nothing.
+use Rattle.residue_row.proofs.Laws.{row-laws}
 use borrow.Author.Needs.{needs}
-use Rattle.residue_tables.proofs.table.head.Statement.{statement}
-use Rattle.residue_tables.proofs.table.head.Tie as tie
+use Rattle.residue_row.proofs.head.Statement.{statement}
+use Rattle.residue_row.proofs.head.Tie as tie
 
 kind-requires : tie.Need-kind-requires
 kind-requires c κs = search needs
@@ -23,7 +23,7 @@ classbook-requires : tie.Need-classbook-requires
 classbook-requires c κs = search needs
 
 returns : tie.Need-returns
-returns c = search table-laws
+returns c = search row-laws
 
 pub head-spec : {M : Type 1} → statement M
 head-spec =
