@@ -22,7 +22,7 @@ use Rattle.floors.specs.Pieces.{classesTo, valuesTo}
 use Rattle.floor_tables.specs.Rules.{ListRules, FloorRules, FloorsRules}
 use Rattle.floor_class.specs.Decode.{classesAt}
 use Rattle.floors.specs.Decode.{floorAt, noFloor}
-use Rattle.floor_tables.specs.Stand.{FloorsStand}
+use Rattle.floor_tables.specs.Recognised.{FloorsRecognised}
 use Rattle.reading.proofs.Lies.{Lies, lies-at, lies-both, lies-first, lies-rest, lies-slice, lies-of}
 use Rattle.floor_class.proofs.Decoded.{class-long}
 use Rattle.floors.proofs.RowLaws.{class-count-most, classes-counted, values-counted}
@@ -197,7 +197,7 @@ module _ (books : ℕ) (t : List ℕ) where
         lie = lies-both (floorRow (floorAt t at)) (rows floorRow (floorsAt (at + 277) n)) (here .1) (rw (floor-long (floorAt t at)) (later .lie));
       }
 
-  pub floors-stand : (count : ℕ) → count ≤ 64 → 17728 ≤ length t → FloorsRules books t count → Below t (277 * count) (length t) 1 → FloorsStand books count t
+  pub floors-stand : (count : ℕ) → count ≤ 64 → 17728 ≤ length t → FloorsRules books t count → Below t (277 * count) (length t) 1 → FloorsRecognised books count t
   floors-stand count few room r z =
       let held = floors-held 0 count (omega arith) (λ f h. let e : 277 * f ≡ 0 + 277 * f = omega arith in rw e at (r .each f h)) in
       let fs = floorsAt 0 count in
@@ -218,7 +218,7 @@ module _ (books : ℕ) (t : List ℕ) where
   valid-floor (x ∷ fs) v zero h = v .0
   valid-floor (x ∷ fs) v (suc f) h = valid-floor fs (v .1) f (omega arith)
 
-  pub floors-tested : (count : ℕ) → count ≤ 64 → FloorsStand books count t → FloorsRules books t count
+  pub floors-tested : (count : ℕ) → count ≤ 64 → FloorsRecognised books count t → FloorsRules books t count
   floors-tested count few st =
       let c = st .counted in
       let r = st .room in
@@ -227,7 +227,7 @@ module _ (books : ℕ) (t : List ℕ) where
             floor-tested (277 * f) (getD (st .content) f noFloor) (valid-floor (st .content) (st .valid) f (omega arith)) (floors-row (st .content) t (st .written) (omega arith) f (omega arith));
       }
 
-  pub floors-trailing : (count : ℕ) → FloorsStand books count t → Below t (277 * count) (length t) 1
+  pub floors-trailing : (count : ℕ) → FloorsRecognised books count t → Below t (277 * count) (length t) 1
   floors-trailing count st =
       let R = rows floorRow (st .content) in
       let long : length R ≡ 277 * count = rows-length floorRow (λ _. Unit {0}) 277 floor-long (st .content) ∙ ap (λ (x : ℕ). 277 * x) (st .counted) in
@@ -236,12 +236,12 @@ module _ (books : ℕ) (t : List ℕ) where
 
 -- THE TEST OF A TABLE, as the code asks it
 module _ (books count : ℕ) (t : List ℕ) where
-  pub table-short : length t < 17728 → (false ≡ true) ↔ FloorsStand books count t
+  pub table-short : length t < 17728 → (false ≡ true) ↔ FloorsRecognised books count t
   table-short h = iff-false (λ st. let r = st .room in omega arith)
 
   module _ (few : count ≤ 64) (room : 17728 ≤ length t) {books′ : ℕ} (same : books′ ≡ books) {b : Bool} (p : (b ≡ true) ↔ FloorsRules books′ t count) where
-    pub table-rows : not b ≡ true → (false ≡ true) ↔ FloorsStand books count t
+    pub table-rows : not b ≡ true → (false ≡ true) ↔ FloorsRecognised books count t
     table-rows n = iff-false (λ st. refuted p n (rw same (floors-tested books t count few st)))
 
-    pub table-end : not b ≡ false → {b₂ : Bool} → (b₂ ≡ true) ↔ Below t (277 * count) (length t) 1 → (b₂ ≡ true) ↔ FloorsStand books count t
+    pub table-end : not b ≡ false → {b₂ : Bool} → (b₂ ≡ true) ↔ Below t (277 * count) (length t) 1 → (b₂ ≡ true) ↔ FloorsRecognised books count t
     table-end n p₂ = (λ e. floors-stand books t count few room (rw same at (shown p n)) (p₂ .0 e), λ st. p₂ .1 (floors-trailing books t count st))

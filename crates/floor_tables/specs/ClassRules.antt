@@ -3,6 +3,7 @@
 use Prim.Native.Nat.{ℕ, _+_, _*_, _^_, _≤_, _<_}
 use mathlib.Core.List.{List}
 use lib.ListN.{getD}
+use Rattle.floor_class.specs.Layout.{classWidth}
 use Rattle.floor_class.specs.Valid.{MasterFits}
 
 -- every number from place `from` up to `to` is below the limit: below 1 it is 0
@@ -24,4 +25,4 @@ pub record ClassRules (books : ℕ) (t : List ℕ) (at : ℕ) : Type 0 where
   pub list : BookRules books t (at + 3) (2 ^ getD t (at + 1) 0)
 
 pub record ClassesRules (books : ℕ) (t : List ℕ) (at count : ℕ) : Type 0 where
-  pub each : (c : ℕ) → c < count → ClassRules books t (at + 11 * c)
+  pub each : (c : ℕ) → c < count → ClassRules books t (at + classWidth * c)

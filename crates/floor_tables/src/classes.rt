@@ -1,6 +1,7 @@
 // Whether the rows of classes that are right for so many codebooks lie from a place on.
 use crate::below::are_below;
 use crate::below::number;
+use floor_class::CLASS_WIDTH;
 use reading::buffers;
 ghost use mathlib.Core.Path.{_≡_};
 ghost use mathlib.Core.Bool.{true};
@@ -76,7 +77,7 @@ pub fn are_classes(floors: &[u16], at: usize, count: usize, books: usize) -> boo
 {
     let mut c: usize = 0;
     while c < count {
-        if !is_class(floors, at + 11 * c, books) {
+        if !is_class(floors, at + CLASS_WIDTH * c, books) {
             return false;
         }
         c = c + 1;

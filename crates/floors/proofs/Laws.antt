@@ -24,13 +24,13 @@ use Rattle.floor_x_list.proofs.Accepted.{ends-fit}
 use Rattle.floors.specs.Content.{Floor, classCount, valueCount}
 use Rattle.floors.specs.Layout.{floorRow}
 use Rattle.floors.specs.Decode.{noFloor}
-use Rattle.floors.specs.Reading.{floorType, floor1, floor}
+use Rattle.floors.specs.Reading.{floorType, floorFrom, floor1, floor}
 use Rattle.floors.specs.Valid.{ValidFloor, ValidFloors}
 use Rattle.floors.proofs.Decoded.{floor-long, FloorLies, floor-lies}
 
 -- AN ACCEPTED FLOOR MEETS EVERY RULE
 pub floor1-valid : (books place : ℕ) (s : List ℕ) (k : ℕ) {x : Floor × ℕ} → floor1 books place s k ≡ ok x → ValidFloor books (x .0)
-unfolding floor1
+unfolding floor1 floorFrom
 floor1-valid books place s k {x} e =
     let n = then-ok (field 5 s k) _ e in
     let p = then-ok (many (field 4) (n .0 .0) s (n .0 .1)) _ (n .2) in

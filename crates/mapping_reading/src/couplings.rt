@@ -3,6 +3,7 @@ use bits::Cursor;
 use bits::Field;
 use bits::Refusal;
 use bits::Step;
+use mappings::COUPLINGS_PLACE;
 ghost use Prim.Native.Nat.{_+_, _≤_};
 ghost use mathlib.Core.Path.{_≡_};
 ghost use lib.Seq.{sets};
@@ -11,7 +12,7 @@ ghost use Rattle.reading.specs.Reader.{many, mapped, into1};
 ghost use Rattle.reading.specs.Table.{table, putRow};
 ghost use Rattle.bits.specs.Cursors.{position, outcome, Wrote};
 ghost use Rattle.mappings.specs.Reading.{channel, coupling};
-ghost use Rattle.mappings.specs.Layout.{couplingRow};
+ghost use Rattle.mappings.specs.Layout.{couplingRow, mappingWidth, couplingsPlace};
 
 // A channel's number, in as many bits as the greatest one has.
 pub fn read_channel(packet: &[u8], from: Cursor, channels: u32) -> Field
@@ -35,7 +36,7 @@ pub fn read_channel(packet: &[u8], from: Cursor, channels: u32) -> Field
 
 // One coupling step, its row written at `at`.
 pub fn read_coupling(packet: &[u8], from: Cursor, channels: u32, row: &mut [u8], at: usize) -> Step
-    requires { ⌜ (1 ≤ channels) × (channels ≤ 255) × (at ≤ 804) ⌝ }
+    requires { ⌜ (1 ≤ channels) × (channels ≤ 255) × (at ≤ mappingWidth) ⌝ }
     ensures { λ r. ⌜ Wrote (into1 (putRow couplingRow) (coupling channels (now (packet .entry)) (position from)) (table (now (row .entry)) at))
         r (table (now (row .exit)) (at + 2)) ⌝ }
 {
@@ -67,12 +68,12 @@ pub fn read_couplings(
     row: &mut [u8],
 ) -> Step
     requires { ⌜ (1 ≤ channels) × (channels ≤ 255) × (count ≤ 256) ⌝ }
-    ensures { λ r. ⌜ Wrote (mapped (λ l. sets (now (row .entry)) 4 (rows couplingRow l)) (many (coupling channels) count (now (packet .entry)) (position from)))
+    ensures { λ r. ⌜ Wrote (mapped (λ l. sets (now (row .entry)) couplingsPlace (rows couplingRow l)) (many (coupling channels) count (now (packet .entry)) (position from)))
         r (now (row .exit)) ⌝ }
 {
     let mut k = from;
     let mut i: u32 = 0;
-    let mut at: usize = 4;
+    let mut at: usize = COUPLINGS_PLACE;
     while i < count {
         match read_coupling(packet, k, channels, row, at) {
             Step::Refused(z) => {

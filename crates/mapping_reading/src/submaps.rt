@@ -4,6 +4,8 @@ use bits::Field;
 use bits::Refusal;
 use bits::Step;
 use mappings::Known;
+use mappings::MULTIPLEX_PLACE;
+use mappings::SUBMAPS_PLACE;
 ghost use Prim.Native.Nat.{_+_, _≤_};
 ghost use lib.Seq.{sets};
 ghost use Rattle.reading.specs.Lists.{rows};
@@ -11,11 +13,11 @@ ghost use Rattle.reading.specs.Reader.{many, mapped, into1};
 ghost use Rattle.reading.specs.Table.{table, putRow};
 ghost use Rattle.bits.specs.Cursors.{position, Wrote};
 ghost use Rattle.mappings.specs.Reading.{multiplex, multiplexes, submap};
-ghost use Rattle.mappings.specs.Layout.{multiplexRow, submapRow};
+ghost use Rattle.mappings.specs.Layout.{multiplexRow, submapRow, mappingWidth, multiplexPlace, submapsPlace};
 
 // One channel's submap, which is written at `at` plus one.
 pub fn read_multiplex(packet: &[u8], from: Cursor, submaps: u32, row: &mut [u8], at: usize) -> Step
-    requires { ⌜ at ≤ 804 ⌝ }
+    requires { ⌜ at ≤ mappingWidth ⌝ }
     ensures { λ r. ⌜ Wrote (into1 (putRow multiplexRow) (multiplex submaps (now (packet .entry)) (position from)) (table (now (row .entry)) at))
         r (table (now (row .exit)) (at + 1)) ⌝ }
 {
@@ -37,12 +39,12 @@ pub fn read_multiplex(packet: &[u8], from: Cursor, submaps: u32, row: &mut [u8],
 // Every channel's submap, into its part of the row.
 fn read_channels(packet: &[u8], from: Cursor, channels: u32, submaps: u32, row: &mut [u8]) -> Step
     requires { ⌜ channels ≤ 255 ⌝ }
-    ensures { λ r. ⌜ Wrote (mapped (λ l. sets (now (row .entry)) 516 (rows multiplexRow l)) (many (multiplex submaps) channels (now (packet .entry)) (position from)))
+    ensures { λ r. ⌜ Wrote (mapped (λ l. sets (now (row .entry)) multiplexPlace (rows multiplexRow l)) (many (multiplex submaps) channels (now (packet .entry)) (position from)))
         r (now (row .exit)) ⌝ }
 {
     let mut k = from;
     let mut i: u32 = 0;
-    let mut at: usize = 516;
+    let mut at: usize = MULTIPLEX_PLACE;
     while i < channels {
         match read_multiplex(packet, k, submaps, row, at) {
             Step::Refused(z) => {
@@ -67,7 +69,7 @@ pub fn read_multiplexes(
     row: &mut [u8],
 ) -> Step
     requires { ⌜ channels ≤ 255 ⌝ }
-    ensures { λ r. ⌜ Wrote (mapped (λ l. sets (now (row .entry)) 516 (rows multiplexRow l)) (multiplexes channels submaps (now (packet .entry)) (position from)))
+    ensures { λ r. ⌜ Wrote (mapped (λ l. sets (now (row .entry)) multiplexPlace (rows multiplexRow l)) (multiplexes channels submaps (now (packet .entry)) (position from)))
         r (now (row .exit)) ⌝ }
 {
     if submaps <= 1 {
@@ -78,7 +80,7 @@ pub fn read_multiplexes(
 
 // One submap, its row written at `at`.
 pub fn read_submap(packet: &[u8], from: Cursor, known: Known, row: &mut [u8], at: usize) -> Step
-    requires { ⌜ at ≤ 804 ⌝ }
+    requires { ⌜ at ≤ mappingWidth ⌝ }
     ensures { λ r. ⌜ Wrote (into1 (putRow submapRow) (submap known (now (packet .entry)) (position from)) (table (now (row .entry)) at))
         r (table (now (row .exit)) (at + 2)) ⌝ }
 {
@@ -115,12 +117,12 @@ pub fn read_submap(packet: &[u8], from: Cursor, known: Known, row: &mut [u8], at
 // `count` submaps, into their part of the row.
 pub fn read_submaps(packet: &[u8], from: Cursor, count: u32, known: Known, row: &mut [u8]) -> Step
     requires { ⌜ count ≤ 16 ⌝ }
-    ensures { λ r. ⌜ Wrote (mapped (λ l. sets (now (row .entry)) 772 (rows submapRow l)) (many (submap known) count (now (packet .entry)) (position from)))
+    ensures { λ r. ⌜ Wrote (mapped (λ l. sets (now (row .entry)) submapsPlace (rows submapRow l)) (many (submap known) count (now (packet .entry)) (position from)))
         r (now (row .exit)) ⌝ }
 {
     let mut k = from;
     let mut i: u32 = 0;
-    let mut at: usize = 772;
+    let mut at: usize = SUBMAPS_PLACE;
     while i < count {
         match read_submap(packet, k, known, row, at) {
             Step::Refused(z) => {

@@ -1,2 +1,2 @@
 // Mappings in the tables: whether a table that anyone hands in holds mappings that meet every rule.
-pub mod stand; // recognising a table that is handed in
+pub mod recognise; // recognising a table that is handed in

@@ -20,10 +20,10 @@ use Rattle.bits.specs.Field.{field}
 use Rattle.bits.proofs.Fields.{field-ok}
 use Rattle.modes.specs.Content.{Mode}
 use Rattle.modes.specs.Reading.{mode}
-use Rattle.modes.specs.Layout.{modeRow}
+use Rattle.modes.specs.Layout.{modeWidth, modeRow}
 use Rattle.modes.specs.Valid.{ValidMode}
 use Rattle.modes.specs.Decode.{decodeMode}
-use Rattle.modes.specs.Stand.{ModesStand}
+use Rattle.modes.specs.Recognised.{ModesRecognised}
 
 pub mode-wide : (m : Mode) → length (modeRow m) ≡ 2
 unfolding modeRow
@@ -52,11 +52,11 @@ pub modes-valid : (mappings : ℕ) (s : List ℕ) (n k : ℕ) (x : List Mode × 
 modes-valid mappings s n k x e = (many-number (mode mappings) s n k e, many-each (mode mappings) s (ValidMode mappings) (mode-valid mappings s) n k e)
 
 -- no other modes share a table
-pub one-content : (mappings n : ℕ) (cells : List ℕ) (a b : ModesStand mappings n cells) → a .items ≡ b .items
+pub one-content : (mappings n : ℕ) (cells : List ℕ) (a b : ModesRecognised mappings n cells) → a .items ≡ b .items
 one-content mappings n cells a b = stands-same modeRow (ValidMode mappings) 2 mode-wide decodeMode (λ m v. decode-mode m) n cells a b
 
--- IN A TABLE THAT IS THE WRITING-OUT OF MODES, THE ROW OF MODE i LIES AT 2 * i; d stands for a mode past the last
-pub modes-lie : (ms : List Mode) (t : List ℕ) → t ≡ pad (length t) (rows modeRow ms) → 2 * length ms ≤ length t → (i : ℕ) → i < length ms → (d : Mode) → Lies t (2 * i) (modeRow (getD ms i d))
+-- IN A TABLE THAT IS THE WRITING-OUT OF MODES, THE ROW OF MODE i LIES AT i TIMES THE WIDTH; d stands for a mode past the last
+pub modes-lie : (ms : List Mode) (t : List ℕ) → t ≡ pad (length t) (rows modeRow ms) → modeWidth * length ms ≤ length t → (i : ℕ) → i < length ms → (d : Mode) → Lies t (modeWidth * i) (modeRow (getD ms i d))
 modes-lie ms t e h i k d = rows-lie modeRow 2 mode-wide d ms t e h i k
 
 -- what each place of a mode that lies at `at` holds

@@ -5,6 +5,8 @@ pub mod plan; // the plan: which book each class has at each pass
 use bits::Cursor;
 use bits::Refusal;
 use bits::Step;
+use residues::HEAD_WIDTH;
+use residues::PLAN_WIDTH;
 use residues::head::Head;
 use residues::head::HeadRead;
 ghost use mathlib.Core.Path.{_≡_};
@@ -13,11 +15,11 @@ ghost use lib.ListN.{length, take};
 ghost use lib.Seq.{sets};
 ghost use Rattle.reading.specs.Reader.{many, into, into1};
 ghost use Rattle.bits.specs.Cursors.{position, Wrote};
-ghost use Rattle.residues.specs.Reading.{residue};
+ghost use Rattle.residues.specs.Reading.{residue, residueFrom};
 ghost use Rattle.residues.specs.Layout.{putResidue};
 ghost use Rattle.residues.specs.FromTable.{booksOf};
 ghost use Rattle.residues.specs.Heads.{headOf, headNumbers};
-ghost use Rattle.residues.specs.Plans.{residueFrom, tablesAt};
+ghost use Rattle.residues.specs.Plans.{tablesAt};
 ghost use Rattle.residues.specs.Valid.{AcceptedValid};
 
 fn wide(x: u32) -> usize
@@ -82,8 +84,8 @@ fn read_plan(
     if !residues::fits::plan_fits(plan, classes, head.size, books) {
         return Step::Refused(Refusal { number: 13, place });
     }
-    write_head(residues, 6 * index, head);
-    crate::plan::write_plan(plans, 512 * index, plan);
+    write_head(residues, HEAD_WIDTH * index, head);
+    crate::plan::write_plan(plans, PLAN_WIDTH * index, plan);
     Step::Next(at)
 }
 

@@ -12,7 +12,7 @@ use Rattle.reading.specs.Lists.{rows}
 use Rattle.reading.proofs.Lies.{Lies, lies-number, rows-lie}
 use Rattle.residues.specs.Content.{Residue}
 use Rattle.residues.specs.Reading.{Books}
-use Rattle.residues.specs.Layout.{headRow, planTable}
+use Rattle.residues.specs.Layout.{headWidth, planWidth, headRow, planTable}
 use Rattle.residues.specs.Valid.{Rows8, ValidResidue}
 use Rattle.residues.specs.Decode.{headAt}
 use Rattle.residues.specs.Heads.{headOf}
@@ -46,12 +46,12 @@ rows8-at (row ∷ plan) r (suc class) pass k h g e =
 
 -- the rows of a residue that lies in the tables as number i
 pub record ResidueLies (residues plans : List ℕ) (i : ℕ) (r : Residue) : Type 0 where
-  pub head : Lies residues (6 * i) (headRow r)
-  pub plan : Lies plans (512 * i) (planTable r)
+  pub head : Lies residues (headWidth * i) (headRow r)
+  pub plan : Lies plans (planWidth * i) (planTable r)
 
 -- IN TABLES THAT ARE THE WRITING-OUT OF RESIDUES, EACH LIES AT ITS NUMBER; d stands for a residue past the last
 pub residues-lie : (rs : List Residue) (residues plans : List ℕ) → residues ≡ pad (length residues) (rows headRow rs) → plans ≡ pad (length plans) (rows planTable rs)
-    → 6 * length rs ≤ length residues → 512 * length rs ≤ length plans → (i : ℕ) → i < length rs → (d : Residue) → ResidueLies residues plans i (getD rs i d)
+    → headWidth * length rs ≤ length residues → planWidth * length rs ≤ length plans → (i : ℕ) → i < length rs → (d : Residue) → ResidueLies residues plans i (getD rs i d)
 residues-lie rs residues plans e f h g i k d =
     record { head = rows-lie headRow 6 length-headRow d rs residues e h i k; plan = rows-lie planTable 512 length-planTable d rs plans f g i k }
 
@@ -75,7 +75,7 @@ module _ {residues plans : List ℕ} {i : ℕ} {r : Residue} (l : ResidueLies re
 
   -- the place of a class and a pass
   pub plan-place-is : {books : Books} → ValidResidue books r → (class pass : ℕ) → class < r .classifications → pass < 8
-      → getD plans (512 * i + (8 * class + pass)) 0 ≡ getD (getD (r .plan) class []) pass 0
+      → getD plans (planWidth * i + (8 * class + pass)) 0 ≡ getD (getD (r .plan) class []) pass 0
   unfolding planTable
   plan-place-is v class pass c p =
       let high = v .classes-high in

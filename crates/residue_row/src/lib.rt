@@ -1,19 +1,22 @@
 // The numbers of a residue, read from its rows in the tables: `residue` is the residue's number, its rows begin at 6 * residue and 512 * residue. A place
 // past a table's end reads as 0.
 use reading::widths::wide_u32;
+use residues::HEAD_WIDTH;
+use residues::PLAN_WIDTH;
 use residues::head::Head;
 ghost use mathlib.Core.Path.{_≡_};
 ghost use Prim.Native.Nat.{_+_, _*_, _<_};
 ghost use lib.ListN.{getD};
 ghost use Rattle.residues.specs.Decode.{headAt};
 ghost use Rattle.residues.specs.Heads.{headOf};
+ghost use Rattle.residues.specs.Layout.{headWidth, planWidth};
 
 // Number `column` of a residue's row.
 fn number(residues: &[u32], residue: u32, column: usize) -> u32
     requires { ⌜ column < 6 ⌝ }
-    ensures { λ r. ⌜ r ≡ getD (now (residues .entry)) (6 * residue + column) 0 ⌝ }
+    ensures { λ r. ⌜ r ≡ getD (now (residues .entry)) (headWidth * residue + column) 0 ⌝ }
 {
-    let place = 6 * wide_u32(residue) + column;
+    let place = HEAD_WIDTH * wide_u32(residue) + column;
     reading::buffers::get_u32(residues, place)
 }
 
@@ -75,9 +78,9 @@ pub fn head(residues: &[u32], residue: u32) -> Head
 
 // The place of a class and a pass in a residue's plan: a book's number plus one, or 0 for nothing.
 pub fn plan_place(plans: &[u16], residue: u32, class: u32, pass: u32) -> u16
-    ensures { λ r. ⌜ r ≡ getD (now (plans .entry)) (512 * residue + (8 * class + pass)) 0 ⌝ }
+    ensures { λ r. ⌜ r ≡ getD (now (plans .entry)) (planWidth * residue + (8 * class + pass)) 0 ⌝ }
 {
-    let row = 512 * wide_u32(residue);
+    let row = PLAN_WIDTH * wide_u32(residue);
     let place = 8 * wide_u32(class) + wide_u32(pass);
     reading::buffers::get_u16(plans, row + place)
 }

@@ -1,2 +1,2 @@
-pub mod StandLaws
-pub mod StandTheorem
+pub mod RecogniseLaws
+pub mod RecogniseTheorem

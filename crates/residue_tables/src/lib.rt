@@ -1,2 +1,2 @@
 // Residues in the tables: whether tables that anyone hands in hold residues that meet every rule.
-pub mod stand; // recognising tables that are handed in
+pub mod recognise; // recognising tables that are handed in
