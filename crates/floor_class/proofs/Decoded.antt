@@ -10,7 +10,8 @@ use lib.Seq.{slice}
 use Rattle.reading.specs.Lists.{rows}
 use Rattle.reading.specs.Pad.{pad}
 use Rattle.reading.proofs.Pads.{length-pad}
-use Rattle.numbers.proofs.Lies.{Lies, lies-at, lies-left, lies-right, lies-first, lies-rest, lies-slice, pad-before}
+use Rattle.reading.proofs.Lies.{Lies, lies-at, lies-left, lies-right, lies-first, lies-rest, lies-slice}
+use Rattle.reading.proofs.Stands.{pad-append}
 use Rattle.floor_class.specs.Content.{Class}
 use Rattle.floor_class.specs.Layout.{classRow}
 use Rattle.floor_class.specs.Valid.{ValidClasses}
@@ -54,7 +55,7 @@ unfolding rows
 classes-lie {t} {at} m c cs l =
     let e : 11 * suc m ≡ length (classRow c) + 11 * m = mul-suc 11 m ∙ add-comm (11 * m) 11 ∙ ap (λ (x : ℕ). x + 11 * m) (sym (class-long c)) in
     let p : pad (11 * suc m) (classRow c ++ rows classRow cs) ≡ classRow c ++ pad (11 * m) (rows classRow cs) =
-    ap (λ (x : ℕ). pad x (classRow c ++ rows classRow cs)) e ∙ pad-before (classRow c) (rows classRow cs) (11 * m) in
+    ap (λ (x : ℕ). pad x (classRow c ++ rows classRow cs)) e ∙ pad-append (classRow c) (rows classRow cs) (11 * m) in
     let k : Lies t at (classRow c ++ pad (11 * m) (rows classRow cs)) = rw p at l in
     (lies-left (classRow c) (pad (11 * m) (rows classRow cs)) k, rw (class-long c) at (lies-right (classRow c) (pad (11 * m) (rows classRow cs)) k))
 

@@ -5,6 +5,7 @@ use mathlib.Core.List.{List, [], _∷_}
 use lib.ListN.{getD}
 use lib.Seq.{slice}
 use Rattle.floor_class.specs.Content.{Class}
+use Rattle.floor_class.specs.Layout.{classWidth}
 
 -- the class whose row begins at place `at`
 unfoldable pub classAt : List ℕ → ℕ → Class
@@ -19,7 +20,7 @@ classAt t at =
 -- n classes from place `at` on
 unfoldable pub classesAt : List ℕ → ℕ → ℕ → List Class
 classesAt t at zero = []
-classesAt t at (suc n) = classAt t at ∷ classesAt t (at + 11) n
+classesAt t at (suc n) = classAt t at ∷ classesAt t (at + classWidth) n
 
 -- what stands for a class past the last
 abbrev pub noClass : Class

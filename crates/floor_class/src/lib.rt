@@ -10,9 +10,12 @@ ghost use Rattle.reading.specs.Reader.{many, into, into1};
 ghost use Rattle.reading.specs.Table.{table, putRow};
 ghost use Rattle.bits.specs.Cursors.{position, outcome, Wrote};
 ghost use Rattle.numbers.specs.Cell.{cell};
-ghost use Rattle.floor_class.specs.Layout.{classRow};
+ghost use Rattle.floor_class.specs.Layout.{classRow, classWidth};
 ghost use Rattle.floor_class.specs.Reading.{masterBook, subclassBook, class};
 ghost use Rattle.floor_class.specs.Pieces.{classRowOf};
+
+// The width of a class's row (specs/Layout.antt).
+pub const CLASS_WIDTH: usize = 11;
 
 // The master book's number plus one, read only where there are subclass bits.
 pub fn read_master_book(packet: &[u8], from: Cursor, books: u32, subclasses: u32) -> Field
@@ -100,7 +103,7 @@ pub fn read_class_row(
     at: usize,
 ) -> Step
     requires { ⌜ (dimensions ≤ 8) × (subclasses ≤ 3) × (master ≤ 256) × (at ≤ 165) ⌝ }
-    ensures { λ r. ⌜ Wrote (into1 (putRow (classRowOf dimensions subclasses master)) (many (subclassBook books) (2 ^ subclasses) (now (packet .entry)) (position from)) (table (now (classes .entry)) at)) r (table (now (classes .exit)) (at + 11)) ⌝ }
+    ensures { λ r. ⌜ Wrote (into1 (putRow (classRowOf dimensions subclasses master)) (many (subclassBook books) (2 ^ subclasses) (now (packet .entry)) (position from)) (table (now (classes .entry)) at)) r (table (now (classes .exit)) (at + classWidth)) ⌝ }
 {
     let mut list = [0u16; 8];
     let count = numbers::wide(numbers::power(subclasses));
@@ -121,7 +124,7 @@ pub fn read_class_row(
 // A class, its row from place `at` on.
 pub fn read_class(packet: &[u8], from: Cursor, books: u32, classes: &mut [u16], at: usize) -> Step
     requires { ⌜ (books ≤ 256) × (at ≤ 165) ⌝ }
-    ensures { λ r. ⌜ Wrote (into1 (putRow classRow) (class books (now (packet .entry)) (position from)) (table (now (classes .entry)) at)) r (table (now (classes .exit)) (at + 11)) ⌝ }
+    ensures { λ r. ⌜ Wrote (into1 (putRow classRow) (class books (now (packet .entry)) (position from)) (table (now (classes .entry)) at)) r (table (now (classes .exit)) (at + classWidth)) ⌝ }
 {
     match from.field(packet, 3) {
         Field::Refused(z) => Step::Refused(z),
@@ -160,12 +163,12 @@ pub fn read_classes(
     classes: &mut [u16],
 ) -> Step
     requires { ⌜ (books ≤ 256) × (count ≤ 16) ⌝ }
-    ensures { λ r. ⌜ Wrote (into (putRow classRow) (many (class books) count (now (packet .entry)) (position from)) (table (now (classes .entry)) 0)) r (table (now (classes .exit)) (11 * count)) ⌝ }
+    ensures { λ r. ⌜ Wrote (into (putRow classRow) (many (class books) count (now (packet .entry)) (position from)) (table (now (classes .entry)) 0)) r (table (now (classes .exit)) (classWidth * count)) ⌝ }
 {
     let mut next = from;
     let mut i: usize = 0;
     while i < count {
-        match read_class(packet, next, books, classes, 11 * i) {
+        match read_class(packet, next, books, classes, CLASS_WIDTH * i) {
             Step::Refused(z) => {
                 return Step::Refused(z);
             }

@@ -1,37 +1,33 @@
 -- Which number of a floor each place of its row holds: with `floors-lie` of the crate floors, what the functions of src/lib.rt give.
 -- Assumes nothing.
-use Prim.Native.Nat.{ℕ, zero, suc, _+_, _*_, _≤_, _<_}
+use Prim.Native.Nat.{ℕ, _+_, _*_, _≤_, _<_}
 use native.Mathlib.Omega.{arith}
-use mathlib.Core.List.{List, [], _∷_}
-use mathlib.Core.Path.{_≡_, _∙_}
+use mathlib.Core.List.{List}
+use mathlib.Core.Path.{_≡_}
 use lib.ListN.{length, getD}
 use lib.Seq.{slice}
 use Rattle.reading.specs.Lists.{rows}
 use Rattle.reading.specs.Pad.{pad}
-use Rattle.reading.proofs.Pads.{pad-get, length-pad}
 use Rattle.floor_class.specs.Content.{Class}
 use Rattle.floor_x_list.specs.Content.{xList}
 use Rattle.floors.specs.Content.{Floor}
 use Rattle.floor_class.specs.Layout.{classRow}
 use Rattle.floor_class.specs.Decode.{noClass}
-use Rattle.numbers.proofs.Lies.{Lies, lies-at, lies-slice}
-use Rattle.floor_class.proofs.Decoded.{ClassLies, class-lies, classes-lie}
+use Rattle.reading.proofs.Lies.{Lies, lies-slice, lies-number, rows-lie-in}
+use Rattle.floor_class.proofs.Decoded.{ClassLies, class-long, class-lies}
 use Rattle.floors.proofs.Decoded.{FloorLies}
 
 -- row c of the rows of classes
 pub class-row : {t : List ℕ} (at m : ℕ) (cs : List Class) (c : ℕ) → c < length cs → length cs ≤ m → Lies t at (pad (11 * m) (rows classRow cs)) → Lies t (at + 11 * c) (classRow (getD cs c noClass))
-class-row at m [] c h k l = absurd (omega arith)
-class-row at zero (x ∷ cs) c h k l = absurd (omega arith)
-class-row at (suc m) (x ∷ cs) zero h k l = lies-at (omega arith) (classes-lie m x cs l .0)
-class-row at (suc m) (x ∷ cs) (suc c) h k l = lies-at (omega arith) (class-row (at + 11) m cs c (omega arith) (omega arith) (classes-lie m x cs l .1))
+class-row at m cs c h k l = rows-lie-in classRow 11 class-long noClass (11 * m) cs l (omega arith) c h
 
 -- what each place of a floor that lies at `at` holds
 module _ {t : List ℕ} {at : ℕ} {f : Floor} (l : FloorLies t at f) where
   pub partition-is : (i : ℕ) → i < 31 → getD t (at + 5 + i) 0 ≡ getD (f .partitions) i 0
-  partition-is i h = let p = length-pad 31 (f .partitions) in l .partitions .same i (omega arith) ∙ pad-get 31 (f .partitions) i h
+  partition-is = lies-number 31 (f .partitions) (l .partitions)
 
   pub x-is : (i : ℕ) → i < 65 → getD t (at + 212 + i) 0 ≡ getD (xList (f .rangebits) (f .xs)) i 0
-  x-is i h = let p = length-pad 65 (xList (f .rangebits) (f .xs)) in l .list .same i (omega arith) ∙ pad-get 65 (xList (f .rangebits) (f .xs)) i h
+  x-is = lies-number 65 (xList (f .rangebits) (f .xs)) (l .list)
 
   pub x-list-is : 2 + length (f .xs) ≤ 65 → slice (at + 212) (at + 212 + (2 + length (f .xs))) t ≡ xList (f .rangebits) (f .xs)
   x-list-is h = lies-slice 65 (2 + length (f .xs)) (xList (f .rangebits) (f .xs)) (l .list) (omega arith) h
@@ -40,4 +36,4 @@ module _ {t : List ℕ} {at : ℕ} {f : Floor} (l : FloorLies t at f) where
   class-is c h k = class-lies (getD (f .classes) c noClass) (class-row (at + 36) 16 (f .classes) c h k (l .classes))
 
 pub subclass-book-is : {t : List ℕ} {at : ℕ} {c : Class} → ClassLies t at c → (j : ℕ) → j < 8 → getD t (at + 3 + j) 0 ≡ getD (c .books) j 0
-subclass-book-is {t} {at} {c} l j h = let p = length-pad 8 (c .books) in l .books .same j (omega arith) ∙ pad-get 8 (c .books) j h
+subclass-book-is {t} {at} {c} l = lies-number 8 (c .books) (l .books)

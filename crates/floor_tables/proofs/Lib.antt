@@ -1,2 +1,5 @@
+pub mod ClassTestLaws
+pub mod Runs
+pub mod ClassTested
 pub mod TestLaws
 pub mod Tested

@@ -22,17 +22,16 @@ use Rattle.floors.specs.Pieces.{classesTo, valuesTo}
 use Rattle.floor_tables.specs.Rules.{ListRules, FloorRules, FloorsRules}
 use Rattle.floor_class.specs.Decode.{classesAt}
 use Rattle.floors.specs.Decode.{floorAt, noFloor}
-use Rattle.floor_tables.specs.Stand.{FloorsStand}
-use Rattle.numbers.proofs.Lies.{Lies, lies-at, lies-both, lies-first, lies-rest, lies-slice}
-use Rattle.numbers.proofs.ListLaws.{rows-length}
+use Rattle.floor_tables.specs.Recognised.{FloorsRecognised}
+use Rattle.reading.proofs.Lies.{Lies, lies-at, lies-both, lies-first, lies-rest, lies-slice, lies-of}
 use Rattle.floor_class.proofs.Decoded.{class-long}
 use Rattle.floors.proofs.RowLaws.{class-count-most, classes-counted, values-counted}
 use Rattle.floors.proofs.Decoded.{floor-long, FloorLies, floor-lies, xs-lie}
 use Rattle.floors.proofs.Laws.{floors-row}
-use Rattle.floor_class_tables.specs.Rules.{Below}
-use Rattle.floor_class_tables.proofs.TestLaws.{fails, refuted, shown}
-use Rattle.floor_class_tables.proofs.Runs.{slice-long, lies-cons, slice-lies, lies-padded, padded-zeros, padded-below, slice-below, lies-whole, lies-of, place}
-use Rattle.floor_class_tables.proofs.Tested.{classes-stand, classes-tested}
+use Rattle.floor_tables.specs.ClassRules.{Below}
+use Rattle.reading.proofs.Stands.{rows-length, iff-false, refuted, shown}
+use Rattle.floor_tables.proofs.Runs.{slice-long, lies-cons, slice-lies, lies-padded, padded-zeros, padded-below, slice-below, lies-whole, place}
+use Rattle.floor_tables.proofs.ClassTested.{classes-stand, classes-tested}
 
 -- ---- parts of a row
 
@@ -82,7 +81,7 @@ module _ (books : ℕ) (t : List ℕ) where
       let Pw : slice (at + 5) (at + 36) t ≡ pad 31 ps = lies-whole (at + 5) 31 ps (at + 36) (omega arith) P in
       let held = classes-stand books t (at + 36) m (omega arith) (r .classes .classes) in
       let cs = classesAt t (at + 36) m in
-      let cl : length (rows classRow cs) ≡ 11 * m = rows-length classRow 11 class-long cs ∙ ap (λ (x : ℕ). 11 * x) (held .long) in
+      let cl : length (rows classRow cs) ≡ 11 * m = rows-length classRow (λ _. Unit {0}) 11 class-long cs ∙ ap (λ (x : ℕ). 11 * x) (held .long) in
       let cz : Below t (at + 36 + length (rows classRow cs)) (at + 36 + 176) 1 = rw (cl, place at 36 176 212 refl) (r .classes .zeros) in
       let C : Lies t (at + 36) (pad 176 (rows classRow cs)) = lies-padded (at + 36) 176 (rows classRow cs) (held .lie) (omega arith) (omega arith) cz in
       let Cw : slice (at + 36) (at + 212) t ≡ pad 176 (rows classRow cs) = lies-whole (at + 36) 176 (rows classRow cs) (at + 212) (omega arith) C in
@@ -146,7 +145,7 @@ module _ (books : ℕ) (t : List ℕ) where
       let few : length cs ≤ 16 = rw (v .class-count) most in
       let Pw : slice (at + 5) (at + 36) t ≡ pad 31 ps = lies-whole (at + 5) 31 ps (at + 36) (omega arith) (k .partitions) in
       let Cw : slice (at + 36) (at + 212) t ≡ pad 176 (rows classRow cs) = lies-whole (at + 36) 176 (rows classRow cs) (at + 212) (omega arith) (k .classes) in
-      let cl : length (rows classRow cs) ≡ 11 * length cs = rows-length classRow 11 class-long cs in
+      let cl : length (rows classRow cs) ≡ 11 * length cs = rows-length classRow (λ _. Unit {0}) 11 class-long cs in
       let counted : length cs ≡ classesTo (slice (at + 5) (at + 36) t) (getD t at 0) =
       v .class-count ∙ sym (classes-counted 31 ps (v .partitions)) ∙ (λ j. classesTo (sym Pw j) (sym (k .count) j)) in
       let valued : valuesTo (slice (at + 36) (at + 212) t) (slice (at + 5) (at + 36) t) (getD t at 0) ≡ valueCount (map (λ (x : Class). x .dimensions) cs) ps =
@@ -198,11 +197,11 @@ module _ (books : ℕ) (t : List ℕ) where
         lie = lies-both (floorRow (floorAt t at)) (rows floorRow (floorsAt (at + 277) n)) (here .1) (rw (floor-long (floorAt t at)) (later .lie));
       }
 
-  pub floors-stand : (count : ℕ) → count ≤ 64 → 17728 ≤ length t → FloorsRules books t count → Below t (277 * count) (length t) 1 → FloorsStand books count t
+  pub floors-stand : (count : ℕ) → count ≤ 64 → 17728 ≤ length t → FloorsRules books t count → Below t (277 * count) (length t) 1 → FloorsRecognised books count t
   floors-stand count few room r z =
       let held = floors-held 0 count (omega arith) (λ f h. let e : 277 * f ≡ 0 + 277 * f = omega arith in rw e at (r .each f h)) in
       let fs = floorsAt 0 count in
-      let long : length (rows floorRow fs) ≡ 277 * count = rows-length floorRow 277 floor-long fs ∙ ap (λ (x : ℕ). 277 * x) (held .long) in
+      let long : length (rows floorRow fs) ≡ 277 * count = rows-length floorRow (λ _. Unit {0}) 277 floor-long fs ∙ ap (λ (x : ℕ). 277 * x) (held .long) in
       let zeros : Below t (0 + length (rows floorRow fs)) (0 + length t) 1 = record { each = λ i a b. z .each i (omega arith) (omega arith) } in
       let lie = lies-padded 0 (length t) (rows floorRow fs) (held .lie) (omega arith) (omega arith) zeros in
       record {
@@ -219,7 +218,7 @@ module _ (books : ℕ) (t : List ℕ) where
   valid-floor (x ∷ fs) v zero h = v .0
   valid-floor (x ∷ fs) v (suc f) h = valid-floor fs (v .1) f (omega arith)
 
-  pub floors-tested : (count : ℕ) → count ≤ 64 → FloorsStand books count t → FloorsRules books t count
+  pub floors-tested : (count : ℕ) → count ≤ 64 → FloorsRecognised books count t → FloorsRules books t count
   floors-tested count few st =
       let c = st .counted in
       let r = st .room in
@@ -228,21 +227,21 @@ module _ (books : ℕ) (t : List ℕ) where
             floor-tested (277 * f) (getD (st .content) f noFloor) (valid-floor (st .content) (st .valid) f (omega arith)) (floors-row (st .content) t (st .written) (omega arith) f (omega arith));
       }
 
-  pub floors-trailing : (count : ℕ) → FloorsStand books count t → Below t (277 * count) (length t) 1
+  pub floors-trailing : (count : ℕ) → FloorsRecognised books count t → Below t (277 * count) (length t) 1
   floors-trailing count st =
       let R = rows floorRow (st .content) in
-      let long : length R ≡ 277 * count = rows-length floorRow 277 floor-long (st .content) ∙ ap (λ (x : ℕ). 277 * x) (st .counted) in
+      let long : length R ≡ 277 * count = rows-length floorRow (λ _. Unit {0}) 277 floor-long (st .content) ∙ ap (λ (x : ℕ). 277 * x) (st .counted) in
       let z = padded-zeros 0 (length t) (277 * count) R long (lies-of t (pad (length t) R) (st .written)) in
       record { each = λ i a b. z .each i (omega arith) (omega arith) }
 
 -- THE TEST OF A TABLE, as the code asks it
 module _ (books count : ℕ) (t : List ℕ) where
-  pub table-short : length t < 17728 → (false ≡ true) ↔ FloorsStand books count t
-  table-short h = fails (λ st. let r = st .room in omega arith)
+  pub table-short : length t < 17728 → (false ≡ true) ↔ FloorsRecognised books count t
+  table-short h = iff-false (λ st. let r = st .room in omega arith)
 
   module _ (few : count ≤ 64) (room : 17728 ≤ length t) {books′ : ℕ} (same : books′ ≡ books) {b : Bool} (p : (b ≡ true) ↔ FloorsRules books′ t count) where
-    pub table-rows : not b ≡ true → (false ≡ true) ↔ FloorsStand books count t
-    table-rows n = fails (λ st. refuted p n (rw same (floors-tested books t count few st)))
+    pub table-rows : not b ≡ true → (false ≡ true) ↔ FloorsRecognised books count t
+    table-rows n = iff-false (λ st. refuted p n (rw same (floors-tested books t count few st)))
 
-    pub table-end : not b ≡ false → {b₂ : Bool} → (b₂ ≡ true) ↔ Below t (277 * count) (length t) 1 → (b₂ ≡ true) ↔ FloorsStand books count t
+    pub table-end : not b ≡ false → {b₂ : Bool} → (b₂ ≡ true) ↔ Below t (277 * count) (length t) 1 → (b₂ ≡ true) ↔ FloorsRecognised books count t
     table-end n p₂ = (λ e. floors-stand books t count few room (rw same at (shown p n)) (p₂ .0 e), λ st. p₂ .1 (floors-trailing books t count st))

@@ -1,2 +1,3 @@
+pub mod ClassRules
 pub mod Rules
-pub mod Stand
+pub mod Recognised

@@ -7,25 +7,27 @@ use mathlib.Core.Path.{_≡_}
 use lib.ListN.{getD}
 use lib.Seq.{slice}
 use Rattle.reading.specs.Lists.{distinct}
+use Rattle.floor_class.specs.Layout.{classWidth}
+use Rattle.floors.specs.Layout.{floorWidth, partitionsPlace, classesPlace, xListPlace, rangePlace, xValuesPlace}
 use Rattle.floors.specs.Pieces.{classesTo, valuesTo}
-use Rattle.floor_class_tables.specs.Rules.{Below, ClassesRules}
+use Rattle.floor_tables.specs.ClassRules.{Below, ClassesRules}
 
 -- a floor's partitions, where its row begins at place `at`
 pub record PartitionRules (t : List ℕ) (at : ℕ) : Type 0 where
   pub few : getD t at 0 ≤ 31
-  pub named : Below t (at + 5) (at + 5 + getD t at 0) 16
-  pub zeros : Below t (at + 5 + getD t at 0) (at + 36) 1
+  pub named : Below t (at + partitionsPlace) (at + partitionsPlace + getD t at 0) 16
+  pub zeros : Below t (at + partitionsPlace + getD t at 0) (at + classesPlace) 1
 
 -- its classes
 pub record NamedRules (books : ℕ) (t : List ℕ) (at : ℕ) : Type 0 where
-  pub count : getD t (at + 1) 0 ≡ classesTo (slice (at + 5) (at + 36) t) (getD t at 0)
+  pub count : getD t (at + 1) 0 ≡ classesTo (slice (at + partitionsPlace) (at + classesPlace) t) (getD t at 0)
   pub few : getD t (at + 1) 0 ≤ 16
-  pub classes : ClassesRules books t (at + 36) (getD t (at + 1) 0)
-  pub zeros : Below t (at + 36 + 11 * getD t (at + 1) 0) (at + 212) 1
+  pub classes : ClassesRules books t (at + classesPlace) (getD t (at + 1) 0)
+  pub zeros : Below t (at + classesPlace + classWidth * getD t (at + 1) 0) (at + xListPlace) 1
 
 -- its count of X values, the two implied ones included
 pub record CountRules (t : List ℕ) (at : ℕ) : Type 0 where
-  pub values : getD t (at + 4) 0 ≡ 2 + valuesTo (slice (at + 36) (at + 212) t) (slice (at + 5) (at + 36) t) (getD t at 0)
+  pub values : getD t (at + 4) 0 ≡ 2 + valuesTo (slice (at + classesPlace) (at + xListPlace) t) (slice (at + partitionsPlace) (at + classesPlace) t) (getD t at 0)
   pub few : getD t (at + 4) 0 ≤ 65
 
 -- its multiplier, range bits, count of X values
@@ -37,11 +39,11 @@ pub record HeadRules (t : List ℕ) (at : ℕ) : Type 0 where
 
 -- its X list
 pub record ListRules (t : List ℕ) (at : ℕ) : Type 0 where
-  pub first : getD t (at + 212) 0 ≡ 0
-  pub second : getD t (at + 213) 0 ≡ 2 ^ getD t (at + 3) 0
-  pub range : Below t (at + 214) (at + 212 + getD t (at + 4) 0) (2 ^ getD t (at + 3) 0)
-  pub zeros : Below t (at + 212 + getD t (at + 4) 0) (at + 277) 1
-  pub different : distinct (slice (at + 212) (at + 212 + getD t (at + 4) 0) t) ≡ true
+  pub first : getD t (at + xListPlace) 0 ≡ 0
+  pub second : getD t (at + rangePlace) 0 ≡ 2 ^ getD t (at + 3) 0
+  pub range : Below t (at + xValuesPlace) (at + xListPlace + getD t (at + 4) 0) (2 ^ getD t (at + 3) 0)
+  pub zeros : Below t (at + xListPlace + getD t (at + 4) 0) (at + floorWidth) 1
+  pub different : distinct (slice (at + xListPlace) (at + xListPlace + getD t (at + 4) 0) t) ≡ true
 
 pub record FloorRules (books : ℕ) (t : List ℕ) (at : ℕ) : Type 0 where
   pub partitions : PartitionRules t at
@@ -50,4 +52,4 @@ pub record FloorRules (books : ℕ) (t : List ℕ) (at : ℕ) : Type 0 where
   pub list : ListRules t at
 
 pub record FloorsRules (books : ℕ) (t : List ℕ) (count : ℕ) : Type 0 where
-  pub each : (f : ℕ) → f < count → FloorRules books t (277 * f)
+  pub each : (f : ℕ) → f < count → FloorRules books t (floorWidth * f)

@@ -9,9 +9,9 @@ use Rattle.floors.specs.Decode.{noFloor}
 use Rattle.floors.specs.Layout.{floorRow}
 use Rattle.floors.specs.Valid.{ValidFloor}
 use Rattle.floors.specs.Valid.{ValidFloors}
-use Rattle.floor_tables.specs.Stand.{FloorsStand}
+use Rattle.floor_tables.specs.Recognised.{FloorsRecognised}
 use Rattle.floors.proofs.Decoded.{floor-long, floor-decoded-at}
-use Rattle.numbers.proofs.Lies.{Lies}
+use Rattle.reading.proofs.Lies.{Lies}
 use Rattle.floors.proofs.Laws.{floors-row}
 use Rattle.floor_partition.specs.Lying.{Readable}
 use Rattle.floor_values.specs.Lying.{floorIn, FloorLies}
@@ -22,7 +22,7 @@ valid-floor b [] n h v = absurd (omega arith)
 valid-floor b (f ∷ fs) zero h v = v .0
 valid-floor b (f ∷ fs) (suc n) h v = valid-floor b fs n (omega arith) (v .1)
 
-module _ {setUp count : ℕ} {floors : List ℕ} (st : FloorsStand setUp count floors) (few : count ≤ 64) (n : ℕ) (h : n < count) where
+module _ {setUp count : ℕ} {floors : List ℕ} (st : FloorsRecognised setUp count floors) (few : count ≤ 64) (n : ℕ) (h : n < count) where
   row : Lies floors (277 * n) (floorRow (getD (st .content) n noFloor))
   row = let c = st .counted in let r = st .room in floors-row (st .content) floors (st .written) (omega arith) n (omega arith)
 

@@ -15,7 +15,7 @@ use Rattle.bits.proofs.Fields.{field-ok}
 use Rattle.numbers.proofs.Collected.{many-length}
 use Rattle.numbers.proofs.Accepted.{field-below}
 use Rattle.floor_x_list.specs.Content.{xList}
-use Rattle.floor_x_list.specs.Reading.{xValues, Ends, ends}
+use Rattle.floor_x_list.specs.Reading.{xValues, Ends, endsFrom, ends}
 use Rattle.floor_x_list.proofs.XListLaws.{values-ok}
 
 pub record EndsFit (n : ℕ) (e : Ends) : Type 0 where
@@ -28,7 +28,7 @@ pub record EndsFit (n : ℕ) (e : Ends) : Type 0 where
   pub different : distinct (xList (e .rangebits) (e .xs)) ≡ true
 
 pub ends-fit : (place n : ℕ) (s : List ℕ) (k : ℕ) {x : Ends × ℕ} → ends place n s k ≡ ok x → EndsFit n (x .0)
-unfolding ends
+unfolding ends endsFrom
 ends-fit place n s k {x} e =
     let m = then-ok (field 2 s k) _ e in
     let b = then-ok (field 4 s (m .0 .1)) _ (m .2) in

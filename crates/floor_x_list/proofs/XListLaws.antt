@@ -30,8 +30,8 @@ use Rattle.bits.proofs.Steps.{wrote-refused, wrote-next, wrote-bad, wrote-ok}
 use Rattle.numbers.specs.Cell.{cell}
 use Rattle.numbers.proofs.Collected.{Collected, gathered, many-length, rows-cell}
 use Rattle.numbers.proofs.ListLaws.{take-pad}
-use Rattle.floor_x_list.specs.Reading.{xValues, ends}
-use Rattle.floor_x_list.specs.Pieces.{endsFrom, Held, held, hold}
+use Rattle.floor_x_list.specs.Reading.{xValues, ends, endsFrom}
+use Rattle.floor_x_list.specs.Pieces.{Held, held, hold}
 
 abbrev at : ℕ → Cursor → Refusal
 at n c = record { number = n; place = c }

@@ -22,10 +22,15 @@ pub record Ends : Type 0 where
   pub rangebits : ℕ
   pub xs : List ℕ
 
+-- the X values, behind multiplier and range bits (004, steps 15 to 22)
+unfoldable pub endsFrom : ℕ → ℕ → ℕ → ℕ → Reader Ends
+endsFrom place n multiplier rangebits s k =
+    then (xValues place rangebits n s k) (λ xs.
+    need (Rule.meets12 (Rule.values (xList rangebits (xs .0)))) (refusal 12 place)
+    (ok (record { multiplier = multiplier; rangebits = rangebits; xs = xs .0 }, xs .1)))
+
 unfoldable pub ends : ℕ → ℕ → Reader Ends
 ends place n s k =
     then (field 2 s k) (λ multiplier.
     then (field 4 s (multiplier .1)) (λ rangebits.
-    then (xValues place (rangebits .0) n s (rangebits .1)) (λ xs.
-    need (Rule.meets12 (Rule.values (xList (rangebits .0) (xs .0)))) (refusal 12 place)
-    (ok (record { multiplier = multiplier .0 + 1; rangebits = rangebits .0; xs = xs .0 }, xs .1)))))
+    endsFrom place n (multiplier .0 + 1) (rangebits .0) s (rangebits .1)))

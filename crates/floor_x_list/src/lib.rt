@@ -12,8 +12,12 @@ ghost use Rattle.reading.specs.Reader.{mapped, into};
 ghost use Rattle.reading.specs.Table.{table, putRow};
 ghost use Rattle.bits.specs.Cursors.{position, Wrote};
 ghost use Rattle.numbers.specs.Cell.{cell};
-ghost use Rattle.floor_x_list.specs.Reading.{xValues, ends};
-ghost use Rattle.floor_x_list.specs.Pieces.{endsFrom, held, hold};
+ghost use Rattle.floor_x_list.specs.Reading.{xValues, ends, endsFrom};
+ghost use Rattle.floor_x_list.specs.Pieces.{held, hold};
+ghost use Rattle.floor_x_list.specs.Content.{xListRoom};
+
+// How many places an X list has (specs/Content.antt).
+pub const X_LIST_ROOM: usize = 65;
 
 // The X values, from place 2 on. The count is judged before each is read: of more than 63 the 64th is refused.
 pub fn read_x_values(
@@ -53,7 +57,7 @@ pub fn read_x_list(
     rangebits: u32,
     list: &mut [u16],
 ) -> Ends
-    requires { ⌜ (rangebits ≤ 15) × (now list ≡ replicate 65 0) ⌝ }
+    requires { ⌜ (rangebits ≤ 15) × (now list ≡ replicate xListRoom 0) ⌝ }
     ensures { λ r. ⌜ Wrote (mapped hold (endsFrom (position place) count multiplier rangebits (now (packet .entry)) (position from))) (r .step) (held (r .multiplier) (r .rangebits) (now (list .exit))) ⌝ }
 {
     buffers::put_u16(list, 1, numbers::power(rangebits));
@@ -82,7 +86,7 @@ pub fn read_x_list(
 
 // Multiplier, range bits, X list.
 pub fn read_ends(packet: &[u8], from: Cursor, place: Cursor, count: usize, list: &mut [u16]) -> Ends
-    requires { ⌜ now list ≡ replicate 65 0 ⌝ }
+    requires { ⌜ now list ≡ replicate xListRoom 0 ⌝ }
     ensures { λ r. ⌜ Wrote (mapped hold (ends (position place) count (now (packet .entry)) (position from))) (r .step) (held (r .multiplier) (r .rangebits) (now (list .exit))) ⌝ }
 {
     match from.field(packet, 2) {

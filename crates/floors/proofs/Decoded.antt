@@ -8,7 +8,7 @@ use lib.Seq.{slice}
 use Rattle.reading.specs.Lists.{rows}
 use Rattle.reading.specs.Pad.{pad}
 use Rattle.reading.proofs.Pads.{length-pad}
-use Rattle.numbers.proofs.Lies.{Lies, lies-at, lies-left, lies-right, lies-first, lies-rest, lies-slice, lies-self}
+use Rattle.reading.proofs.Lies.{Lies, lies-at, lies-left, lies-right, lies-first, lies-rest, lies-slice, lies-self}
 use Rattle.floor_class.specs.Layout.{classRow}
 use Rattle.floor_class.specs.Decode.{classesAt}
 use Rattle.floor_class.proofs.Decoded.{classes-decoded}

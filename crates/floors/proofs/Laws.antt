@@ -1,22 +1,20 @@
 -- What other crates cite of floors: an accepted floor meets every rule; where its row lies in the table.
 -- Assumes nothing.
-use Prim.Native.Nat.{ℕ, zero, suc, _+_, _*_, _≤_, _<_}
+use Prim.Native.Nat.{ℕ, zero, suc, _*_, _≤_, _<_}
 use native.Mathlib.Omega.{arith}
-use mathlib.Core.List.{List, [], _∷_, _++_, map}
+use mathlib.Core.List.{List, map}
 use mathlib.Core.Path.{_≡_, ap, _∙_, subst}
 use lib.Dec.{ltb}
-use lib.ListN.{length, getD, List·getD-append}
-use lib.Seq.{getD-append-add}
+use lib.ListN.{length, getD}
 use Rattle.reading.specs.Lists.{rows}
 use Rattle.reading.specs.Pad.{pad}
-use Rattle.reading.proofs.Pads.{pad-get}
 use Rattle.reading.specs.Outcome.{ok}
 use Rattle.reading.specs.Reader.{many}
 use Rattle.reading.proofs.Outcomes.{then-ok, ok-is}
 use Rattle.reading.proofs.Accepted.{many-cons, many-all}
 use Rattle.bits.specs.Field.{field}
 use Rattle.bits.proofs.Fields.{field-ok}
-use Rattle.numbers.proofs.Lies.{Lies}
+use Rattle.reading.proofs.Lies.{Lies, rows-lie}
 use Rattle.numbers.proofs.Collected.{many-length}
 use Rattle.numbers.proofs.Accepted.{field-below}
 use Rattle.floor_class.specs.Reading.{class}
@@ -26,13 +24,13 @@ use Rattle.floor_x_list.proofs.Accepted.{ends-fit}
 use Rattle.floors.specs.Content.{Floor, classCount, valueCount}
 use Rattle.floors.specs.Layout.{floorRow}
 use Rattle.floors.specs.Decode.{noFloor}
-use Rattle.floors.specs.Reading.{floorType, floor1, floor}
+use Rattle.floors.specs.Reading.{floorType, floorFrom, floor1, floor}
 use Rattle.floors.specs.Valid.{ValidFloor, ValidFloors}
 use Rattle.floors.proofs.Decoded.{floor-long, FloorLies, floor-lies}
 
 -- AN ACCEPTED FLOOR MEETS EVERY RULE
 pub floor1-valid : (books place : ℕ) (s : List ℕ) (k : ℕ) {x : Floor × ℕ} → floor1 books place s k ≡ ok x → ValidFloor books (x .0)
-unfolding floor1
+unfolding floor1 floorFrom
 floor1-valid books place s k {x} e =
     let n = then-ok (field 5 s k) _ e in
     let p = then-ok (many (field 4) (n .0 .0) s (n .0 .1)) _ (n .2) in
@@ -72,28 +70,9 @@ floors-valid books s (suc n) k e =
 pub floors-counted : (books : ℕ) (s : List ℕ) (n k : ℕ) {fs : List Floor} {j : ℕ} → many (floor books) n s k ≡ ok (fs, j) → length fs ≡ n
 floors-counted books s n k {fs} e = many-length (floor books) n s k fs e
 
--- row f of a table of rows
-rows-place : (fs : List Floor) (f i : ℕ) → f < length fs → i < 277 → getD (rows floorRow fs) (277 * f + i) 0 ≡ getD (floorRow (getD fs f noFloor)) i 0
-unfolding rows
-rows-place [] f i h k = absurd (omega arith)
-rows-place (x ∷ fs) zero i h k =
-    let l = floor-long x in
-    let e : 277 * 0 + i ≡ i = omega arith in
-    ap (λ (j : ℕ). getD (floorRow x ++ rows floorRow fs) j 0) e ∙ List·getD-append (floorRow x) (rows floorRow fs) 0 i (omega arith)
-rows-place (x ∷ fs) (suc f) i h k =
-    let l = floor-long x in
-    let e : 277 * suc f + i ≡ length (floorRow x) + (277 * f + i) = omega arith in
-    ap (λ (j : ℕ). getD (floorRow x ++ rows floorRow fs) j 0) e ∙ getD-append-add (floorRow x) (rows floorRow fs) (277 * f + i) 0 ∙ rows-place fs f i (omega arith) k
-
 -- IN A TABLE THAT HOLDS FLOORS, THE ROW OF FLOOR f LIES AT 277 * f
 pub floors-row : (fs : List Floor) (t : List ℕ) → t ≡ pad (length t) (rows floorRow fs) → 277 * length fs ≤ length t → (f : ℕ) → f < length fs → Lies t (277 * f) (floorRow (getD fs f noFloor))
-floors-row fs t e h f k =
-    let l = floor-long (getD fs f noFloor) in
-    record {
-      room = omega arith;
-      same = λ i m.
-          ap (λ (x : List ℕ). getD x (277 * f + i) 0) e ∙ pad-get (length t) (rows floorRow fs) (277 * f + i) (omega arith) ∙ rows-place fs f i k (omega arith);
-    }
+floors-row = rows-lie floorRow 277 floor-long noFloor
 
 pub floors-lie : (fs : List Floor) (t : List ℕ) → t ≡ pad (length t) (rows floorRow fs) → 277 * length fs ≤ length t → (f : ℕ) → f < length fs → FloorLies t (277 * f) (getD fs f noFloor)
 floors-lie fs t e h f k = floor-lies (getD fs f noFloor) (floors-row fs t e h f k)

@@ -43,8 +43,8 @@ use Rattle.floor_x_list.specs.Pieces.{Held, held, hold}
 use Rattle.floor_x_list.proofs.Accepted.{EndsFit, ends-fit}
 use Rattle.floors.specs.Content.{classCount, valueCount}
 use Rattle.floors.specs.Layout.{floorRow}
-use Rattle.floors.specs.Reading.{floorType, floor1, floor}
-use Rattle.floors.specs.Pieces.{classesTo, valuesTo, rowOf, floorFrom, Partitions}
+use Rattle.floors.specs.Reading.{floorType, floor1, floor, floorFrom}
+use Rattle.floors.specs.Pieces.{classesTo, valuesTo, rowOf, Partitions}
 
 -- the row is stored in two runs: the 5 counts with the 31 places for partitions, then the rest
 pub two-runs-at : (entry : List ℕ) (at : ℕ) (first second third : List ℕ) {middle last : List ℕ} → length first ≡ 5 → length second ≡ 31

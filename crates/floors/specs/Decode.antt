@@ -6,16 +6,17 @@ use lib.ListN.{getD}
 use lib.Seq.{slice}
 use Rattle.floor_class.specs.Decode.{classesAt}
 use Rattle.floors.specs.Content.{Floor}
+use Rattle.floors.specs.Layout.{partitionsPlace, classesPlace, xListPlace, xValuesPlace}
 
 -- the floor whose row begins at place `at`
 unfoldable pub floorAt : List ℕ → ℕ → Floor
 floorAt t at =
     record {
-      partitions = slice (at + 5) (at + 5 + getD t at 0) t;
-      classes = classesAt t (at + 36) (getD t (at + 1) 0);
+      partitions = slice (at + partitionsPlace) (at + partitionsPlace + getD t at 0) t;
+      classes = classesAt t (at + classesPlace) (getD t (at + 1) 0);
       multiplier = getD t (at + 2) 0;
       rangebits = getD t (at + 3) 0;
-      xs = slice (at + 214) (at + 212 + getD t (at + 4) 0) t;
+      xs = slice (at + xValuesPlace) (at + xListPlace + getD t (at + 4) 0) t;
     }
 
 -- the floor of a row

@@ -5,11 +5,37 @@ use lib.ListN.{length}
 use Rattle.reading.specs.Pad.{pad}
 use Rattle.reading.specs.Lists.{rows}
 use Rattle.floor_class.specs.Layout.{classRow}
-use Rattle.floor_x_list.specs.Content.{xList}
+use Rattle.floor_x_list.specs.Content.{xListRoom, xList}
 use Rattle.floors.specs.Content.{Floor}
 
--- 5 counts, 31 places for partitions, 16 for classes, 65 for the X list
+-- the width of a row; where its partitions, its classes, its X list begin, and in the list 2 ^ rangebits and the X values that are read; how many places
+-- partitions (31) and classes (16 of 11) have
+abbrev pub floorWidth : ℕ
+floorWidth = 277
+
+abbrev pub partitionsPlace : ℕ
+partitionsPlace = 5
+
+abbrev pub classesPlace : ℕ
+classesPlace = 36
+
+abbrev pub xListPlace : ℕ
+xListPlace = 212
+
+abbrev pub rangePlace : ℕ
+rangePlace = 213
+
+abbrev pub xValuesPlace : ℕ
+xValuesPlace = 214
+
+abbrev pub partitionsRoom : ℕ
+partitionsRoom = 31
+
+abbrev pub classesRoom : ℕ
+classesRoom = 176
+
+-- 5 counts, then partitions, classes, the X list
 unfoldable pub floorRow : Floor → List ℕ
 floorRow f =
     (length (f .partitions) ∷ length (f .classes) ∷ f .multiplier ∷ f .rangebits ∷ (2 + length (f .xs)) ∷ [])
-    ++ (pad 31 (f .partitions) ++ (pad 176 (rows classRow (f .classes)) ++ pad 65 (xList (f .rangebits) (f .xs))))
+    ++ (pad partitionsRoom (f .partitions) ++ (pad classesRoom (rows classRow (f .classes)) ++ pad xListRoom (xList (f .rangebits) (f .xs))))

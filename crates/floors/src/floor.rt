@@ -1,8 +1,14 @@
 // A floor of type 1 (004, "header decode"; 01, "Setup order"). Its row is put together from three buffers: partitions, classes, X list.
+use crate::CLASSES_PLACE;
+use crate::CLASSES_ROOM;
+use crate::FLOOR_WIDTH;
+use crate::PARTITIONS_ROOM;
 use bits::Cursor;
 use bits::Field;
 use bits::Refusal;
 use bits::Step;
+use floor_class::CLASS_WIDTH;
+use floor_x_list::X_LIST_ROOM;
 use reading::buffers;
 ghost use mathlib.Core.Path.{_≡_};
 ghost use mathlib.Core.List.{_++_};
@@ -13,9 +19,9 @@ ghost use Rattle.reading.specs.Reader.{many, into, into1};
 ghost use Rattle.reading.specs.Table.{table, putRow};
 ghost use Rattle.bits.specs.Cursors.{position, outcome, Wrote};
 ghost use Rattle.floor_x_list.specs.Reading.{ends};
-ghost use Rattle.floors.specs.Layout.{floorRow};
-ghost use Rattle.floors.specs.Reading.{floorType, floor1, floor};
-ghost use Rattle.floors.specs.Pieces.{classesTo, valuesTo, rowOf, floorFrom, Partitions};
+ghost use Rattle.floors.specs.Layout.{floorRow, partitionsRoom, classesRoom, floorWidth};
+ghost use Rattle.floors.specs.Reading.{floorType, floor1, floor, floorFrom};
+ghost use Rattle.floors.specs.Pieces.{classesTo, valuesTo, rowOf, Partitions};
 
 // The type field: 0 is refusal 14, above 1 is 10.
 pub fn read_type(packet: &[u8], from: Cursor) -> Field
@@ -72,7 +78,7 @@ pub fn value_count(partitions: &[u16], count: usize, classes: &[u16]) -> usize
     let mut i: usize = 0;
     while i < count {
         let class = numbers::wide(buffers::get_u16(partitions, i));
-        sum = sum + numbers::wide(buffers::get_u16(classes, 11 * class));
+        sum = sum + numbers::wide(buffers::get_u16(classes, CLASS_WIDTH * class));
         i = i + 1;
     }
     sum
@@ -87,11 +93,11 @@ pub fn write_row(
     classes: &[u16],
     list: &[u16],
 )
-    requires { ⌜ (at ≤ 17728) × (length (now head) ≡ 5) × (length (now partitions) ≡ 31) × (length (now classes) ≡ 176) ⌝ }
+    requires { ⌜ (at ≤ 17728) × (length (now head) ≡ 5) × (length (now partitions) ≡ partitionsRoom) × (length (now classes) ≡ classesRoom) ⌝ }
     ensures { λ _. ⌜ now (floors .exit) ≡ sets (now (floors .entry)) at ((now (head .entry) ++ now (partitions .entry)) ++ (now (classes .entry) ++ now (list .entry))) ⌝ }
 {
     numbers::write_pair(floors, at, head, partitions);
-    numbers::write_pair(floors, at + 36, classes, list);
+    numbers::write_pair(floors, at + CLASSES_PLACE, classes, list);
 }
 
 // The rest of a floor whose partitions and classes are read, and with it the row.
@@ -106,11 +112,11 @@ pub fn read_behind_classes(
     floors: &mut [u16],
     at: usize,
 ) -> Step
-    requires { ⌜ (count ≤ 31) × (named ≤ 16) × (at ≤ 17728) × (length (now partitions) ≡ 31) × (length (now classes) ≡ 176) ⌝ }
-    ensures { λ r. ⌜ Wrote (into1 (putRow (rowOf count named (now (partitions .entry)) (now (classes .entry)))) (ends (position place) (valuesTo (now (classes .entry)) (now (partitions .entry)) count) (now (packet .entry)) (position from)) (table (now (floors .entry)) at)) r (table (now (floors .exit)) (at + 277)) ⌝ }
+    requires { ⌜ (count ≤ 31) × (named ≤ 16) × (at ≤ 17728) × (length (now partitions) ≡ partitionsRoom) × (length (now classes) ≡ classesRoom) ⌝ }
+    ensures { λ r. ⌜ Wrote (into1 (putRow (rowOf count named (now (partitions .entry)) (now (classes .entry)))) (ends (position place) (valuesTo (now (classes .entry)) (now (partitions .entry)) count) (now (packet .entry)) (position from)) (table (now (floors .entry)) at)) r (table (now (floors .exit)) (at + floorWidth)) ⌝ }
 {
     let values = value_count(partitions, count, classes);
-    let mut list = [0u16; 65];
+    let mut list = [0u16; X_LIST_ROOM];
     let ends = floor_x_list::read_ends(packet, from, place, values, &mut list);
     let step = ends.step;
     match step {
@@ -141,10 +147,10 @@ pub fn read_behind_partitions(
     at: usize,
 ) -> Step
     requires { ⌜ (books ≤ 256) × (at ≤ 17728) × Partitions count (now partitions) ⌝ }
-    ensures { λ r. ⌜ Wrote (into1 (putRow floorRow) (floorFrom books (position place) (take count (now (partitions .entry))) (now (packet .entry)) (position from)) (table (now (floors .entry)) at)) r (table (now (floors .exit)) (at + 277)) ⌝ }
+    ensures { λ r. ⌜ Wrote (into1 (putRow floorRow) (floorFrom books (position place) (take count (now (partitions .entry))) (now (packet .entry)) (position from)) (table (now (floors .entry)) at)) r (table (now (floors .exit)) (at + floorWidth)) ⌝ }
 {
     let named = class_count(partitions, count);
-    let mut classes = [0u16; 176];
+    let mut classes = [0u16; CLASSES_ROOM];
     match floor_class::read_classes(packet, from, books, named, &mut classes) {
         Step::Refused(z) => Step::Refused(z),
         Step::Next(next) => read_behind_classes(
@@ -171,13 +177,13 @@ pub fn read_floor1(
     at: usize,
 ) -> Step
     requires { ⌜ (books ≤ 256) × (at ≤ 17728) ⌝ }
-    ensures { λ r. ⌜ Wrote (into1 (putRow floorRow) (floor1 books (position place) (now (packet .entry)) (position from)) (table (now (floors .entry)) at)) r (table (now (floors .exit)) (at + 277)) ⌝ }
+    ensures { λ r. ⌜ Wrote (into1 (putRow floorRow) (floor1 books (position place) (now (packet .entry)) (position from)) (table (now (floors .entry)) at)) r (table (now (floors .exit)) (at + floorWidth)) ⌝ }
 {
     match from.field(packet, 5) {
         Field::Refused(z) => Step::Refused(z),
         Field::Value(field, next) => {
             let count = numbers::long(field);
-            let mut partitions = [0u16; 31];
+            let mut partitions = [0u16; PARTITIONS_ROOM];
             match numbers::read_numbers(packet, next, 4, count, &mut partitions, 0) {
                 Step::Refused(z) => Step::Refused(z),
                 Step::Next(after) => read_behind_partitions(
@@ -198,7 +204,7 @@ pub fn read_floor1(
 // A floor, its row from place `at` on. `books` is how many codebooks are set up.
 pub fn read_floor(packet: &[u8], from: Cursor, books: u32, floors: &mut [u16], at: usize) -> Step
     requires { ⌜ (books ≤ 256) × (at ≤ 17728) ⌝ }
-    ensures { λ r. ⌜ Wrote (into1 (putRow floorRow) (floor books (now (packet .entry)) (position from)) (table (now (floors .entry)) at)) r (table (now (floors .exit)) (at + 277)) ⌝ }
+    ensures { λ r. ⌜ Wrote (into1 (putRow floorRow) (floor books (now (packet .entry)) (position from)) (table (now (floors .entry)) at)) r (table (now (floors .exit)) (at + floorWidth)) ⌝ }
 {
     match read_type(packet, from) {
         Field::Refused(z) => Step::Refused(z),
@@ -215,12 +221,12 @@ pub fn read_floors(
     floors: &mut [u16],
 ) -> Step
     requires { ⌜ (count ≤ 64) × (books ≤ 256) ⌝ }
-    ensures { λ r. ⌜ Wrote (into (putRow floorRow) (many (floor books) count (now (packet .entry)) (position from)) (table (now (floors .entry)) 0)) r (table (now (floors .exit)) (277 * count)) ⌝ }
+    ensures { λ r. ⌜ Wrote (into (putRow floorRow) (many (floor books) count (now (packet .entry)) (position from)) (table (now (floors .entry)) 0)) r (table (now (floors .exit)) (floorWidth * count)) ⌝ }
 {
     let mut next = from;
     let mut i: usize = 0;
     while i < count {
-        match read_floor(packet, next, books, floors, 277 * i) {
+        match read_floor(packet, next, books, floors, FLOOR_WIDTH * i) {
             Step::Refused(z) => {
                 return Step::Refused(z);
             }

@@ -1,2 +1,19 @@
 // Floors in a setup packet: what one is, its rules, its row in the tables, reading it.
 pub mod floor;
+
+// The width of a floor's row in the table, where its parts begin, and how many places partitions and classes have (specs/Layout.antt).
+pub const FLOOR_WIDTH: usize = 277;
+
+pub const PARTITIONS_PLACE: usize = 5;
+
+pub const CLASSES_PLACE: usize = 36;
+
+pub const X_LIST_PLACE: usize = 212;
+
+pub const RANGE_PLACE: usize = 213;
+
+pub const X_VALUES_PLACE: usize = 214;
+
+pub const PARTITIONS_ROOM: usize = 31;
+
+pub const CLASSES_ROOM: usize = 176;

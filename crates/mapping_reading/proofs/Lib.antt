@@ -1,1 +1,4 @@
+pub mod Fillings
+pub mod CouplingLaws
+pub mod SubmapLaws
 pub mod MappingLaws

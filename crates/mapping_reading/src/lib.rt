@@ -1,10 +1,14 @@
-// Reading mappings into their table (003, section 4.2.4, "Mappings"; 01, refusal 9).
+// Reading mappings into their table (003, section 4.2.4, "Mappings"; 01, refusals 9 and 11).
 // Each field is judged as soon as it is read; a refusal says nothing of the buffer, which the outermost function clears.
+pub mod couplings; // the coupling steps, into their part of a mapping's row
+pub mod submaps; // each channel's submap, and the submaps, into theirs
+
 use bits::Cursor;
 use bits::Field;
 use bits::Refusal;
 use bits::Step;
 use mappings::Known;
+use mappings::MAPPING_WIDTH;
 ghost use Prim.Native.Nat.{_+_, _*_, _/_, _%_, _≤_};
 ghost use mathlib.Core.Path.{_≡_};
 ghost use lib.ListN.{set, replicate};
@@ -12,7 +16,7 @@ ghost use Rattle.reading.specs.Reader.{many, mapped, into, into1};
 ghost use Rattle.reading.specs.Table.{table, putRow};
 ghost use Rattle.bits.specs.Cursors.{position, Wrote};
 ghost use Rattle.mappings.specs.Reading.{parts, mapping};
-ghost use Rattle.mappings.specs.Layout.{mappingRow, partsInto};
+ghost use Rattle.mappings.specs.Layout.{mappingRow, partsInto, mappingWidth};
 
 // What follows a mapping's counts, into a row in which those stand.
 fn read_parts(
@@ -26,7 +30,7 @@ fn read_parts(
     requires { ⌜ (1 ≤ known .channels) × (known .channels ≤ 255) × (submaps ≤ 16) × (steps ≤ 256) ⌝ }
     ensures { λ r. ⌜ Wrote (mapped (partsInto (now (row .entry))) (parts known submaps steps (now (packet .entry)) (position from))) r (now (row .exit)) ⌝ }
 {
-    match mapping_parts::couplings::read_couplings(packet, from, steps, known.channels, row) {
+    match crate::couplings::read_couplings(packet, from, steps, known.channels, row) {
         Step::Refused(z) => Step::Refused(z),
         Step::Next(at_reserved) => match at_reserved.field(packet, 2) {
             Field::Refused(z) => Step::Refused(z),
@@ -37,7 +41,7 @@ fn read_parts(
                         place: at_reserved,
                     });
                 }
-                match mapping_parts::submaps::read_multiplexes(
+                match crate::submaps::read_multiplexes(
                     packet,
                     at_multiplex,
                     known.channels,
@@ -45,7 +49,7 @@ fn read_parts(
                     row,
                 ) {
                     Step::Refused(z) => Step::Refused(z),
-                    Step::Next(at_submaps) => mapping_parts::submaps::read_submaps(
+                    Step::Next(at_submaps) => crate::submaps::read_submaps(
                         packet,
                         at_submaps,
                         submaps,
@@ -59,11 +63,11 @@ fn read_parts(
 }
 
 // A row in which a mapping's counts stand, and zeros behind them.
-fn counted(submaps: u32, steps: u32) -> [u8; 804]
+fn counted(submaps: u32, steps: u32) -> [u8; MAPPING_WIDTH]
     requires { ⌜ (submaps ≤ 16) × (steps ≤ 256) ⌝ }
-    ensures { λ r. ⌜ r ≡ set (set (set (replicate 804 0) 0 (steps % 256)) 1 (steps / 256)) 2 submaps ⌝ }
+    ensures { λ r. ⌜ r ≡ set (set (set (replicate mappingWidth 0) 0 (steps % 256)) 1 (steps / 256)) 2 submaps ⌝ }
 {
-    let mut row = [0u8; 804];
+    let mut row = [0u8; MAPPING_WIDTH];
     row[0] = (steps % 256) as u8;
     row[1] = (steps / 256) as u8;
     row[2] = submaps as u8;
@@ -82,7 +86,7 @@ fn read_row(
 ) -> Step
     requires { ⌜ (1 ≤ known .channels) × (known .channels ≤ 255) × (submaps ≤ 16) × (steps ≤ 256) × (at ≤ 51456) ⌝ }
     ensures { λ r. ⌜ Wrote (into1 (putRow mappingRow) (parts known submaps steps (now (packet .entry)) (position from)) (table (now (mappings .entry)) at))
-        r (table (now (mappings .exit)) (at + 804)) ⌝ }
+        r (table (now (mappings .exit)) (at + mappingWidth)) ⌝ }
 {
     let mut row = counted(submaps, steps);
     match read_parts(packet, from, known, submaps, steps, &mut row) {
@@ -104,7 +108,7 @@ pub fn read_mapping(
 ) -> Step
     requires { ⌜ (1 ≤ known .channels) × (known .channels ≤ 255) × (at ≤ 51456) ⌝ }
     ensures { λ r. ⌜ Wrote (into1 (putRow mappingRow) (mapping known (now (packet .entry)) (position from)) (table (now (mappings .entry)) at))
-        r (table (now (mappings .exit)) (at + 804)) ⌝ }
+        r (table (now (mappings .exit)) (at + mappingWidth)) ⌝ }
 {
     match from.field(packet, 16) {
         Field::Refused(z) => Step::Refused(z),
@@ -147,12 +151,12 @@ pub fn read_mappings(
 ) -> Step
     requires { ⌜ (1 ≤ known .channels) × (known .channels ≤ 255) × (count ≤ 64) ⌝ }
     ensures { λ r. ⌜ Wrote (into (putRow mappingRow) (many (mapping known) count (now (packet .entry)) (position from)) (table (now (mappings .entry)) 0))
-        r (table (now (mappings .exit)) (804 * count)) ⌝ }
+        r (table (now (mappings .exit)) (mappingWidth * count)) ⌝ }
 {
     let mut k = from;
     let mut i: usize = 0;
     while i < count {
-        match read_mapping(packet, k, known, mappings, 804 * i) {
+        match read_mapping(packet, k, known, mappings, MAPPING_WIDTH * i) {
             Step::Refused(z) => {
                 return Step::Refused(z);
             }

@@ -9,8 +9,8 @@ use Rattle.mappings.specs.Layout.{mappingRow}
 use Rattle.mappings.specs.Valid.{ValidMapping}
 use Rattle.mappings.proofs.Laws.{decode-mapping}
 use Rattle.mappings.proofs.RowLaws.{mapping-wide}
-use Rattle.mapping_tables.specs.Stand.{MappingsStand}
+use Rattle.mapping_tables.specs.Recognised.{MappingsRecognised}
 
 -- no other mappings share a table
-pub one-content : (known : Known) (n : ℕ) (cells : List ℕ) → known .channels ≤ 256 → (a b : MappingsStand known n cells) → a .items ≡ b .items
+pub one-content : (known : Known) (n : ℕ) (cells : List ℕ) → known .channels ≤ 256 → (a b : MappingsRecognised known n cells) → a .items ≡ b .items
 one-content known n cells h a b = stands-same mappingRow (ValidMapping known) 804 mapping-wide decodeMapping (λ m v. decode-mapping known m h v) n cells a b

@@ -1,3 +1,2 @@
 pub mod Laws
-pub mod StandLaws
-pub mod Places
+pub mod RecogniseLaws

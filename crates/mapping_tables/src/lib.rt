@@ -1,3 +1,2 @@
-// Mappings in the tables: recognising them again, and what is read of each.
-pub mod stand; // whether a table that is handed in holds mappings
-pub mod access; // what a table says of each mapping
+// Mappings in the tables: whether a table that anyone hands in holds mappings that meet every rule.
+pub mod recognise; // recognising a table that is handed in

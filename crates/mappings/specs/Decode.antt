@@ -3,6 +3,7 @@ use Prim.Native.Nat.{ℕ, zero, suc, _+_, _*_}
 use mathlib.Core.List.{List, [], _∷_}
 use lib.ListN.{getD, take, drop}
 use Rattle.mappings.specs.Content.{Coupling, Submap, Mapping}
+use Rattle.mappings.specs.Layout.{couplingsPlace, multiplexPlace, submapsPlace, couplingsRoom, multiplexRoom, submapsRoom}
 
 abbrev pub couplingOf : ℕ → ℕ → Coupling
 couplingOf magnitude angle = record { magnitude = magnitude; angle = angle }
@@ -26,7 +27,7 @@ lessOne (suc v ∷ cells) = v ∷ lessOne cells
 unfoldable pub decodeMapping : List ℕ → Mapping
 decodeMapping row =
     record {
-      couplings = pairs couplingOf (getD row 0 0 + 256 * getD row 1 0) (take 512 (drop 4 row));
-      multiplex = lessOne (take 256 (drop 516 row));
-      submaps = pairs submapOf (getD row 2 0) (take 32 (drop 772 row));
+      couplings = pairs couplingOf (getD row 0 0 + 256 * getD row 1 0) (take couplingsRoom (drop couplingsPlace row));
+      multiplex = lessOne (take multiplexRoom (drop multiplexPlace row));
+      submaps = pairs submapOf (getD row 2 0) (take submapsRoom (drop submapsPlace row));
     }

@@ -9,6 +9,28 @@ use Rattle.reading.specs.Pad.{pad}
 use Rattle.reading.specs.Lists.{rows}
 use Rattle.mappings.specs.Content.{Coupling, Submap, Mapping}
 
+-- the width of a row; where its coupling steps, its multiplex and its submaps begin; how many places each of these has
+abbrev pub mappingWidth : ℕ
+mappingWidth = 804
+
+abbrev pub couplingsPlace : ℕ
+couplingsPlace = 4
+
+abbrev pub multiplexPlace : ℕ
+multiplexPlace = 516
+
+abbrev pub submapsPlace : ℕ
+submapsPlace = 772
+
+abbrev pub couplingsRoom : ℕ
+couplingsRoom = 512
+
+abbrev pub multiplexRoom : ℕ
+multiplexRoom = 256
+
+abbrev pub submapsRoom : ℕ
+submapsRoom = 32
+
 unfoldable pub couplingRow : Coupling → List ℕ
 couplingRow c = c .magnitude ∷ c .angle ∷ []
 
@@ -19,13 +41,12 @@ multiplexRow v = suc v ∷ []
 unfoldable pub submapRow : Submap → List ℕ
 submapRow m = m .floor ∷ m .residue ∷ []
 
--- 4 counts (the last is a place of zero, so that a row is 804 wide and its parts begin at even places), 512 places for coupling steps,
--- 256 for the multiplex, 32 for submaps
+-- 4 counts (the last is a place of zero, so that the parts begin at even places), then coupling steps, multiplex, submaps
 unfoldable pub mappingRow : Mapping → List ℕ
 mappingRow m =
     (length (m .couplings) % 256 ∷ length (m .couplings) / 256 ∷ length (m .submaps) ∷ 0 ∷ [])
-    ++ (pad 512 (rows couplingRow (m .couplings)) ++ (pad 256 (map suc (m .multiplex)) ++ pad 32 (rows submapRow (m .submaps))))
+    ++ (pad couplingsRoom (rows couplingRow (m .couplings)) ++ (pad multiplexRoom (map suc (m .multiplex)) ++ pad submapsRoom (rows submapRow (m .submaps))))
 
 -- where the parts of a mapping go in a row whose counts stand already
 unfoldable pub partsInto : List ℕ → Mapping → List ℕ
-partsInto row m = sets (sets (sets row 4 (rows couplingRow (m .couplings))) 516 (rows multiplexRow (m .multiplex))) 772 (rows submapRow (m .submaps))
+partsInto row m = sets (sets (sets row couplingsPlace (rows couplingRow (m .couplings))) multiplexPlace (rows multiplexRow (m .multiplex))) submapsPlace (rows submapRow (m .submaps))

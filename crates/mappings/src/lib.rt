@@ -1,6 +1,15 @@
 // Mappings in a setup packet: what one is, its rules, its row in the tables, its counts (003, section 4.2.4, "Mappings"; 01, refusals 9 and 11).
 pub mod counts; // how many submaps and coupling steps
 
+// The width of a mapping's row in the table, and where its parts begin (specs/Layout.antt).
+pub const MAPPING_WIDTH: usize = 804;
+
+pub const COUPLINGS_PLACE: usize = 4;
+
+pub const MULTIPLEX_PLACE: usize = 516;
+
+pub const SUBMAPS_PLACE: usize = 772;
+
 // What a mapping is judged against: the identity's channels, and how many floors and residues are set up.
 pub struct Known {
     pub channels: u32,

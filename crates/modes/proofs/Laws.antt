@@ -1,27 +1,29 @@
 -- Laws of modes that other crates cite: a row's width; what is accepted is valid; one row for one mode; what a place of the table holds.
 -- Assumes nothing.
-use Prim.Native.Nat.{ℕ, _+_, _*_, _<_}
-use native.Mathlib.Nat.{add-zero}
+use Prim.Native.Nat.{ℕ, _+_, _*_, _≤_, _<_}
 use native.Mathlib.Omega.{arith}
 use borrow.Author.Tests.{ltb-true}
 use mathlib.Core.List.{List}
-use mathlib.Core.Path.{_≡_, refl, ap, subst, _∙_}
+use mathlib.Core.Path.{_≡_, refl, subst}
 use lib.Dec.{eqb, ltb}
 use lib.ListN.{length, getD}
 use Rattle.reading.specs.Outcome.{ok}
 use Rattle.reading.specs.Reader.{many, judged}
+use Rattle.reading.specs.Lists.{rows}
+use Rattle.reading.specs.Pad.{pad}
 use Rattle.reading.specs.Stand.{Each}
 use Rattle.reading.proofs.Outcomes.{then-ok, judged-ok}
 use Rattle.reading.proofs.Accepted.{many-each, many-number}
-use Rattle.reading.proofs.Stands.{row-place, rows-length, stands-same}
+use Rattle.reading.proofs.Stands.{stands-same}
+use Rattle.reading.proofs.Lies.{Lies, lies-first, lies-rest, rows-lie}
 use Rattle.bits.specs.Field.{field}
 use Rattle.bits.proofs.Fields.{field-ok}
 use Rattle.modes.specs.Content.{Mode}
 use Rattle.modes.specs.Reading.{mode}
-use Rattle.modes.specs.Layout.{modeRow}
+use Rattle.modes.specs.Layout.{modeWidth, modeRow}
 use Rattle.modes.specs.Valid.{ValidMode}
 use Rattle.modes.specs.Decode.{decodeMode}
-use Rattle.modes.specs.Stand.{ModesStand}
+use Rattle.modes.specs.Recognised.{ModesRecognised}
 
 pub mode-wide : (m : Mode) → length (modeRow m) ≡ 2
 unfolding modeRow
@@ -50,23 +52,19 @@ pub modes-valid : (mappings : ℕ) (s : List ℕ) (n k : ℕ) (x : List Mode × 
 modes-valid mappings s n k x e = (many-number (mode mappings) s n k e, many-each (mode mappings) s (ValidMode mappings) (mode-valid mappings s) n k e)
 
 -- no other modes share a table
-pub one-content : (mappings n : ℕ) (cells : List ℕ) (a b : ModesStand mappings n cells) → a .items ≡ b .items
+pub one-content : (mappings n : ℕ) (cells : List ℕ) (a b : ModesRecognised mappings n cells) → a .items ≡ b .items
 one-content mappings n cells a b = stands-same modeRow (ValidMode mappings) 2 mode-wide decodeMode (λ m v. decode-mode m) n cells a b
 
--- what stands in the table of mode i of n; d stands for a mode past the last
-module _ {mappings n : ℕ} {cells : List ℕ} (stand : ModesStand mappings n cells) (i : ℕ) (h : i < n) (d : Mode) where
-  place : (j : ℕ) → j < 2 → getD cells (2 * i + j) 0 ≡ getD (modeRow (getD (stand .items) i d)) j 0
-  place j g =
-      let a = stand .number in
-      let f = stand .fits in
-      let l = rows-length modeRow (ValidMode mappings) 2 mode-wide (stand .items) in
-      ap (λ (t : List ℕ). getD t (2 * i + j) 0) (stand .written)
-      ∙ row-place modeRow (ValidMode mappings) 2 mode-wide (stand .items) (length cells) i j d (omega arith) g (omega arith)
+-- IN A TABLE THAT IS THE WRITING-OUT OF MODES, THE ROW OF MODE i LIES AT i TIMES THE WIDTH; d stands for a mode past the last
+pub modes-lie : (ms : List Mode) (t : List ℕ) → t ≡ pad (length t) (rows modeRow ms) → modeWidth * length ms ≤ length t → (i : ℕ) → i < length ms → (d : Mode) → Lies t (modeWidth * i) (modeRow (getD ms i d))
+modes-lie ms t e h i k d = rows-lie modeRow 2 mode-wide d ms t e h i k
 
-  pub blockflag-is : getD cells (2 * i) 0 ≡ getD (stand .items) i d .blockflag
+-- what each place of a mode that lies at `at` holds
+module _ {t : List ℕ} {at : ℕ} (m : Mode) (l : Lies t at (modeRow m)) where
+  pub blockflag-is : getD t at 0 ≡ m .blockflag
   unfolding modeRow
-  blockflag-is = rw add-zero at (place 0 (omega arith))
+  blockflag-is = lies-first l
 
-  pub mapping-is : getD cells (2 * i + 1) 0 ≡ getD (stand .items) i d .mapping
+  pub mapping-is : getD t (at + 1) 0 ≡ m .mapping
   unfolding modeRow
-  mapping-is = place 1 (omega arith)
+  mapping-is = lies-first (lies-rest l)

@@ -1,3 +1,3 @@
 pub mod Laws
 pub mod ReadLaws
-pub mod StandLaws
+pub mod RecogniseLaws

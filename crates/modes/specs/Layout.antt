@@ -3,5 +3,9 @@ use Prim.Native.Nat.{ℕ}
 use mathlib.Core.List.{List, [], _∷_}
 use Rattle.modes.specs.Content.{Mode}
 
+-- the width of a row
+abbrev pub modeWidth : ℕ
+modeWidth = 2
+
 unfoldable pub modeRow : Mode → List ℕ
 modeRow m = m .blockflag ∷ m .mapping ∷ []

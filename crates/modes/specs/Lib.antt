@@ -3,4 +3,4 @@ pub mod Reading
 pub mod Layout
 pub mod Valid
 pub mod Decode
-pub mod Stand
+pub mod Recognised

@@ -1,6 +1,7 @@
 // Modes in a setup packet: what one is, its rules, its row in the tables, reading it, recognising it again (003, section 4.2.4, "Modes").
 // Each field is judged as soon as it is read; a refusal says nothing of the buffer, which the outermost function clears.
-pub mod stand; // whether a table that is handed in holds modes, and what it says of each
+pub mod recognise; // whether a table that is handed in holds modes
+pub mod row; // what is read of a row of the table
 
 use bits::Cursor;
 use bits::Field;
@@ -11,13 +12,16 @@ ghost use Rattle.reading.specs.Reader.{many, into, into1};
 ghost use Rattle.reading.specs.Table.{table, putRow};
 ghost use Rattle.bits.specs.Cursors.{position, Wrote};
 ghost use Rattle.modes.specs.Reading.{mode};
-ghost use Rattle.modes.specs.Layout.{modeRow};
+ghost use Rattle.modes.specs.Layout.{modeWidth, modeRow};
+
+// The width of a mode's row in the table (specs/Layout.antt).
+pub const MODE_WIDTH: usize = 2;
 
 // One mode, its row written at `at`. `mappings` is how many mappings are set up.
 pub fn read_mode(packet: &[u8], from: Cursor, mappings: u32, modes: &mut [u8], at: usize) -> Step
     requires { ⌜ at ≤ 128 ⌝ }
     ensures { λ r. ⌜ Wrote (into1 (putRow modeRow) (mode mappings (now (packet .entry)) (position from)) (table (now (modes .entry)) at))
-        r (table (now (modes .exit)) (at + 2)) ⌝ }
+        r (table (now (modes .exit)) (at + modeWidth)) ⌝ }
 {
     match from.bit(packet) {
         Field::Refused(z) => Step::Refused(z),
@@ -70,12 +74,12 @@ pub fn read_modes(
 ) -> Step
     requires { ⌜ count ≤ 64 ⌝ }
     ensures { λ r. ⌜ Wrote (into (putRow modeRow) (many (mode mappings) count (now (packet .entry)) (position from)) (table (now (modes .entry)) 0))
-        r (table (now (modes .exit)) (2 * count)) ⌝ }
+        r (table (now (modes .exit)) (modeWidth * count)) ⌝ }
 {
     let mut k = from;
     let mut i: usize = 0;
     while i < count {
-        match read_mode(packet, k, mappings, modes, 2 * i) {
+        match read_mode(packet, k, mappings, modes, MODE_WIDTH * i) {
             Step::Refused(z) => {
                 return Step::Refused(z);
             }

@@ -3,4 +3,3 @@ pub mod Collected
 pub mod ListLaws
 pub mod NumberLaws
 pub mod Accepted
-pub mod Lies

@@ -11,3 +11,4 @@ pub mod Accepted
 pub mod PairRows
 pub mod Runs
 pub mod Parts
+pub mod Lies

@@ -5,7 +5,8 @@ use native.Mathlib.Nat.{add-zero, sub-zero, mul-zero, mul-suc, add-comm, mul-le-
 use native.Mathlib.Numerals.{add-one}
 use native.Mathlib.Omega.{arith}
 use borrow.Author.Needs.{needs}
-use mathlib.Core.Bool.{Bool, true, false}
+use borrow.Author.Tests.{not-true, not-false}
+use mathlib.Core.Bool.{Bool, true, false, not}
 use mathlib.Core.List.{List, [], _∷_, _++_, append-nil}
 use mathlib.Core.Logic.{_↔_}
 use mathlib.Core.Path.{_≡_, refl, sym, ap, subst, _∙_}
@@ -37,6 +38,13 @@ iff-true p = ((λ e. p), (λ q. refl))
 
 pub not-said : {P : Type 0} {r : Bool} → (r ≡ true) ↔ P → r ≡ false → P → ⊥
 not-said {P} {r} e f p = let t : r ≡ true = e .1 p in let z : _≡_ {A = ℕ} 0 1 = cc in omega arith
+
+-- a test whose answer is turned round: what it says where it failed, and where it passed
+pub refuted : {b : Bool} {P : Type 0} → (b ≡ true) ↔ P → not b ≡ true → P → ⊥
+refuted {b} f n = not-said f (not-true b n)
+
+pub shown : {b : Bool} {P : Type 0} → (b ≡ true) ↔ P → not b ≡ false → P
+shown {b} f n = f .0 (not-false b n)
 
 -- a loop that looks for a number that is not zero: those from `from` to i are zeros, so that all depends on the others
 pub record Zeroing (cells : List ℕ) (from i : ℕ) : Type 0 where

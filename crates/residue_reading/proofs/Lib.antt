@@ -1,2 +1,6 @@
+pub mod SlotLaws
+pub mod CascadeLaws
+pub mod PlanLaws
+pub mod WritingLaws
 pub mod ReadLaws
 pub mod ResidueLaws

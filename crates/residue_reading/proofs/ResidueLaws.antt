@@ -14,16 +14,16 @@ use Rattle.bits.specs.declared.Step.{Step}
 use Rattle.bits.specs.declared.Step.the-variants.{Next, Refused}
 use Rattle.bits.specs.Cursors.{position, refusalOf, Wrote}
 use Rattle.bits.proofs.Steps.{wrote-ok, wrote-bad, wrote-refused, Rest, loop-start, loop-next, loop-refused, loop-done}
-use Rattle.residues.specs.Reading.{Books, Head, cascade, head, residue}
+use Rattle.residues.specs.Reading.{Books, Head, cascade, head, residue, residueFrom}
 use Rattle.residues.specs.FromTable.{booksOf}
 use Rattle.residues.specs.Heads.{headOf, headRead}
 use Rattle.residues.specs.Layout.{Tables, putResidue}
-use Rattle.residues.specs.Plans.{residueFrom, tablesAt}
-use Rattle.residue_plan.specs.Slots.{padWith}
+use Rattle.residues.specs.Plans.{tablesAt}
+use Rattle.residue_reading.specs.Slots.{padWith}
 use Rattle.residues.specs.declared.head.Head as D
 use Rattle.residues.specs.declared.head.HeadRead.{HeadRead}
 use Rattle.residues.specs.declared.head.HeadRead.the-variants as H
-use Rattle.residue_plan.proofs.SlotLaws.{length-padWith, take-padWith}
+use Rattle.residue_reading.proofs.SlotLaws.{length-padWith, take-padWith}
 use Rattle.residues.proofs.HeadSound.{head-sound}
 
 module _ {r : HeadRead} {o : Outcome (Head × ℕ)} (p : headRead r ≡ o) where

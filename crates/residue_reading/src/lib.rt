@@ -1,7 +1,12 @@
-// Reading residues into the tables (003, 4.2.4, "Residues"; 001, "header decode").
+// Reading residues into the tables (003, 4.2.4, "Residues"; 001, "header decode"; 01, refusals 11 and 13).
+pub mod cascade; // which passes each class has a book for
+pub mod plan; // the plan: which book each class has at each pass
+
 use bits::Cursor;
 use bits::Refusal;
 use bits::Step;
+use residues::HEAD_WIDTH;
+use residues::PLAN_WIDTH;
 use residues::head::Head;
 use residues::head::HeadRead;
 ghost use mathlib.Core.Path.{_≡_};
@@ -10,11 +15,11 @@ ghost use lib.ListN.{length, take};
 ghost use lib.Seq.{sets};
 ghost use Rattle.reading.specs.Reader.{many, into, into1};
 ghost use Rattle.bits.specs.Cursors.{position, Wrote};
-ghost use Rattle.residues.specs.Reading.{residue};
+ghost use Rattle.residues.specs.Reading.{residue, residueFrom};
 ghost use Rattle.residues.specs.Layout.{putResidue};
 ghost use Rattle.residues.specs.FromTable.{booksOf};
 ghost use Rattle.residues.specs.Heads.{headOf, headNumbers};
-ghost use Rattle.residues.specs.Plans.{residueFrom, tablesAt};
+ghost use Rattle.residues.specs.Plans.{tablesAt};
 ghost use Rattle.residues.specs.Valid.{AcceptedValid};
 
 fn wide(x: u32) -> usize
@@ -59,7 +64,7 @@ fn read_plan(
     let mut at = from;
     let mut i: usize = 0;
     while i < classes {
-        let row = residue_plan::plan::read_row(packet, at, count, cascades[i]);
+        let row = crate::plan::read_row(packet, at, count, cascades[i]);
         let step = row.step;
         match step {
             Step::Refused(z) => {
@@ -79,8 +84,8 @@ fn read_plan(
     if !residues::fits::plan_fits(plan, classes, head.size, books) {
         return Step::Refused(Refusal { number: 13, place });
     }
-    write_head(residues, 6 * index, head);
-    residue_plan::plan::write_plan(plans, 512 * index, plan);
+    write_head(residues, HEAD_WIDTH * index, head);
+    crate::plan::write_plan(plans, PLAN_WIDTH * index, plan);
     Step::Next(at)
 }
 
@@ -100,7 +105,7 @@ pub fn read_residue(
     match residues::head::read_head(packet, from, count) {
         HeadRead::Refused(z) => Step::Refused(z),
         HeadRead::Value(head, at_cascades) => {
-            let cascades = residue_plan::cascade::read_cascades(
+            let cascades = crate::cascade::read_cascades(
                 packet,
                 at_cascades,
                 wide(head.classifications),

@@ -1,3 +1,2 @@
-pub mod TableLaws
-pub mod StandLaws
-pub mod StandTheorem
+pub mod RecogniseLaws
+pub mod RecogniseTheorem

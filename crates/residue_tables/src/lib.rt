@@ -1,3 +1,2 @@
-// Residues in the tables: reading their numbers back, and recognising tables that are handed in.
-pub mod table; // reading a residue's numbers back from the tables
-pub mod stand; // recognising tables that are handed in
+// Residues in the tables: whether tables that anyone hands in hold residues that meet every rule.
+pub mod recognise; // recognising tables that are handed in

@@ -12,8 +12,8 @@ use Rattle.bits.specs.declared.Field.the-variants.{Value, Refused}
 use Rattle.bits.specs.Cursors.{position, outcome}
 use Rattle.bits.specs.Field.{field}
 use Rattle.bits.proofs.Answers.{value-is, refused-is, value-below}
-use Rattle.residues.specs.Reading.{head}
-use Rattle.residues.specs.Heads.{headRead, headFrom}
+use Rattle.residues.specs.Reading.{head, headFrom}
+use Rattle.residues.specs.Heads.{headRead}
 use Rattle.residues.specs.declared.head.HeadRead.{HeadRead}
 use Rattle.residues.specs.declared.head.HeadRead.the-variants as H
 

@@ -10,7 +10,7 @@ use Rattle.reading.specs.Reader.{judged}
 use Rattle.reading.proofs.Outcomes.{same-ok, then-ok, judged-ok}
 use Rattle.bits.specs.Field.{field}
 use Rattle.bits.proofs.Fields.{field-ok}
-use Rattle.residues.specs.Reading.{Head, head}
+use Rattle.residues.specs.Reading.{Head, headFrom, head}
 
 pub record HeadSound (count : ℕ) (h : Head) : Type 0 where
   pub type : h .type ≤ 2
@@ -23,7 +23,7 @@ pub record HeadSound (count : ℕ) (h : Head) : Type 0 where
   pub classbook : h .classbook < count
 
 pub head-sound : (count : ℕ) (s : List ℕ) (k : ℕ) {h : Head} {n : ℕ} → head count s k ≡ ok (h, n) → HeadSound count h
-unfolding head
+unfolding head headFrom
 head-sound count s k {h} {n} e =
     let a = then-ok (judged (λ v. leb v 2) 10 (field 16) s k) _ e in
     let ja = judged-ok (λ v. leb v 2) 10 (field 16) s k (a .1) in

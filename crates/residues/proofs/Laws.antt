@@ -16,7 +16,7 @@ use Rattle.reading.proofs.Outcomes.{same-ok, then-ok, need-ok}
 use Rattle.reading.proofs.Readers.{Long, many-long, each-long}
 use Rattle.reading.proofs.Pads.{length-pad}
 use Rattle.residues.specs.Content.{Residue}
-use Rattle.residues.specs.Reading.{Books, cascade, passes, planBook, planRow, head, residue, residueFits, withPlan}
+use Rattle.residues.specs.Reading.{Books, cascade, passes, planBook, planRow, headFrom, head, residueFrom, residue, residueFits, withPlan}
 use Rattle.residues.specs.Layout.{headRow, planTable}
 use Rattle.residues.specs.Valid.{Rows8, ValidResidue, AllValid, AcceptedValid}
 use Rattle.residues.specs.Decode.{chunks, decodeResidue}
@@ -80,7 +80,7 @@ row-set-up count c s k x e =
 
 -- an accepted residue meets every rule
 pub residue-valid : (books : Books) (s : List ℕ) (k : ℕ) (x : Residue × ℕ) → residue books s k ≡ ok x → ValidResidue books (x .0)
-unfolding residue
+unfolding residue residueFrom
 residue-valid books s k x e =
     let a = then-ok (head (books .count) s k) _ e in
     let b = then-ok (many cascade (a .0 .0 .classifications) s (a .0 .1)) _ (a .2) in

@@ -3,6 +3,7 @@ use Prim.Native.Nat.{ℕ, zero, suc, _+_, _*_}
 use mathlib.Core.List.{List, [], _∷_}
 use lib.ListN.{getD, take, drop}
 use Rattle.residues.specs.Content.{Residue}
+use Rattle.residues.specs.Layout.{headWidth, planWidth}
 use Rattle.residues.specs.Reading.{Head, withPlan}
 
 -- n rows of 8
@@ -14,12 +15,12 @@ chunks (suc n) l = take 8 l ∷ chunks n (drop 8 l)
 abbrev pub headAt : List ℕ → ℕ → Head
 headAt t i =
     record {
-      type = getD t (6 * i + 0) 0;
-      begin = getD t (6 * i + 1) 0;
-      end = getD t (6 * i + 2) 0;
-      size = getD t (6 * i + 3) 0;
-      classifications = getD t (6 * i + 4) 0;
-      classbook = getD t (6 * i + 5) 0;
+      type = getD t (headWidth * i + 0) 0;
+      begin = getD t (headWidth * i + 1) 0;
+      end = getD t (headWidth * i + 2) 0;
+      size = getD t (headWidth * i + 3) 0;
+      classifications = getD t (headWidth * i + 4) 0;
+      classbook = getD t (headWidth * i + 5) 0;
     }
 
 unfoldable pub decodeResidue : List ℕ → List ℕ → Residue
@@ -28,4 +29,4 @@ decodeResidue h p = withPlan (headAt h 0) (chunks (headAt h 0 .classifications) 
 -- n residues
 unfoldable pub decodeResidues : ℕ → List ℕ → List ℕ → List Residue
 decodeResidues zero h p = []
-decodeResidues (suc n) h p = decodeResidue h p ∷ decodeResidues n (drop 6 h) (drop 512 p)
+decodeResidues (suc n) h p = decodeResidue h p ∷ decodeResidues n (drop headWidth h) (drop planWidth p)

@@ -6,11 +6,18 @@ use Rattle.reading.specs.Lists.{rows}
 use Rattle.reading.specs.Table.{Table, putRow}
 use Rattle.residues.specs.Content.{Residue}
 
+-- the width of a row in the table of residues, and of one in the table of plans
+abbrev pub headWidth : ℕ
+headWidth = 6
+
+abbrev pub planWidth : ℕ
+planWidth = 512
+
 unfoldable pub headRow : Residue → List ℕ
 headRow r = r .type ∷ r .begin ∷ r .end ∷ r .size ∷ r .classifications ∷ r .classbook ∷ []
 
 unfoldable pub planTable : Residue → List ℕ
-planTable r = pad 512 (rows (λ row. row) (r .plan))
+planTable r = pad planWidth (rows (λ row. row) (r .plan))
 
 -- both tables while they are filled
 pub record Tables : Type 0 where

@@ -57,24 +57,34 @@ pub record Head : Type 0 where
   pub classifications : ℕ
   pub classbook : ℕ
 
+-- those after type, begin and end
+unfoldable pub headFrom : ℕ → ℕ → ℕ → ℕ → Reader Head
+headFrom count type begin end s k =
+    then (field 24 s k) (λ size.
+    then (field 6 s (size .1)) (λ classifications.
+    then (judged (λ v. Rule.meets11 (Rule.book count v)) 11 (field 8) s (classifications .1)) (λ classbook.
+    ok (record { type = type; begin = begin; end = end; size = size .0 + 1; classifications = classifications .0 + 1; classbook = classbook .0 }, classbook .1))))
+
 unfoldable pub head : ℕ → Reader Head
 head count s k =
     then (judged (λ v. Rule.meets10 (Rule.residueType v)) 10 (field 16) s k) (λ type.
     then (field 24 s (type .1)) (λ begin.
     then (field 24 s (begin .1)) (λ end.
-    then (field 24 s (end .1)) (λ size.
-    then (field 6 s (size .1)) (λ classifications.
-    then (judged (λ v. Rule.meets11 (Rule.book count v)) 11 (field 8) s (classifications .1)) (λ classbook.
-    ok (record { type = type .0; begin = begin .0; end = end .0; size = size .0 + 1; classifications = classifications .0 + 1; classbook = classbook .0 }, classbook .1)))))))
+    headFrom count (type .0) (begin .0) (end .0) s (end .1))))
 
 abbrev pub withPlan : Head → List (List ℕ) → Residue
 withPlan h plan = record { type = h .type; begin = h .begin; end = h .end; size = h .size; classifications = h .classifications; classbook = h .classbook; plan = plan }
+
+-- what follows the cascades: the plan, and then rule 13, whose place is the residue's type
+unfoldable pub residueFrom : Books → ℕ → Head → List ℕ → Reader Residue
+residueFrom books place h cascades s k =
+    then (each (planRow (books .count)) cascades s k) (λ plan.
+    need (residueFits books (withPlan h (plan .0))) (refusal 13 place)
+    (ok (withPlan h (plan .0), plan .1)))
 
 -- a residue of the setup packet (003, 4.2.4, "Residues"; 001)
 unfoldable pub residue : Books → Reader Residue
 residue books s k =
     then (head (books .count) s k) (λ h.
     then (many cascade (h .0 .classifications) s (h .1)) (λ cascades.
-    then (each (planRow (books .count)) (cascades .0) s (cascades .1)) (λ plan.
-    need (residueFits books (withPlan (h .0) (plan .0))) (refusal 13 k)
-    (ok (withPlan (h .0) (plan .0), plan .1)))))
+    residueFrom books k (h .0) (cascades .0) s (cascades .1)))

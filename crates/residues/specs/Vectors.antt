@@ -8,7 +8,7 @@ use Rattle.reading.specs.Outcome.{refusal, ok, bad}
 use Rattle.reading.specs.Reader.{many, each, mapped}
 use Rattle.reading.specs.Lists.{all, rows}
 use Rattle.bits.specs.Field.{bitAt, valueAt, field}
-use Rattle.residues.specs.Reading.{Books, cascade, planBook, planRow, placeFits, residueFits, head, residue}
+use Rattle.residues.specs.Reading.{Books, cascade, planBook, planRow, placeFits, residueFits, headFrom, head, residueFrom, residue}
 
 pub record PowerVectors : Type 0 where
   pub at-bound : leb (3 ^ 4) 81 ≡ true
@@ -42,5 +42,5 @@ pub record ResidueVectors : Type 0 where
   pub book-not-set-up : residue one-book (packet 1 33 7 1) 0 ≡ bad (refusal 11 106)
 
 pub residues : ResidueVectors
-unfolding residue head many each mapped cascade planBook planRow placeFits residueFits all rows field valueAt bitAt
+unfolding residue residueFrom head headFrom many each mapped cascade planBook planRow placeFits residueFits all rows field valueAt bitAt
 residues = record { accepted = refl; begin-at-end = refl; begin-above-end = refl; type-3 = refl; size-7 = refl; book-not-set-up = refl }

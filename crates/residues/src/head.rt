@@ -4,8 +4,8 @@ use bits::Field;
 use bits::Refusal;
 ghost use mathlib.Core.Path.{_≡_};
 ghost use Rattle.bits.specs.Cursors.{position};
-ghost use Rattle.residues.specs.Reading.{head};
-ghost use Rattle.residues.specs.Heads.{headRead, headFrom};
+ghost use Rattle.residues.specs.Reading.{head, headFrom};
+ghost use Rattle.residues.specs.Heads.{headRead};
 
 pub struct Head {
     pub kind: u32,

@@ -1,3 +1,8 @@
 // Residues in a setup packet: what one is, its rules, its rows in the tables, the fields before its plan, rule 13 (001, "header decode"; 01, refusals 10, 11 and 13).
 pub mod head; // the fields before the plan
 pub mod fits; // rule 13
+
+// The width of a residue's row in the table of residues, and of its plan in the table of plans (specs/Layout.antt).
+pub const HEAD_WIDTH: usize = 6;
+
+pub const PLAN_WIDTH: usize = 512;

@@ -153,7 +153,7 @@ class-numbered books s k =
     then-numbered (many-numbered (C.subclassBook books) s (λ j. judged-field (λ v. leb v books) 11 8 s j (omega arith)) (2 ^ subclasses .0) (master .1)) (λ (list : List ℕ × ℕ). value _))))
 
 ends-numbered : (place n : ℕ) (s : List ℕ) (k : ℕ) → Numbered (X.ends place n s k)
-unfolding X.ends X.xValues
+unfolding X.ends X.endsFrom X.xValues
 ends-numbered place n s k =
     then-numbered (field-numbered 2 s k) (λ (multiplier : ℕ × ℕ).
     then-numbered (field-numbered 4 s (multiplier .1)) (λ (rangebits : ℕ × ℕ).
@@ -162,7 +162,7 @@ ends-numbered place n s k =
     need-numbered (distinct (xList (rangebits .0) (xs .0))) (refusal 12 place) (omega arith) (value _))))
 
 floor-numbered : (books : ℕ) (s : List ℕ) (k : ℕ) → Numbered (F.floor books s k)
-unfolding F.floor F.floorType F.floor1
+unfolding F.floor F.floorType F.floor1 F.floorFrom
 floor-numbered books s k =
     then-numbered (judged-numbered (λ v. leb v 1) 10 (judged (λ v. not (eqb v 0)) 14 (field 16)) s k (omega arith) (judged-field (λ v. not (eqb v 0)) 14 16 s k (omega arith))) (λ (t : ℕ × ℕ).
     then-numbered (field-numbered 5 s (t .1)) (λ (count : ℕ × ℕ).
@@ -184,7 +184,7 @@ plan-numbered count c s k =
     each-numbered (R.planBook count) s (λ bit j. either (eqb bit 0) (value (0, j)) (mapped-numbered suc (judged-field (λ v. ltb v count) 11 8 s j (omega arith)))) (R.passes c) k
 
 residue-numbered : (books : R.Books) (s : List ℕ) (k : ℕ) → Numbered (R.residue books s k)
-unfolding R.residue R.head
+unfolding R.residue R.residueFrom R.head R.headFrom
 residue-numbered books s k =
     then-numbered
     (then-numbered (judged-field (λ v. leb v 2) 10 16 s k (omega arith)) (λ (type : ℕ × ℕ).

@@ -10,11 +10,11 @@ use Rattle.reading.proofs.Stands.{iff-false}
 use Rattle.limits.specs.declared.Limits.{Limits}
 use Rattle.book_tables.specs.Stand.{Asked, BooksStand}
 use Rattle.book_tables.proofs.TestLaws.{refuted, shown}
-use Rattle.floor_tables.specs.Stand.{FloorsStand}
+use Rattle.floor_tables.specs.Recognised.{FloorsRecognised}
 use Rattle.residues.specs.FromTable.{booksOf}
-use Rattle.residue_tables.specs.Stand.{ResiduesStand}
-use Rattle.mapping_tables.specs.Stand.{MappingsStand}
-use Rattle.modes.specs.Stand.{ModesStand}
+use Rattle.residue_tables.specs.Recognised.{ResiduesRecognised}
+use Rattle.mapping_tables.specs.Recognised.{MappingsRecognised}
+use Rattle.modes.specs.Recognised.{ModesRecognised}
 use Rattle.setup.specs.Layout.{hasRoom, tables}
 use Rattle.setup.specs.Parts.{Small}
 use Rattle.setup.specs.Sound.{Sound}
@@ -46,20 +46,20 @@ module _ {r : Bool} where
   pub books-said : (limits : Limits) (bs ls ws vs : List ℕ) {k k′ : ℕ} → k′ ≡ k → (r ≡ true) ↔ BooksStand limits k′ bs ls ws vs → (r ≡ true) ↔ BooksStand limits k bs ls ws vs
   books-said limits bs ls ws vs e p = rw e at p
 
-  pub floors-said : (fs : List ℕ) {k k′ n n′ m : ℕ} → k′ ≡ k → n′ ≡ n → m ≡ n′ → (r ≡ true) ↔ FloorsStand k′ m fs → (r ≡ true) ↔ FloorsStand k n fs
+  pub floors-said : (fs : List ℕ) {k k′ n n′ m : ℕ} → k′ ≡ k → n′ ≡ n → m ≡ n′ → (r ≡ true) ↔ FloorsRecognised k′ m fs → (r ≡ true) ↔ FloorsRecognised k n fs
   floors-said fs d e f p = rw (d, f, e) at p
 
   pub residues-said : (d e l : ℕ → ℕ) (rs ps : List ℕ) {k k′ n n′ : ℕ} → k′ ≡ k → n′ ≡ n
-      → (r ≡ true) ↔ ResiduesStand (record { count = k′; dimensions = d; entries = e; lookup = l }) n′ rs ps
-      → (r ≡ true) ↔ ResiduesStand (record { count = k; dimensions = d; entries = e; lookup = l }) n rs ps
+      → (r ≡ true) ↔ ResiduesRecognised (record { count = k′; dimensions = d; entries = e; lookup = l }) n′ rs ps
+      → (r ≡ true) ↔ ResiduesRecognised (record { count = k; dimensions = d; entries = e; lookup = l }) n rs ps
   residues-said d e l rs ps f g p = rw (f, g) at p
 
   pub mappings-said : (channels : ℕ) (ms : List ℕ) {f f′ q q′ n n′ m : ℕ} → f′ ≡ f → q′ ≡ q → n′ ≡ n → m ≡ n′
-      → (r ≡ true) ↔ MappingsStand (record { channels = channels; floors = f′; residues = q′ }) m ms
-      → (r ≡ true) ↔ MappingsStand (record { channels = channels; floors = f; residues = q }) n ms
+      → (r ≡ true) ↔ MappingsRecognised (record { channels = channels; floors = f′; residues = q′ }) m ms
+      → (r ≡ true) ↔ MappingsRecognised (record { channels = channels; floors = f; residues = q }) n ms
   mappings-said channels ms a b d e p = rw (a, b, e, d) at p
 
-  pub modes-said : (os : List ℕ) {k k′ n n′ m : ℕ} → k′ ≡ k → n′ ≡ n → m ≡ n′ → (r ≡ true) ↔ ModesStand k′ m os → (r ≡ true) ↔ ModesStand k n os
+  pub modes-said : (os : List ℕ) {k k′ n n′ m : ℕ} → k′ ≡ k → n′ ≡ n → m ≡ n′ → (r ≡ true) ↔ ModesRecognised k′ m os → (r ≡ true) ↔ ModesRecognised k n os
   modes-said os d e f p = rw (d, f, e) at p
 
 -- books and floors
@@ -67,22 +67,22 @@ module _ (limits : Limits) (cs bs ls ws vs fs : List ℕ) {b₁ : Bool} (p₁ : 
   pub front-books : not b₁ ≡ true → (false ≡ true) ↔ FrontStand limits cs bs ls ws vs fs
   front-books n = iff-false (λ s. refuted p₁ n (s .book-tables))
 
-  pub front-end : not b₁ ≡ false → {b₂ : Bool} → (b₂ ≡ true) ↔ FloorsStand (getD cs 0 0) (getD cs 1 0) fs → (b₂ ≡ true) ↔ FrontStand limits cs bs ls ws vs fs
+  pub front-end : not b₁ ≡ false → {b₂ : Bool} → (b₂ ≡ true) ↔ FloorsRecognised (getD cs 0 0) (getD cs 1 0) fs → (b₂ ≡ true) ↔ FrontStand limits cs bs ls ws vs fs
   front-end y₁ p₂ = ((λ t. record { book-tables = shown p₁ y₁; floor-table = p₂ .0 t }), (λ s. p₂ .1 (s .floor-table)))
 
 -- residues, mappings, modes
 module _ (channels : ℕ) (cs bs rs ps ms os : List ℕ) where
-  pub back-residues : {b : Bool} → (b ≡ true) ↔ ResiduesStand (booksOf (getD cs 0 0) bs) (getD cs 2 0) rs ps → not b ≡ true
+  pub back-residues : {b : Bool} → (b ≡ true) ↔ ResiduesRecognised (booksOf (getD cs 0 0) bs) (getD cs 2 0) rs ps → not b ≡ true
       → (false ≡ true) ↔ BackStand channels cs bs rs ps ms os
   back-residues p n = iff-false (λ s. refuted p n (s .residue-tables))
 
-  pub back-mappings : {b : Bool} → (b ≡ true) ↔ MappingsStand (knownBy channels cs) (getD cs 3 0) ms → not b ≡ true
+  pub back-mappings : {b : Bool} → (b ≡ true) ↔ MappingsRecognised (knownBy channels cs) (getD cs 3 0) ms → not b ≡ true
       → (false ≡ true) ↔ BackStand channels cs bs rs ps ms os
   back-mappings p n = iff-false (λ s. refuted p n (s .mapping-table))
 
-  pub back-end : {b₁ b₂ b₃ : Bool} → (b₁ ≡ true) ↔ ResiduesStand (booksOf (getD cs 0 0) bs) (getD cs 2 0) rs ps → not b₁ ≡ false
-      → (b₂ ≡ true) ↔ MappingsStand (knownBy channels cs) (getD cs 3 0) ms → not b₂ ≡ false
-      → (b₃ ≡ true) ↔ ModesStand (getD cs 3 0) (getD cs 4 0) os → (b₃ ≡ true) ↔ BackStand channels cs bs rs ps ms os
+  pub back-end : {b₁ b₂ b₃ : Bool} → (b₁ ≡ true) ↔ ResiduesRecognised (booksOf (getD cs 0 0) bs) (getD cs 2 0) rs ps → not b₁ ≡ false
+      → (b₂ ≡ true) ↔ MappingsRecognised (knownBy channels cs) (getD cs 3 0) ms → not b₂ ≡ false
+      → (b₃ ≡ true) ↔ ModesRecognised (getD cs 3 0) (getD cs 4 0) os → (b₃ ≡ true) ↔ BackStand channels cs bs rs ps ms os
   back-end p₁ y₁ p₂ y₂ p₃ = ((λ t. record { residue-tables = shown p₁ y₁; mapping-table = shown p₂ y₂; mode-table = p₃ .0 t }), (λ s. p₃ .1 (s .mode-table)))
 
 -- the counts behind their test

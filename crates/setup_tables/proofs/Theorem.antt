@@ -20,22 +20,22 @@ use Rattle.floors.specs.Decode.{decodeFloor}
 use Rattle.floors.specs.Layout.{floorRow}
 use Rattle.floors.specs.Valid.{ValidFloor, ValidFloors}
 use Rattle.floors.proofs.Decoded.{floor-long, floor-decoded}
-use Rattle.floor_tables.specs.Stand.{FloorsStand}
+use Rattle.floor_tables.specs.Recognised.{FloorsRecognised}
 use Rattle.residues.specs.Content.{Residue}
 use Rattle.residues.specs.FromTable.{booksOf}
 use Rattle.residues.specs.Reading.{Books}
 use Rattle.residues.specs.Valid.{ValidResidue, AllValid}
-use Rattle.residue_tables.specs.Stand.{ResiduesStand}
-use Rattle.residue_tables.proofs.StandTheorem as ResidueLaws
+use Rattle.residue_tables.specs.Recognised.{ResiduesRecognised}
+use Rattle.residue_tables.proofs.RecogniseTheorem as ResidueLaws
 use Rattle.mappings.specs.declared.Known.{Known}
 use Rattle.mappings.specs.Layout.{mappingRow}
 use Rattle.mappings.specs.Valid.{ValidMapping}
 use Rattle.mappings.proofs.RowLaws.{mapping-wide}
-use Rattle.mapping_tables.specs.Stand.{MappingsStand}
+use Rattle.mapping_tables.specs.Recognised.{MappingsRecognised}
 use Rattle.mapping_tables.proofs.Laws as MappingLaws
 use Rattle.modes.specs.Layout.{modeRow}
 use Rattle.modes.specs.Valid.{ValidMode}
-use Rattle.modes.specs.Stand.{ModesStand}
+use Rattle.modes.specs.Recognised.{ModesRecognised}
 use Rattle.modes.proofs.Laws as ModeLaws
 use Rattle.setup.specs.Content.{Setup, booksKnown, known}
 use Rattle.setup.specs.Layout.{Tables, layout, writtenOut, tables}
@@ -198,7 +198,7 @@ module _ (limits : Limits) (channels : ℕ) (t : Tables) where
           all-multiplicands = ap (λ (u : Tables). u .multiplicands) (s .written);
         }
 
-    floors-stand : FloorsStand (getD (t .counts) 0 0) (getD (t .counts) 1 0) (t .floors)
+    floors-stand : FloorsRecognised (getD (t .counts) 0 0) (getD (t .counts) 1 0) (t .floors)
     unfolding writtenOut layout
     floors-stand =
         record {
@@ -213,7 +213,7 @@ module _ (limits : Limits) (channels : ℕ) (t : Tables) where
     books-known =
         books-are (getD (t .counts) 0 0) (t .books) (s .content .books) (numbers .first) (counts-stand .books .high) (space .books) book-rows-written
 
-    residues-stand : ResiduesStand (booksOf (getD (t .counts) 0 0) (t .books)) (getD (t .counts) 2 0) (t .residues) (t .plans)
+    residues-stand : ResiduesRecognised (booksOf (getD (t .counts) 0 0) (t .books)) (getD (t .counts) 2 0) (t .residues) (t .plans)
     unfolding writtenOut layout
     residues-stand =
         record {
@@ -228,7 +228,7 @@ module _ (limits : Limits) (channels : ℕ) (t : Tables) where
           };
         }
 
-    mappings-stand : MappingsStand (knownBy channels (t .counts)) (getD (t .counts) 3 0) (t .mappings)
+    mappings-stand : MappingsRecognised (knownBy channels (t .counts)) (getD (t .counts) 3 0) (t .mappings)
     unfolding writtenOut layout
     mappings-stand =
         let long = rows-length mappingRow (ValidMapping (knownBy channels (t .counts))) 804 mapping-wide (s .content .mappings) in
@@ -245,7 +245,7 @@ module _ (limits : Limits) (channels : ℕ) (t : Tables) where
           written = ap (λ (u : Tables). u .mappings) (s .written);
         }
 
-    modes-stand : ModesStand (getD (t .counts) 3 0) (getD (t .counts) 4 0) (t .modes)
+    modes-stand : ModesRecognised (getD (t .counts) 3 0) (getD (t .counts) 4 0) (t .modes)
     unfolding writtenOut layout
     modes-stand =
         let long = rows-length modeRow (ValidMode (getD (t .counts) 3 0)) 2 ModeLaws.mode-wide (s .content .modes) in
@@ -269,7 +269,7 @@ module _ (limits : Limits) (channels : ℕ) (t : Tables) where
         }
 
 -- floors as the other rows
-floors-rows : (books n : ℕ) (t : List ℕ) (s : FloorsStand books n t) → n ≤ 64 → Stands floorRow (ValidFloor books) n t
+floors-rows : (books n : ℕ) (t : List ℕ) (s : FloorsRecognised books n t) → n ≤ 64 → Stands floorRow (ValidFloor books) n t
 floors-rows books n t s few =
     let long = rows-length floorRow (ValidFloor books) 277 floor-long (s .content) in
     let room = s .room in

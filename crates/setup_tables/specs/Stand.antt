@@ -8,12 +8,12 @@ use lib.ListN.{getD, drop}
 use Rattle.reading.specs.Stand.{Zeros}
 use Rattle.limits.specs.declared.Limits.{Limits}
 use Rattle.book_tables.specs.Stand.{BooksStand}
-use Rattle.floor_tables.specs.Stand.{FloorsStand}
+use Rattle.floor_tables.specs.Recognised.{FloorsRecognised}
 use Rattle.residues.specs.FromTable.{booksOf}
-use Rattle.residue_tables.specs.Stand.{ResiduesStand}
+use Rattle.residue_tables.specs.Recognised.{ResiduesRecognised}
 use Rattle.mappings.specs.declared.Known.{Known}
-use Rattle.mapping_tables.specs.Stand.{MappingsStand}
-use Rattle.modes.specs.Stand.{ModesStand}
+use Rattle.mapping_tables.specs.Recognised.{MappingsRecognised}
+use Rattle.modes.specs.Recognised.{ModesRecognised}
 use Rattle.setup.specs.Layout.{Tables, hasRoom}
 use Rattle.setup.specs.Carried.{Counted}
 use Rattle.setup.specs.Sound.{Sound}
@@ -34,13 +34,13 @@ knownBy channels counts = record { channels = channels; floors = getD counts 1 0
 -- books and floors
 pub record FrontStand (limits : Limits) (counts books lengths words multiplicands floors : List ℕ) : Type 0 where
   pub book-tables : BooksStand limits (getD counts 0 0) books lengths words multiplicands
-  pub floor-table : FloorsStand (getD counts 0 0) (getD counts 1 0) floors
+  pub floor-table : FloorsRecognised (getD counts 0 0) (getD counts 1 0) floors
 
 -- residues, which are judged against the books; mappings, against channels, floors and residues; modes, against the mappings
 pub record BackStand (channels : ℕ) (counts books residues plans mappings modes : List ℕ) : Type 0 where
-  pub residue-tables : ResiduesStand (booksOf (getD counts 0 0) books) (getD counts 2 0) residues plans
-  pub mapping-table : MappingsStand (knownBy channels counts) (getD counts 3 0) mappings
-  pub mode-table : ModesStand (getD counts 3 0) (getD counts 4 0) modes
+  pub residue-tables : ResiduesRecognised (booksOf (getD counts 0 0) books) (getD counts 2 0) residues plans
+  pub mapping-table : MappingsRecognised (knownBy channels counts) (getD counts 3 0) mappings
+  pub mode-table : ModesRecognised (getD counts 3 0) (getD counts 4 0) modes
 
 -- all ten tables
 pub record PartsStand (limits : Limits) (channels : ℕ) (t : Tables) : Type 0 where

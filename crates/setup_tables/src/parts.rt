@@ -10,10 +10,10 @@ ghost use Prim.Native.Nat.{_≤_};
 ghost use lib.ListN.{getD};
 ghost use Rattle.residues.specs.FromTable.{booksOf};
 ghost use Rattle.book_tables.specs.Stand.{BooksStand};
-ghost use Rattle.floor_tables.specs.Stand.{FloorsStand};
-ghost use Rattle.residue_tables.specs.Stand.{ResiduesStand};
-ghost use Rattle.mapping_tables.specs.Stand.{MappingsStand};
-ghost use Rattle.modes.specs.Stand.{ModesStand};
+ghost use Rattle.floor_tables.specs.Recognised.{FloorsRecognised};
+ghost use Rattle.residue_tables.specs.Recognised.{ResiduesRecognised};
+ghost use Rattle.mapping_tables.specs.Recognised.{MappingsRecognised};
+ghost use Rattle.modes.specs.Recognised.{ModesRecognised};
 ghost use Rattle.setup.specs.Parts.{Small};
 ghost use Rattle.setup.specs.Carried.{Counted};
 ghost use Rattle.setup_tables.specs.Stand.{CountsStand, FrontStand, BackStand, knownBy};
@@ -78,36 +78,36 @@ fn are_books(
 
 fn are_floors(counts: &[u32], floors: &[u16]) -> bool
     requires { ⌜ CountsStand (now counts) ⌝ }
-    ensures { λ r. ⌜ (r ≡ true) ↔ FloorsStand (getD (now (counts .entry)) 0 0) (getD (now (counts .entry)) 1 0) (now (floors .entry)) ⌝ }
+    ensures { λ r. ⌜ (r ≡ true) ↔ FloorsRecognised (getD (now (counts .entry)) 0 0) (getD (now (counts .entry)) 1 0) (now (floors .entry)) ⌝ }
 {
-    floor_tables::stand::are_floors(floors, wide(get_u32(counts, 1)), get_u32(counts, 0))
+    floor_tables::recognise::are_floors(floors, wide(get_u32(counts, 1)), get_u32(counts, 0))
 }
 
 fn are_residues(counts: &[u32], books: &[u32], residues: &[u32], plans: &[u16]) -> bool
     requires { ⌜ CountsStand (now counts) ⌝ }
-    ensures { λ r. ⌜ (r ≡ true) ↔ ResiduesStand (booksOf (getD (now (counts .entry)) 0 0) (now (books .entry))) (getD (now (counts .entry)) 2 0) (now (residues .entry)) (now (plans .entry)) ⌝ }
+    ensures { λ r. ⌜ (r ≡ true) ↔ ResiduesRecognised (booksOf (getD (now (counts .entry)) 0 0) (now (books .entry))) (getD (now (counts .entry)) 2 0) (now (residues .entry)) (now (plans .entry)) ⌝ }
 {
     let set_up = get_u32(counts, 0);
-    residue_tables::stand::are_residues(residues, plans, get_u32(counts, 2), set_up, books)
+    residue_tables::recognise::are_residues(residues, plans, get_u32(counts, 2), set_up, books)
 }
 
 fn are_mappings(channels: u32, counts: &[u32], mappings: &[u8]) -> bool
     requires { ⌜ CountsStand (now counts) × (channels ≤ 255) ⌝ }
-    ensures { λ r. ⌜ (r ≡ true) ↔ MappingsStand (knownBy channels (now (counts .entry))) (getD (now (counts .entry)) 3 0) (now (mappings .entry)) ⌝ }
+    ensures { λ r. ⌜ (r ≡ true) ↔ MappingsRecognised (knownBy channels (now (counts .entry))) (getD (now (counts .entry)) 3 0) (now (mappings .entry)) ⌝ }
 {
     let known = Known {
         channels,
         floors: get_u32(counts, 1),
         residues: get_u32(counts, 2),
     };
-    mapping_tables::stand::are_mappings(mappings, wide(get_u32(counts, 3)), known)
+    mapping_tables::recognise::are_mappings(mappings, wide(get_u32(counts, 3)), known)
 }
 
 fn are_modes(counts: &[u32], modes: &[u8]) -> bool
     requires { ⌜ CountsStand (now counts) ⌝ }
-    ensures { λ r. ⌜ (r ≡ true) ↔ ModesStand (getD (now (counts .entry)) 3 0) (getD (now (counts .entry)) 4 0) (now (modes .entry)) ⌝ }
+    ensures { λ r. ⌜ (r ≡ true) ↔ ModesRecognised (getD (now (counts .entry)) 3 0) (getD (now (counts .entry)) 4 0) (now (modes .entry)) ⌝ }
 {
-    modes::stand::are_modes(modes, wide(get_u32(counts, 4)), get_u32(counts, 3))
+    modes::recognise::are_modes(modes, wide(get_u32(counts, 4)), get_u32(counts, 3))
 }
 
 // Books and floors.

@@ -1,3 +1,0 @@
-pub mod TestLaws
-pub mod Runs
-pub mod Tested

@@ -1,0 +1,38 @@
+-- `floor_tables::recognise::are_floors` meets its contract. Assumes nothing.
+use Rattle.floor_tables.proofs.Tested.{table-short, table-rows, table-end}
+use borrow.Author.Needs.{needs}
+use Rattle.floor_tables.proofs.recognise.are_floors.Statement.{statement}
+use Rattle.floor_tables.proofs.recognise.are_floors.Tie as tie
+
+returns : tie.Need-returns
+returns c = search table-short
+
+long-requires : tie.Need-long-requires
+long-requires c κs = search needs
+
+are-rows-requires : tie.Need-are-rows-requires
+are-rows-requires c κs = search needs
+
+returns-2 : tie.Need-returns-2
+returns-2 c = search table-rows
+
+mul-are-below : tie.Need-mul-are-below
+mul-are-below c = search needs
+
+are-below-requires : tie.Need-are-below-requires
+are-below-requires c κs = search needs
+
+returns-3 : tie.Need-returns-3
+returns-3 c = search table-end
+
+pub are-floors-spec : {M : Type 1} → statement M
+are-floors-spec =
+    tie.close
+    (tie.spec
+    returns
+    long-requires
+    are-rows-requires
+    returns-2
+    mul-are-below
+    are-below-requires
+    returns-3)

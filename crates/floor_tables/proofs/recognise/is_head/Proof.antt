@@ -1,0 +1,47 @@
+-- `floor_tables::recognise::is_head` meets its contract. Assumes nothing.
+use native.Mathlib.Omega.{arith}
+use Rattle.floor_tables.proofs.TestLaws.{head-low, head-high, head-range, head-end}
+use borrow.Author.Needs.{needs}
+use Rattle.floor_tables.proofs.recognise.is_head.Statement.{statement}
+use Rattle.floor_tables.proofs.recognise.is_head.Tie as tie
+
+add-number : tie.Need-add-number
+add-number c = search needs
+
+number-requires : tie.Need-number-requires
+number-requires c κs = search needs
+
+returns : tie.Need-returns
+returns c = head-low _ _ (c .before .number .ensures .0) (omega arith)
+
+returns-2 : tie.Need-returns-2
+returns-2 c = head-high _ _ (c .before .before .number .ensures .0) (omega arith)
+
+add-number-2 : tie.Need-add-number-2
+add-number-2 c = search needs
+
+number-requires-2 : tie.Need-number-requires-2
+number-requires-2 c κs = search needs
+
+returns-3 : tie.Need-returns-3
+returns-3 c = head-range _ _ (c .before .before .before .before .number .ensures .0) (omega arith) (omega arith) (c .before .number2 .ensures .0) (omega arith)
+
+is-counted-requires : tie.Need-is-counted-requires
+is-counted-requires c κs = search needs
+
+returns-4 : tie.Need-returns-4
+returns-4 c = head-end _ _ (c .before .before .before .before .before .number .ensures .0) (omega arith) (omega arith) (c .before .before .number2 .ensures .0) (omega arith) (c .is-counted .ensures)
+
+pub is-head-spec : {M : Type 1} → statement M
+is-head-spec =
+    tie.close
+    (tie.spec
+    add-number
+    number-requires
+    returns
+    returns-2
+    add-number-2
+    number-requires-2
+    returns-3
+    is-counted-requires
+    returns-4)

@@ -1,0 +1,86 @@
+// Whether the rows of classes that are right for so many codebooks lie from a place on.
+use crate::below::are_below;
+use crate::below::number;
+use floor_class::CLASS_WIDTH;
+use reading::buffers;
+ghost use mathlib.Core.Path.{_≡_};
+ghost use mathlib.Core.Bool.{true};
+ghost use mathlib.Core.Logic.{_↔_};
+ghost use Prim.Native.Nat.{_≤_};
+ghost use Rattle.floor_class.specs.Valid.{MasterFits};
+ghost use Rattle.floor_tables.specs.ClassRules.{BookRules, ClassRules, ClassesRules};
+
+// Whether there is a master book exactly where there are subclass bits, and it is set up.
+fn is_master(books: usize, subclasses: usize, master: usize) -> bool
+    ensures { λ r. ⌜ (r ≡ true) ↔ MasterFits books subclasses master ⌝ }
+{
+    if books < master {
+        return false;
+    }
+    if subclasses == 0 {
+        if master == 0 {
+            return true;
+        }
+        return false;
+    }
+    if master < 1 {
+        return false;
+    }
+    true
+}
+
+// Whether the subclass books of a class lie from place `at` on, `count` of them, and zeros behind.
+fn are_books(floors: &[u16], at: usize, books: usize, count: usize) -> bool
+    requires { ⌜ (at ≤ 65535) × (books ≤ 256) × (count ≤ 8) ⌝ }
+    ensures { λ r. ⌜ (r ≡ true) ↔ BookRules books (now (floors .entry)) at count ⌝ }
+{
+    if !are_below(floors, at, at + count, books + 1) {
+        return false;
+    }
+    if !are_below(floors, at, at + count, 256) {
+        return false;
+    }
+    are_below(floors, at + count, at + 8, 1)
+}
+
+// Whether the row of a class begins at place `at`.
+fn is_class(floors: &[u16], at: usize, books: usize) -> bool
+    requires { ⌜ (at ≤ 65524) × (books ≤ 256) ⌝ }
+    ensures { λ r. ⌜ (r ≡ true) ↔ ClassRules books (now (floors .entry)) at ⌝ }
+{
+    let dimensions = number(floors, at);
+    if dimensions < 1 {
+        return false;
+    }
+    if 8 < dimensions {
+        return false;
+    }
+    let subclasses = buffers::get_u16(floors, at + 1);
+    if 3 < subclasses {
+        return false;
+    }
+    if !is_master(books, numbers::wide(subclasses), number(floors, at + 2)) {
+        return false;
+    }
+    are_books(
+        floors,
+        at + 3,
+        books,
+        numbers::wide(numbers::power(subclasses as u32)),
+    )
+}
+
+// Whether the rows of `count` classes lie from place `at` on.
+pub fn are_classes(floors: &[u16], at: usize, count: usize, books: usize) -> bool
+    requires { ⌜ (at ≤ 20000) × (count ≤ 16) × (books ≤ 256) ⌝ }
+    ensures { λ r. ⌜ (r ≡ true) ↔ ClassesRules books (now (floors .entry)) at count ⌝ }
+{
+    let mut c: usize = 0;
+    while c < count {
+        if !is_class(floors, at + CLASS_WIDTH * c, books) {
+            return false;
+        }
+        c = c + 1;
+    }
+    true
+}

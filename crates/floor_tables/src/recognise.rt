@@ -1,0 +1,175 @@
+// Whether a table of floors that anyone hands in is the writing-out of floors that meet every rule.
+use crate::below::are_below;
+use crate::below::number;
+use crate::classes::are_classes;
+use floor_class::CLASS_WIDTH;
+use floors::CLASSES_PLACE;
+use floors::FLOOR_WIDTH;
+use floors::PARTITIONS_PLACE;
+use floors::RANGE_PLACE;
+use floors::X_LIST_PLACE;
+use floors::X_VALUES_PLACE;
+use floors::floor;
+use reading::buffers;
+ghost use mathlib.Core.Path.{_≡_};
+ghost use mathlib.Core.Bool.{true};
+ghost use mathlib.Core.Logic.{_↔_};
+ghost use Prim.Native.Nat.{_+_, _≤_};
+ghost use lib.ListN.{length, getD};
+ghost use Rattle.floor_tables.specs.Rules.{PartitionRules, NamedRules, CountRules, HeadRules, ListRules, FloorRules, FloorsRules};
+ghost use Rattle.floor_tables.specs.Recognised.{FloorsRecognised};
+ghost use Rattle.floors.specs.Layout.{floorWidth};
+
+// Whether the partitions of the floor at place `at` stand.
+fn are_partitions(floors: &[u16], at: usize) -> bool
+    requires { ⌜ at ≤ 17451 ⌝ }
+    ensures { λ r. ⌜ (r ≡ true) ↔ PartitionRules (now (floors .entry)) at ⌝ }
+{
+    let count = number(floors, at);
+    if 31 < count {
+        return false;
+    }
+    if !are_below(
+        floors,
+        at + PARTITIONS_PLACE,
+        at + PARTITIONS_PLACE + count,
+        16,
+    ) {
+        return false;
+    }
+    are_below(floors, at + PARTITIONS_PLACE + count, at + CLASSES_PLACE, 1)
+}
+
+// Whether its classes stand.
+fn are_named(floors: &[u16], at: usize, books: usize) -> bool
+    requires { ⌜ (at ≤ 17451) × (books ≤ 256) × (at + floorWidth ≤ length (now floors)) ⌝ }
+    ensures { λ r. ⌜ (r ≡ true) ↔ NamedRules books (now (floors .entry)) at ⌝ }
+{
+    let count = number(floors, at + 1);
+    if 16 < count {
+        return false;
+    }
+    if count
+        != floor::class_count(
+            &floors[at + PARTITIONS_PLACE..at + CLASSES_PLACE],
+            number(floors, at),
+        )
+    {
+        return false;
+    }
+    if !are_classes(floors, at + CLASSES_PLACE, count, books) {
+        return false;
+    }
+    are_below(
+        floors,
+        at + CLASSES_PLACE + CLASS_WIDTH * count,
+        at + X_LIST_PLACE,
+        1,
+    )
+}
+
+// Whether its count of X values stands.
+fn is_counted(floors: &[u16], at: usize) -> bool
+    requires { ⌜ (at ≤ 17451) × (at + floorWidth ≤ length (now floors)) × (getD (now floors) at 0 ≤ 31) ⌝ }
+    ensures { λ r. ⌜ (r ≡ true) ↔ CountRules (now (floors .entry)) at ⌝ }
+{
+    let values = number(floors, at + 4);
+    if 65 < values {
+        return false;
+    }
+    if values < 2 {
+        return false;
+    }
+    let read = floor::value_count(
+        &floors[at + PARTITIONS_PLACE..at + CLASSES_PLACE],
+        number(floors, at),
+        &floors[at + CLASSES_PLACE..at + X_LIST_PLACE],
+    );
+    values - 2 == read
+}
+
+// Whether its multiplier, range bits and count of X values stand.
+fn is_head(floors: &[u16], at: usize) -> bool
+    requires { ⌜ (at ≤ 17451) × (at + floorWidth ≤ length (now floors)) × (getD (now floors) at 0 ≤ 31) ⌝ }
+    ensures { λ r. ⌜ (r ≡ true) ↔ HeadRules (now (floors .entry)) at ⌝ }
+{
+    let multiplier = number(floors, at + 2);
+    if multiplier < 1 {
+        return false;
+    }
+    if 4 < multiplier {
+        return false;
+    }
+    if 15 < number(floors, at + 3) {
+        return false;
+    }
+    is_counted(floors, at)
+}
+
+// Whether its X list stands.
+fn is_list(floors: &[u16], at: usize) -> bool
+    requires { ⌜ (at ≤ 17451) × (at + floorWidth ≤ length (now floors)) × (getD (now floors) (at + 3) 0 ≤ 15) × (getD (now floors) (at + 4) 0 ≤ 65) ⌝ }
+    ensures { λ r. ⌜ (r ≡ true) ↔ ListRules (now (floors .entry)) at ⌝ }
+{
+    let range = numbers::wide(numbers::power(buffers::get_u16(floors, at + 3) as u32));
+    let end = at + X_LIST_PLACE + number(floors, at + 4);
+    if 0 < number(floors, at + X_LIST_PLACE) {
+        return false;
+    }
+    if range != number(floors, at + RANGE_PLACE) {
+        return false;
+    }
+    if !are_below(floors, at + X_VALUES_PLACE, end, range) {
+        return false;
+    }
+    if !are_below(floors, end, at + FLOOR_WIDTH, 1) {
+        return false;
+    }
+    numbers::are_distinct(floors, at + X_LIST_PLACE, end)
+}
+
+// Whether the row of a floor begins at place `at`.
+fn is_floor(floors: &[u16], at: usize, books: usize) -> bool
+    requires { ⌜ (at ≤ 17451) × (books ≤ 256) × (at + floorWidth ≤ length (now floors)) ⌝ }
+    ensures { λ r. ⌜ (r ≡ true) ↔ FloorRules books (now (floors .entry)) at ⌝ }
+{
+    if !are_partitions(floors, at) {
+        return false;
+    }
+    if !are_named(floors, at, books) {
+        return false;
+    }
+    if !is_head(floors, at) {
+        return false;
+    }
+    is_list(floors, at)
+}
+
+// Whether the rows of `count` floors lie from the front on.
+fn are_rows(floors: &[u16], count: usize, books: usize) -> bool
+    requires { ⌜ (count ≤ 64) × (books ≤ 256) × (17728 ≤ length (now floors)) ⌝ }
+    ensures { λ r. ⌜ (r ≡ true) ↔ FloorsRules books (now (floors .entry)) count ⌝ }
+{
+    let mut f: usize = 0;
+    while f < count {
+        if !is_floor(floors, FLOOR_WIDTH * f, books) {
+            return false;
+        }
+        f = f + 1;
+    }
+    true
+}
+
+// Whether the table is the writing-out of `count` floors that are right for `books` codebooks, with zeros behind them.
+pub fn are_floors(floors: &[u16], count: usize, books: u32) -> bool
+    requires { ⌜ (count ≤ 64) × (books ≤ 256) ⌝ }
+    ensures { λ r. ⌜ (r ≡ true) ↔ FloorsRecognised books count (now (floors .entry)) ⌝ }
+{
+    if floors.len() < 17728 {
+        return false;
+    }
+    if !are_rows(floors, count, numbers::long(books)) {
+        return false;
+    }
+    are_below(floors, FLOOR_WIDTH * count, floors.len(), 1)
+}

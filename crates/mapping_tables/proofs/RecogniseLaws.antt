@@ -1,0 +1,327 @@
+-- Laws of recognising a table of mappings as the code asks them: the numbers of each part, one row, the loop over the rows. Assumes nothing.
+use Prim.Native.Nat.{ℕ, suc, _+_, _-_, _*_, _/_, _%_, _≤_, _<_}
+use native.Mathlib.Nat.{one-mul}
+use native.Mathlib.Omega.{arith}
+use borrow.Author.Needs.{needs}
+use borrow.Author.Tests.{lt-ltb, ltb-true, le-leb, leb-true, lt-leb, ne-eqb, eqb-false, not-true, not-false}
+use mathlib.Core.Bool.{Bool, true, false, not, cond}
+use mathlib.Core.List.{List, [], _∷_, _++_, map}
+use mathlib.Core.Logic.{_↔_}
+use mathlib.Core.Path.{_≡_, refl, sym, ap, subst, _∙_}
+use lib.Dec.{eqb, leb, ltb}
+use lib.ListN.{length, getD, take, drop, length-drop, take-append-drop}
+use lib.Seq.{drop-cons, drop-drop, take-all, length-take-le}
+use Rattle.reading.specs.Lists.{rows}
+use Rattle.reading.specs.Pad.{pad}
+use Rattle.reading.specs.Stand.{Zeros, Each, RowOf, Stands}
+use Rattle.reading.proofs.Stands.{iff-false, not-said, stands-pad, Left, rows-start, rows-next, rows-stop, rows-end, stands-long}
+use Rattle.reading.proofs.Pads.{length-pad}
+use Rattle.reading.proofs.PairRows.{pair-laws}
+use Rattle.mappings.specs.Content.{Coupling, Submap, Mapping}
+use Rattle.mappings.specs.declared.Known.{Known}
+use Rattle.mappings.specs.Layout.{couplingRow, multiplexRow, submapRow, mappingRow}
+use Rattle.mappings.specs.Valid.{ValidCoupling, ValidMultiplex, ValidSubmap, ValidMapping}
+use Rattle.mappings.specs.Decode.{couplingOf, submapOf}
+use Rattle.mapping_tables.specs.Recognised.{MappingsRecognised, multiplexCount}
+use Rattle.mappings.proofs.RowLaws.{couplings-length, submaps-length, multiplex-rows, multiplex-length, multiplex-wide, mapping-wide, part-couplings, part-multiplex, part-submaps}
+use Rattle.mappings.proofs.Laws.{each-all, all-each, sized-none, sized-some, coupling-pairs, submap-pairs, multiplex-number, multiplex-most}
+
+-- the two numbers of a coupling step
+module _ (magnitude angle channels : ℕ) where
+  pub magnitude-high : channels ≤ magnitude → (false ≡ true) ↔ ValidCoupling channels (couplingOf magnitude angle)
+  magnitude-high h = iff-false (λ v. let b = v .magnitude in omega arith)
+
+  pub angle-high : channels ≤ angle → (false ≡ true) ↔ ValidCoupling channels (couplingOf magnitude angle)
+  angle-high h = iff-false (λ v. let b = v .angle in omega arith)
+
+  pub coupling-low : magnitude < channels → angle < channels → (not (eqb angle magnitude) ≡ true) ↔ ValidCoupling channels (couplingOf magnitude angle)
+  coupling-low h g =
+      ((λ e. record { magnitude = h; angle = g; different = eqb-false _ _ (not-true _ e) }), (λ v. rw (ne-eqb angle magnitude (v .different)) refl))
+
+-- the two numbers of a submap
+module _ (floor residue : ℕ) (known : Known) where
+  pub floor-high : known .floors ≤ floor → (false ≡ true) ↔ ValidSubmap known (submapOf floor residue)
+  floor-high h = iff-false (λ v. let b = v .floor in omega arith)
+
+  pub floor-low : floor < known .floors → (ltb residue (known .residues) ≡ true) ↔ ValidSubmap known (submapOf floor residue)
+  floor-low h = ((λ e. record { floor = h; residue = ltb-true _ _ e }), (λ v. lt-ltb _ _ (v .residue)))
+
+-- a multiplex number, which stands plus one
+module _ (number submaps : ℕ) where
+  as-row : RowOf multiplexRow (ValidMultiplex submaps) (number ∷ []) → (1 ≤ number) × (number ≤ submaps)
+  unfolding multiplexRow
+  as-row r =
+      let e : number ≡ suc (r .item) = ap (λ (l : List ℕ). getD l 0 0) (r .written) in
+      let v = r .valid .number in
+      (omega arith, omega arith)
+
+  pub multiplex-zero : number ≡ 0 → (false ≡ true) ↔ RowOf multiplexRow (ValidMultiplex submaps) (number ∷ [])
+  multiplex-zero h = iff-false (λ r. let a = as-row r .0 in omega arith)
+
+  pub multiplex-some : (number ≡ 0 → ⊥) → (leb number submaps ≡ true) ↔ RowOf multiplexRow (ValidMultiplex submaps) (number ∷ [])
+  unfolding multiplexRow
+  multiplex-some h = (
+    (λ e. let l : number ≤ submaps = leb-true number submaps e in let s : 1 ≤ number = omega (arith, h) in let q : number ≡ suc (number - 1) = omega arith in
+        record { item = number - 1; valid = record { number = omega arith }; written = ap (λ (x : ℕ). x ∷ []) q }),
+    (λ r. le-leb _ _ (as-row r .1)),
+  )
+
+pub ruleset coupling-recognise-laws = (pair-laws, coupling-pairs)
+
+pub ruleset submap-recognise-laws = (pair-laws, submap-pairs)
+
+-- the loop over the multiplex: i numbers are found right
+pub record Numbers (submaps n : ℕ) (cells : List ℕ) (i : ℕ) : Type 0 where
+  pub within : i ≤ n
+  pub room : n ≤ length cells
+  pub left : Left multiplexRow (ValidMultiplex submaps) 1 multiplex-wide n cells i
+
+module _ (submaps n : ℕ) (cells : List ℕ) where
+  pub numbers-short : length cells < n → (false ≡ true) ↔ Stands multiplexRow (ValidMultiplex submaps) n cells
+  numbers-short h = iff-false (λ s. let l = stands-long multiplexRow (ValidMultiplex submaps) 1 multiplex-wide n cells s in omega arith)
+
+  pub numbers-start : n ≤ length cells → Numbers submaps n cells 0
+  numbers-start h = record { within = omega arith; room = h; left = rows-start multiplexRow (ValidMultiplex submaps) 1 multiplex-wide n cells }
+
+  module _ (i : ℕ) (f : Numbers submaps n cells i) where
+    module _ (h : i < n) {r : Bool} (said : (r ≡ true) ↔ RowOf multiplexRow (ValidMultiplex submaps) (getD cells i 0 ∷ [])) where
+      single : take 1 (drop (1 * i) cells) ≡ getD cells i 0 ∷ []
+      single = let g = f .room in let l : i < length cells = omega arith in ap (λ (k : ℕ). take 1 (drop k cells)) (one-mul i) ∙ ap (take 1) (drop-cons cells i 0 l)
+
+      pub numbers-stop : not r ≡ true → (false ≡ true) ↔ Stands multiplexRow (ValidMultiplex submaps) n cells
+      numbers-stop e = rows-stop multiplexRow (ValidMultiplex submaps) 1 multiplex-wide n cells i (f .left) h (λ x. not-said said (not-true r e) (subst (RowOf multiplexRow (ValidMultiplex submaps)) single x))
+
+      pub numbers-next : not r ≡ false → Numbers submaps n cells (i + 1)
+      numbers-next e =
+          let g = f .room in
+          record {
+            within = omega arith;
+            room = f .room;
+            left = rows-next multiplexRow (ValidMultiplex submaps) 1 multiplex-wide n cells i (f .left) h (omega arith) (subst (RowOf multiplexRow (ValidMultiplex submaps)) (sym single) (said .0 (not-false r e)));
+          }
+
+    pub numbers-end : n ≤ i → {r : Bool} → (r ≡ true) ↔ Zeros (drop n cells) → (r ≡ true) ↔ Stands multiplexRow (ValidMultiplex submaps) n cells
+    numbers-end h said =
+        let s = rows-end multiplexRow (ValidMultiplex submaps) 1 multiplex-wide n cells i (f .left) (f .within) h in
+        let e : drop (1 * n) cells ≡ drop n cells = ap (λ (k : ℕ). drop k cells) (one-mul n) in
+        ((λ a. s .1 (subst Zeros (sym e) (said .0 a))), (λ b. said .1 (subst Zeros e (s .0 b))))
+
+pub ruleset multiplex-recognise-laws = (needs, numbers-short, numbers-start, numbers-stop, numbers-next, numbers-end)
+
+-- how many multiplex numbers there are
+module _ (submaps channels : ℕ) where
+  pub count-none : submaps ≤ 1 → 0 ≡ multiplexCount submaps channels
+  count-none h = rw (le-leb submaps 1 h)
+
+  pub count-each : 1 < submaps → channels ≡ multiplexCount submaps channels
+  count-each h = rw (lt-leb submaps 1 h)
+
+  pub count-most : {count : ℕ} → count ≡ multiplexCount submaps channels → channels ≤ 255 → count ≤ 256
+  count-most {count} e h = rw e (go (leb submaps 1))
+    where
+      go : (t : Bool) → cond t 0 channels ≤ 256
+      go true = omega arith
+      go false = omega arith
+
+pub ruleset count-known = (needs, count-none, count-each)
+
+-- the row of a mapping, part by part
+pub record Parts (known : Known) (cells : List ℕ) (steps k : ℕ) : Type 0 where
+  pub few-steps : steps ≤ 256
+  pub some-submap : 1 ≤ k
+  pub few-submaps : k ≤ 16
+  pub zero : getD cells 3 0 ≡ 0
+  pub couplings : Stands couplingRow (ValidCoupling (known .channels)) steps (take 512 (drop 4 cells))
+  pub multiplex : Stands multiplexRow (ValidMultiplex k) (multiplexCount k (known .channels)) (take 256 (drop 516 cells))
+  pub submaps : Stands submapRow (ValidSubmap known) k (take 32 (drop 772 cells))
+
+-- a mapping put together from valid parts is valid
+valid-made : (known : Known) (cs : List Coupling) (ms : List ℕ) (ss : List Submap) (steps submaps : ℕ) → length cs ≡ steps → steps ≤ 256
+    → Each (ValidCoupling (known .channels)) cs → length ms ≡ multiplexCount submaps (known .channels) → Each (ValidMultiplex submaps) ms
+    → length ss ≡ submaps → 1 ≤ submaps → submaps ≤ 16 → Each (ValidSubmap known) ss → ValidMapping known (record { couplings = cs; multiplex = ms; submaps = ss })
+valid-made known cs ms ss steps submaps nc h vc nm vm ns low high vs =
+    record {
+      coupling-count = omega arith;
+      couplings = vc;
+      submaps-low = omega arith;
+      submaps-high = omega arith;
+      submaps = vs;
+      no-multiplex = λ e. sized-none submaps (known .channels) ms nm (omega arith);
+      some-multiplex = λ e. sized-some submaps (known .channels) ms nm (omega arith);
+      multiplex = rw ns (each-all submaps ms vm);
+    }
+
+four : (cells : List ℕ) → 4 ≤ length cells → take 4 cells ≡ getD cells 0 0 ∷ getD cells 1 0 ∷ getD cells 2 0 ∷ getD cells 3 0 ∷ []
+four [] h = absurd (omega arith)
+four (a ∷ []) h = absurd (omega arith)
+four (a ∷ b ∷ []) h = absurd (omega arith)
+four (a ∷ b ∷ c ∷ []) h = absurd (omega arith)
+four (a ∷ b ∷ c ∷ d ∷ l) h = refl
+
+module _ (known : Known) (few : known .channels ≤ 255) where
+  -- a row has its parts
+  taken : (m : Mapping) → ValidMapping known m → (cells : List ℕ) → cells ≡ mappingRow m
+      → Parts known cells (getD cells 0 0 + 256 * getD cells 1 0) (getD cells 2 0)
+  unfolding mappingRow
+  taken m v cells w =
+      let x = rows couplingRow (m .couplings) in
+      let y = map suc (m .multiplex) in
+      let z = rows submapRow (m .submaps) in
+      let n = length (m .couplings) in
+      let k = length (m .submaps) in
+      let at : (i : ℕ) → getD cells i 0 ≡ getD (mappingRow m) i 0 = λ i. ap (λ (l : List ℕ). getD l i 0) w in
+      let e0 : getD cells 0 0 ≡ n % 256 = at 0 in
+      let e1 : getD cells 1 0 ≡ n / 256 = at 1 in
+      let e2 : getD cells 2 0 ≡ k = at 2 in
+      let e : getD cells 0 0 + 256 * getD cells 1 0 ≡ n = omega arith in
+      let a = v .coupling-count in
+      let b = v .submaps-low in
+      let c = v .submaps-high in
+      let lx = couplings-length (m .couplings) in
+      let lz = submaps-length (m .submaps) in
+      let ly : length (rows multiplexRow (m .multiplex)) ≡ length (m .multiplex) = ap length (multiplex-rows (m .multiplex)) ∙ multiplex-length (m .multiplex) in
+      let my = multiplex-most known m (omega arith) v in
+      let all-below : Each (ValidMultiplex (getD cells 2 0)) (m .multiplex) = rw e2 (all-each k (m .multiplex) (v .multiplex)) in
+      record {
+        few-steps = omega arith;
+        some-submap = omega arith;
+        few-submaps = omega arith;
+        zero = at 3;
+        couplings =
+            rw e (stands-pad couplingRow (ValidCoupling (known .channels)) n 512 (m .couplings) (take 512 (drop 4 cells))
+            (ap (λ (l : List ℕ). take 512 (drop 4 l)) w ∙ part-couplings (n % 256) (n / 256) k 0 x y z) refl (v .couplings) (omega arith));
+        multiplex =
+            stands-pad multiplexRow (ValidMultiplex (getD cells 2 0)) (multiplexCount (getD cells 2 0) (known .channels)) 256 (m .multiplex) (take 256 (drop 516 cells))
+            (ap (λ (l : List ℕ). take 256 (drop 516 l)) w ∙ part-multiplex (n % 256) (n / 256) k 0 x y z ∙ ap (pad 256) (sym (multiplex-rows (m .multiplex))))
+            (rw e2 (multiplex-number known m v)) all-below (omega arith);
+        submaps =
+            rw e2 (stands-pad submapRow (ValidSubmap known) k 32 (m .submaps) (take 32 (drop 772 cells))
+            (ap (λ (l : List ℕ). take 32 (drop 772 l)) w ∙ ap (take 32) (part-submaps (n % 256) (n / 256) k 0 x y z) ∙ take-all 32 (pad 32 z) (let l = length-pad 32 z in omega arith))
+            refl (v .submaps) (omega arith));
+      }
+
+  -- parts that stand make a row
+  module _ (cells : List ℕ) (long : length cells ≡ 804) where
+    split : cells ≡ take 4 cells ++ (take 512 (drop 4 cells) ++ (take 256 (drop 516 cells) ++ take 32 (drop 772 cells)))
+    split =
+        let d = length-drop 772 cells in
+        let a : drop 772 cells ≡ take 32 (drop 772 cells) = sym (take-all 32 (drop 772 cells) (omega arith)) in
+        let b : drop 516 cells ≡ take 256 (drop 516 cells) ++ take 32 (drop 772 cells) =
+        sym (take-append-drop 256 (drop 516 cells)) ∙ ap (λ (l : List ℕ). take 256 (drop 516 cells) ++ l) (drop-drop 256 516 cells ∙ a) in
+        let c : drop 4 cells ≡ take 512 (drop 4 cells) ++ (take 256 (drop 516 cells) ++ take 32 (drop 772 cells)) =
+        sym (take-append-drop 512 (drop 4 cells)) ∙ ap (λ (l : List ℕ). take 512 (drop 4 cells) ++ l) (drop-drop 512 4 cells ∙ b) in
+        sym (take-append-drop 4 cells) ∙ ap (λ (l : List ℕ). take 4 cells ++ l) c
+
+    made : getD cells 0 0 < 256 → Parts known cells (getD cells 0 0 + 256 * getD cells 1 0) (getD cells 2 0) → RowOf mappingRow (ValidMapping known) cells
+    unfolding mappingRow
+    made byte p =
+        let cs = p .couplings .items in
+        let ms = p .multiplex .items in
+        let ss = p .submaps .items in
+        let nc = p .couplings .number in
+        let nm = p .multiplex .number in
+        let ns = p .submaps .number in
+        let l4 = length-drop 4 cells in
+        let l516 = length-drop 516 cells in
+        let l772 = length-drop 772 cells in
+        let lc : length (take 512 (drop 4 cells)) ≡ 512 = length-take-le 512 (drop 4 cells) (omega arith) in
+        let lm : length (take 256 (drop 516 cells)) ≡ 256 = length-take-le 256 (drop 516 cells) (omega arith) in
+        let ls : length (take 32 (drop 772 cells)) ≡ 32 = length-take-le 32 (drop 772 cells) (omega arith) in
+        let ec : take 512 (drop 4 cells) ≡ pad 512 (rows couplingRow cs) = p .couplings .written ∙ ap (λ (k : ℕ). pad k (rows couplingRow cs)) lc in
+        let em : take 256 (drop 516 cells) ≡ pad 256 (map suc ms) = p .multiplex .written ∙ (λ j. pad (lm j) (multiplex-rows ms j)) in
+        let es : take 32 (drop 772 cells) ≡ pad 32 (rows submapRow ss) = p .submaps .written ∙ ap (λ (k : ℕ). pad k (rows submapRow ss)) ls in
+        let h = p .few-steps in
+        let low : getD cells 0 0 ≡ length cs % 256 = omega arith in
+        let high : getD cells 1 0 ≡ length cs / 256 = omega arith in
+        let number : getD cells 2 0 ≡ length ss = sym ns in
+        let heads : take 4 cells ≡ length cs % 256 ∷ length cs / 256 ∷ length ss ∷ 0 ∷ [] = four cells (omega arith) ∙ (λ j. low j ∷ high j ∷ number j ∷ p .zero j ∷ []) in
+        record {
+          item = record { couplings = cs; multiplex = ms; submaps = ss };
+          valid = valid-made known cs ms ss _ _ nc h (p .couplings .valid) nm (p .multiplex .valid) ns (p .some-submap) (p .few-submaps) (p .submaps .valid);
+          written = split ∙ (λ j. heads j ++ (ec j ++ (em j ++ es j)));
+        }
+
+    module _ (byte : getD cells 0 0 < 256) {steps : ℕ} (es : steps ≡ getD cells 0 0 + 256 * getD cells 1 0) where
+      pub parts-of : RowOf mappingRow (ValidMapping known) cells ↔ Parts known cells steps (getD cells 2 0)
+      parts-of = rw es ((λ r. taken (r .item) (r .valid) cells (r .written)), (λ p. made byte p))
+
+-- as the code asks them
+module _ (known : Known) (cells : List ℕ) (long : length cells ≡ 804) (few : known .channels ≤ 255) {steps : ℕ}
+    (es : (steps ≡ getD cells 0 0 + 256 * getD cells 1 0) × (getD cells 0 0 < 256)) where
+  abbrev Row : Type 0
+  Row = RowOf mappingRow (ValidMapping known) cells
+
+  ps : Row → Parts known cells steps (getD cells 2 0)
+  ps = parts-of known few cells long (es .1) (es .0) .0
+
+  pub steps-many : 256 < steps → (false ≡ true) ↔ RowOf mappingRow (ValidMapping known) cells
+  steps-many h = iff-false (λ r. let a = ps r .few-steps in omega arith)
+
+  pub submaps-none : getD cells 2 0 < 1 → (false ≡ true) ↔ RowOf mappingRow (ValidMapping known) cells
+  submaps-none h = iff-false (λ r. let a = ps r .some-submap in omega arith)
+
+  pub submaps-many : 16 < getD cells 2 0 → (false ≡ true) ↔ RowOf mappingRow (ValidMapping known) cells
+  submaps-many h = iff-false (λ r. let a = ps r .few-submaps in omega arith)
+
+  pub place-used : (getD cells 3 0 ≡ 0 → ⊥) → (false ≡ true) ↔ RowOf mappingRow (ValidMapping known) cells
+  place-used h = iff-false (λ r. h (ps r .zero))
+
+  module _ {r₁ : Bool} (said₁ : (r₁ ≡ true) ↔ Stands couplingRow (ValidCoupling (known .channels)) steps (take 512 (drop 4 cells))) where
+    pub couplings-wrong : not r₁ ≡ true → (false ≡ true) ↔ RowOf mappingRow (ValidMapping known) cells
+    couplings-wrong e = iff-false (λ r. not-said said₁ (not-true r₁ e) (ps r .couplings))
+
+    module _ {count : ℕ} (ec : count ≡ multiplexCount (getD cells 2 0) (known .channels)) {r₂ : Bool}
+        (said₂ : (r₂ ≡ true) ↔ Stands multiplexRow (ValidMultiplex (getD cells 2 0)) count (take 256 (drop 516 cells))) where
+      numbers : (r₂ ≡ true) ↔ Stands multiplexRow (ValidMultiplex (getD cells 2 0)) (multiplexCount (getD cells 2 0) (known .channels)) (take 256 (drop 516 cells))
+      numbers = rw ec at said₂
+
+      pub multiplex-wrong : not r₂ ≡ true → (false ≡ true) ↔ RowOf mappingRow (ValidMapping known) cells
+      multiplex-wrong e = iff-false (λ r. not-said numbers (not-true r₂ e) (ps r .multiplex))
+
+      pub row-right : steps ≤ 256 → 1 ≤ getD cells 2 0 → getD cells 2 0 ≤ 16 → getD cells 3 0 ≡ 0 → not r₁ ≡ false → not r₂ ≡ false → {r₃ : Bool}
+          → (r₃ ≡ true) ↔ Stands submapRow (ValidSubmap known) (getD cells 2 0) (take 32 (drop 772 cells)) → (r₃ ≡ true) ↔ RowOf mappingRow (ValidMapping known) cells
+      row-right a b c z e₁ e₂ said₃ =
+          let q = parts-of known few cells long (es .1) (es .0) in (
+            (λ e. q .1 (record { few-steps = a; some-submap = b; few-submaps = c; zero = z; couplings = said₁ .0 (not-false r₁ e₁); multiplex = numbers .0 (not-false r₂ e₂); submaps = said₃ .0 e })),
+            (λ r. said₃ .1 (ps r .submaps)),
+          )
+
+pub ruleset row-laws = (needs, count-most, steps-many, submaps-none, submaps-many, place-used, couplings-wrong, multiplex-wrong, row-right)
+
+-- the width of a part, as the code computes it
+pub part-width : (a w : ℕ) → a + w - a ≡ w
+part-width a w = omega arith
+
+-- the loop over the rows: i are found right
+pub record Finding (known : Known) (n : ℕ) (cells : List ℕ) (i : ℕ) : Type 0 where
+  pub within : i ≤ n
+  pub room : 804 * n ≤ length cells
+  pub left : Left mappingRow (ValidMapping known) 804 mapping-wide n cells i
+
+module _ (known : Known) (n : ℕ) (cells : List ℕ) where
+  pub too-short : length cells < 804 * n → (false ≡ true) ↔ MappingsRecognised known n cells
+  too-short h = iff-false (λ s. let l = stands-long mappingRow (ValidMapping known) 804 mapping-wide n cells s in omega arith)
+
+  pub find-start : 804 * n ≤ length cells → Finding known n cells 0
+  find-start h = record { within = omega arith; room = h; left = rows-start mappingRow (ValidMapping known) 804 mapping-wide n cells }
+
+  module _ (i : ℕ) (f : Finding known n cells i) where
+    -- w is the row's width as the code computes it
+    module _ (h : i < n) {r : Bool} {w : ℕ} (said : (r ≡ true) ↔ RowOf mappingRow (ValidMapping known) (take w (drop (804 * i) cells))) (e : w ≡ 804) where
+      of-row : (r ≡ true) ↔ RowOf mappingRow (ValidMapping known) (take 804 (drop (804 * i) cells))
+      of-row = rw e at said
+
+      pub find-stop : not r ≡ true → (false ≡ true) ↔ MappingsRecognised known n cells
+      find-stop f′ = rows-stop mappingRow (ValidMapping known) 804 mapping-wide n cells i (f .left) h (λ x. not-said of-row (not-true r f′) x)
+
+      pub find-next : not r ≡ false → Finding known n cells (i + 1)
+      find-next f′ =
+          let g = f .room in
+          record { within = omega arith; room = f .room; left = rows-next mappingRow (ValidMapping known) 804 mapping-wide n cells i (f .left) h (omega arith) (of-row .0 (not-false r f′)) }
+
+    pub find-end : n ≤ i → {r : Bool} → (r ≡ true) ↔ Zeros (drop (804 * n) cells) → (r ≡ true) ↔ MappingsRecognised known n cells
+    find-end h said =
+        let s = rows-end mappingRow (ValidMapping known) 804 mapping-wide n cells i (f .left) (f .within) h in
+        ((λ e. s .1 (said .0 e)), (λ a. said .1 (s .0 a)))
+
+pub ruleset recognise-laws = (needs, too-short, find-start, find-end)

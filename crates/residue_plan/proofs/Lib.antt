@@ -1,4 +1,0 @@
-pub mod SlotLaws
-pub mod CascadeLaws
-pub mod PlanLaws
-pub mod WritingLaws

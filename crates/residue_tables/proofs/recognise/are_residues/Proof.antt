@@ -1,0 +1,85 @@
+-- `residue_tables::recognise::are_residues` meets its contract, by RecogniseLaws and RecogniseTheorem. Assumes nothing.
+use Prim.Native.Nat.{_-_}
+use Rattle.residues.specs.FromTable.{booksOf}
+use Rattle.residue_tables.proofs.RecogniseLaws.{Standing, standing-start, standing-next, standing-failed, tail-failed, tail-judged}
+use Rattle.residue_tables.proofs.RecogniseTheorem.{one-content, short, short-plans, recognised-iff}
+use borrow.Author.Needs.{needs}
+use Rattle.residue_tables.proofs.recognise.are_residues.Statement.{statement}
+use Rattle.residue_tables.proofs.recognise.are_residues.Tie as tie
+
+abbrev Inv-loop : tie.InvT-loop
+Inv-loop residues plans n count books i₀ i = Standing (booksOf count books) n residues plans i
+
+abbrev μ-loop : tie.MeasureT-loop
+μ-loop residues plans n count books i₀ i = n - i
+
+returns : tie.Need-returns Inv-loop μ-loop
+returns c = (short (booksOf (c .before .before .before .before .args .count) (c .before .before .before .before .args .books .now)) (c .before .before .before .before .args .n) (c .before .before .before .before .args .residues .now) (c .before .before .before .before .args .plans .now) (search needs), one-content (booksOf (c .before .before .before .before .args .count) (c .before .before .before .before .args .books .now)) (c .before .before .before .before .args .n) (c .before .before .before .before .args .residues .now) (c .before .before .before .before .args .plans .now) (c .before .before .before .before .pre))
+
+returns-2 : tie.Need-returns-2 Inv-loop μ-loop
+returns-2 c = (short-plans (booksOf (c .before .before .before .before .before .args .count) (c .before .before .before .before .before .args .books .now)) (c .before .before .before .before .before .args .n) (c .before .before .before .before .before .args .residues .now) (c .before .before .before .before .before .args .plans .now) (search needs), one-content (booksOf (c .before .before .before .before .before .args .count) (c .before .before .before .before .before .args .books .now)) (c .before .before .before .before .before .args .n) (c .before .before .before .before .before .args .residues .now) (c .before .before .before .before .before .args .plans .now) (c .before .before .before .before .before .pre))
+
+loop-holds : tie.Need-loop-holds Inv-loop μ-loop
+loop-holds c = standing-start _ _ _ _
+
+is-residue-requires : tie.Need-is-residue-requires Inv-loop μ-loop
+is-residue-requires c κs = search needs
+
+returns-3 : tie.Need-returns-3 Inv-loop μ-loop
+returns-3 c = (recognised-iff (booksOf (c .before .before .before .before .before .before .before .before .before .args .count) (c .before .before .before .before .before .before .before .before .before .args .books .now)) (c .before .before .before .before .before .before .before .before .before .args .n) (c .before .before .before .before .before .before .before .before .before .args .residues .now) (c .before .before .before .before .before .before .before .before .before .args .plans .now) (c .before .before .before .before .before .before .before .before .before .pre) (search needs) (search needs) (standing-failed _ _ _ _ (c .before .before .before .loop .inv) (search needs) (c .before .is-residue .ensures) (c .if3 .taken)), one-content (booksOf (c .before .before .before .before .before .before .before .before .before .args .count) (c .before .before .before .before .before .before .before .before .before .args .books .now)) (c .before .before .before .before .before .before .before .before .before .args .n) (c .before .before .before .before .before .before .before .before .before .args .residues .now) (c .before .before .before .before .before .before .before .before .before .args .plans .now) (c .before .before .before .before .before .before .before .before .before .pre))
+
+add-i : tie.Need-add-i Inv-loop μ-loop
+add-i c = search needs
+
+loop-less : tie.Need-loop-less Inv-loop μ-loop
+loop-less c = search needs
+
+loop-again : tie.Need-loop-again Inv-loop μ-loop
+loop-again c = standing-next _ _ _ _ (c .before .before .before .loop .inv) (search needs) (c .before .is-residue .ensures) (c .if3 .left)
+
+wide-u32-requires : tie.Need-wide-u32-requires Inv-loop μ-loop
+wide-u32-requires c κs = search needs
+
+mul-zeros-u32 : tie.Need-mul-zeros-u32 Inv-loop μ-loop
+mul-zeros-u32 c = search needs
+
+zeros-u32-requires : tie.Need-zeros-u32-requires Inv-loop μ-loop
+zeros-u32-requires c κs = search needs
+
+returns-4 : tie.Need-returns-4 Inv-loop μ-loop
+returns-4 c = (recognised-iff (booksOf (c .before .before .before .before .before .before .before .before .before .before .args .count) (c .before .before .before .before .before .before .before .before .before .before .args .books .now)) (c .before .before .before .before .before .before .before .before .before .before .args .n) (c .before .before .before .before .before .before .before .before .before .before .args .residues .now) (c .before .before .before .before .before .before .before .before .before .before .args .plans .now) (c .before .before .before .before .before .before .before .before .before .before .pre) (search needs) (search needs) (tail-failed _ _ _ _ (c .before .before .before .before .loop .inv) (search needs) (c .before .before .wide-u32 .ensures) (c .before .zeros-u32 .ensures) (c .if4 .taken)), one-content (booksOf (c .before .before .before .before .before .before .before .before .before .before .args .count) (c .before .before .before .before .before .before .before .before .before .before .args .books .now)) (c .before .before .before .before .before .before .before .before .before .before .args .n) (c .before .before .before .before .before .before .before .before .before .before .args .residues .now) (c .before .before .before .before .before .before .before .before .before .before .args .plans .now) (c .before .before .before .before .before .before .before .before .before .before .pre))
+
+wide-u32-requires-2 : tie.Need-wide-u32-requires-2 Inv-loop μ-loop
+wide-u32-requires-2 c κs = search needs
+
+mul-zeros-u16 : tie.Need-mul-zeros-u16 Inv-loop μ-loop
+mul-zeros-u16 c = search needs
+
+zeros-u16-requires : tie.Need-zeros-u16-requires Inv-loop μ-loop
+zeros-u16-requires c κs = search needs
+
+returns-5 : tie.Need-returns-5 Inv-loop μ-loop
+returns-5 c = (recognised-iff (booksOf (c .before .before .before .before .before .before .before .before .before .before .before .before .args .count) (c .before .before .before .before .before .before .before .before .before .before .before .before .args .books .now)) (c .before .before .before .before .before .before .before .before .before .before .before .before .args .n) (c .before .before .before .before .before .before .before .before .before .before .before .before .args .residues .now) (c .before .before .before .before .before .before .before .before .before .before .before .before .args .plans .now) (c .before .before .before .before .before .before .before .before .before .before .before .before .pre) (search needs) (search needs) (tail-judged _ _ _ _ (c .before .before .before .before .before .before .loop .inv) (search needs) (c .before .before .before .before .wide-u32 .ensures) (c .before .before .before .zeros-u32 .ensures) (c .before .before .if4 .left) (c .before .wide-u322 .ensures) (c .zeros-u16 .ensures)), one-content (booksOf (c .before .before .before .before .before .before .before .before .before .before .before .before .args .count) (c .before .before .before .before .before .before .before .before .before .before .before .before .args .books .now)) (c .before .before .before .before .before .before .before .before .before .before .before .before .args .n) (c .before .before .before .before .before .before .before .before .before .before .before .before .args .residues .now) (c .before .before .before .before .before .before .before .before .before .before .before .before .args .plans .now) (c .before .before .before .before .before .before .before .before .before .before .before .before .pre))
+
+pub are-residues-spec : {M : Type 1} → statement M
+are-residues-spec =
+    tie.close
+    (tie.spec
+    Inv-loop
+    μ-loop
+    returns
+    returns-2
+    loop-holds
+    is-residue-requires
+    returns-3
+    add-i
+    loop-less
+    loop-again
+    wide-u32-requires
+    mul-zeros-u32
+    zeros-u32-requires
+    returns-4
+    wide-u32-requires-2
+    mul-zeros-u16
+    zeros-u16-requires
+    returns-5)

@@ -1,0 +1,87 @@
+-- `residue_tables::recognise::is_residue` meets its contract, by RecogniseLaws. Assumes nothing.
+use mathlib.Core.Path.{refl}
+use Rattle.residue_tables.proofs.RecogniseLaws.{head-fails, set-up-fails, fits-fails, residue-whole}
+use borrow.Author.Needs.{needs}
+use Rattle.residue_tables.proofs.recognise.is_residue.Statement.{statement}
+use Rattle.residue_tables.proofs.recognise.is_residue.Tie as tie
+
+head-requires : tie.Need-head-requires
+head-requires c κs = search needs
+
+is-head-requires : tie.Need-is-head-requires
+is-head-requires c κs = search needs
+
+returns : tie.Need-returns
+returns c = head-fails (c .before .before .before .before .before .before .args .count) (c .before .before .before .before .before .before .args .books .now) (c .before .before .before .before .before .before .args .residues .now) (c .before .before .before .before .before .before .args .plans .now) (c .before .before .before .before .before .before .args .index) (c .before .before .head .result) (c .before .before .head .ensures) refl refl (c .before .is-head .ensures) (c .if1 .taken)
+
+wide-u32-requires : tie.Need-wide-u32-requires
+wide-u32-requires c κs = search needs
+
+mul-first : tie.Need-mul-first
+mul-first c = search needs
+
+wide-u32-requires-2 : tie.Need-wide-u32-requires-2
+wide-u32-requires-2 c κs = search needs
+
+mul-used : tie.Need-mul-used
+mul-used c = search needs
+
+add-last : tie.Need-add-last
+add-last c = search needs
+
+places-set-up-requires : tie.Need-places-set-up-requires
+places-set-up-requires c κs = search needs
+
+returns-2 : tie.Need-returns-2
+returns-2 c = set-up-fails (c .before .before .before .before .before .before .before .before .before .before .args .count) (c .before .before .before .before .before .before .before .before .before .before .args .books .now) (c .before .before .before .before .before .before .before .before .before .before .args .residues .now) (c .before .before .before .before .before .before .before .before .before .before .args .plans .now) (c .before .before .before .before .before .before .before .before .before .before .args .index) (c .before .before .before .before .before .before .head .result) (c .before .before .before .before .before .before .head .ensures) (c .before .before .before .wide-u32 .ensures) (c .before .before .wide-u322 .ensures) (c .before .before .before .before .before .is-head .ensures) (c .before .before .before .before .if1 .left) (c .before .places-set-up .ensures) (c .if2 .taken)
+
+places-fit-requires : tie.Need-places-fit-requires
+places-fit-requires c κs = search needs
+
+returns-3 : tie.Need-returns-3
+returns-3 c = fits-fails (c .before .before .before .before .before .before .before .before .before .before .before .before .args .count) (c .before .before .before .before .before .before .before .before .before .before .before .before .args .books .now) (c .before .before .before .before .before .before .before .before .before .before .before .before .args .residues .now) (c .before .before .before .before .before .before .before .before .before .before .before .before .args .plans .now) (c .before .before .before .before .before .before .before .before .before .before .before .before .args .index) (c .before .before .before .before .before .before .before .before .head .result) (c .before .before .before .before .before .before .before .before .head .ensures) (c .before .before .before .before .before .wide-u32 .ensures) (c .before .before .before .before .wide-u322 .ensures) (c .before .before .before .before .before .before .before .is-head .ensures) (c .before .before .before .before .before .before .if1 .left) (c .before .before .before .places-set-up .ensures) (c .before .before .if2 .left) (c .before .places-fit .ensures) (c .if3 .taken)
+
+add-zeros-u16 : tie.Need-add-zeros-u16
+add-zeros-u16 c = search needs
+
+mul-zeros-u16 : tie.Need-mul-zeros-u16
+mul-zeros-u16 c = search needs
+
+sub-zeros-u16 : tie.Need-sub-zeros-u16
+sub-zeros-u16 c = search needs
+
+part-zeros-u16-start : tie.Need-part-zeros-u16-start
+part-zeros-u16-start c = search needs
+
+part-zeros-u16-end : tie.Need-part-zeros-u16-end
+part-zeros-u16-end c = search needs
+
+zeros-u16-requires : tie.Need-zeros-u16-requires
+zeros-u16-requires c κs = search needs
+
+returns-4 : tie.Need-returns-4
+returns-4 c = residue-whole (c .before .before .before .before .before .before .before .before .before .before .before .before .before .before .args .count) (c .before .before .before .before .before .before .before .before .before .before .before .before .before .before .args .books .now) (c .before .before .before .before .before .before .before .before .before .before .before .before .before .before .args .residues .now) (c .before .before .before .before .before .before .before .before .before .before .before .before .before .before .args .plans .now) (c .before .before .before .before .before .before .before .before .before .before .before .before .before .before .args .index) (c .before .before .before .before .before .before .before .before .before .before .head .result) (c .before .before .before .before .before .before .before .before .before .before .head .ensures) (c .before .before .before .before .before .before .before .wide-u32 .ensures) (c .before .before .before .before .before .before .wide-u322 .ensures) (c .before .before .before .before .before .before .before .before .before .is-head .ensures) (c .before .before .before .before .before .before .before .before .if1 .left) (c .before .before .before .before .before .places-set-up .ensures) (c .before .before .before .before .if2 .left) (c .before .before .before .places-fit .ensures) (c .before .before .if3 .left) _ (c .zeros-u16 .ensures)
+
+pub is-residue-spec : {M : Type 1} → statement M
+is-residue-spec =
+    tie.close
+    (tie.spec
+    head-requires
+    is-head-requires
+    returns
+    wide-u32-requires
+    mul-first
+    wide-u32-requires-2
+    mul-used
+    add-last
+    places-set-up-requires
+    returns-2
+    places-fit-requires
+    returns-3
+    add-zeros-u16
+    mul-zeros-u16
+    sub-zeros-u16
+    part-zeros-u16-start
+    part-zeros-u16-end
+    zeros-u16-requires
+    returns-4)

@@ -1,0 +1,60 @@
+-- `residue_tables::recognise::places_set_up` meets its contract, by residues's FitsLaws. Assumes nothing.
+use Prim.Native.Nat.{_-_}
+use Rattle.residues.proofs.FitsLaws.{Testing, testing-laws}
+use lib.Dec.{leb}
+use borrow.Author.Needs.{needs}
+use Rattle.residue_tables.proofs.recognise.places_set_up.Statement.{statement}
+use Rattle.residue_tables.proofs.recognise.places_set_up.Tie as tie
+
+abbrev Inv-loop : tie.InvT-loop
+Inv-loop places from to count i₀ i = Testing (λ b. leb b count) places i₀ to i
+
+abbrev μ-loop : tie.MeasureT-loop
+μ-loop places from to count i₀ i = to - i
+
+loop-holds : tie.Need-loop-holds Inv-loop μ-loop
+loop-holds c = search testing-laws
+
+returns : tie.Need-returns Inv-loop μ-loop
+returns c = search testing-laws
+
+mul-u32-from-u16 : tie.Need-mul-u32-from-u16 Inv-loop μ-loop
+mul-u32-from-u16 c = search needs
+
+shared-slice-read-u32-from-u16 : tie.Need-shared-slice-read-u32-from-u16 Inv-loop μ-loop
+shared-slice-read-u32-from-u16 c = search needs
+
+u32-from-u16-requires : tie.Need-u32-from-u16-requires Inv-loop μ-loop
+u32-from-u16-requires c κs = search needs
+
+returns-2 : tie.Need-returns-2 Inv-loop μ-loop
+returns-2 c = search testing-laws
+
+add-i : tie.Need-add-i Inv-loop μ-loop
+add-i c = search needs
+
+loop-less : tie.Need-loop-less Inv-loop μ-loop
+loop-less c = search needs
+
+loop-again : tie.Need-loop-again Inv-loop μ-loop
+loop-again c = search testing-laws
+
+returns-3 : tie.Need-returns-3 Inv-loop μ-loop
+returns-3 c = search testing-laws
+
+pub places-set-up-spec : {M : Type 1} → statement M
+places-set-up-spec =
+    tie.close
+    (tie.spec
+    Inv-loop
+    μ-loop
+    loop-holds
+    returns
+    mul-u32-from-u16
+    shared-slice-read-u32-from-u16
+    u32-from-u16-requires
+    returns-2
+    add-i
+    loop-less
+    loop-again
+    returns-3)

@@ -1,0 +1,113 @@
+// Whether tables that are handed in are the writing-out of residues that meet every rule (01, "What the reader takes and gives").
+use reading::widths::u32_from_u16;
+use reading::widths::wide_u32;
+use residues::HEAD_WIDTH;
+use residues::PLAN_WIDTH;
+use residues::head::Head;
+ghost use mathlib.Core.Path.{_≡_};
+ghost use mathlib.Core.Bool.{true};
+ghost use mathlib.Core.Logic.{_↔_};
+ghost use Prim.Native.Nat.{_-_, _*_, _≤_};
+ghost use lib.Dec.{leb};
+ghost use lib.ListN.{length, take, drop};
+ghost use Rattle.reading.specs.Lists.{all};
+ghost use Rattle.residues.specs.FromTable.{booksOf};
+ghost use Rattle.residues.specs.Heads.{headOf};
+ghost use Rattle.residue_tables.specs.Recognised.{headTest, residueTest, ResiduesRecognised, OneContent};
+ghost use Rattle.residues.specs.Layout.{headWidth, planWidth};
+
+// The places from `from` up to `to` name books that are set up.
+fn places_set_up(places: &[u16], from: usize, to: usize, count: u32) -> bool
+    ensures { λ r. ⌜ r ≡ all (λ b. leb b count) (take (to - from) (drop from (now (places .entry)))) ⌝ }
+{
+    let mut i = from;
+    while i < to {
+        if places.len() <= i {
+            return true;
+        }
+        let place = u32_from_u16(places[i]);
+        let known = place <= count;
+        if !known {
+            return false;
+        }
+        i = i + 1;
+    }
+    true
+}
+
+// The fields before the plan are within their widths and meet refusals 10, 11 and 13.
+fn is_head(head: Head, count: u32, books: &[u32]) -> bool
+    ensures { λ r. ⌜ r ≡ headTest (booksOf count (now (books .entry))) (headOf head) ⌝ }
+{
+    if 2 < head.kind {
+        return false;
+    }
+    if 16777216 <= head.begin {
+        return false;
+    }
+    if 16777216 <= head.end {
+        return false;
+    }
+    if head.size < 1 {
+        return false;
+    }
+    if 16777216 < head.size {
+        return false;
+    }
+    if head.classifications < 1 {
+        return false;
+    }
+    if 64 < head.classifications {
+        return false;
+    }
+    if count <= head.classbook {
+        return false;
+    }
+    residues::fits::head_fits(head, books)
+}
+
+// Residue `index` of the tables meets every rule.
+fn is_residue(residues: &[u32], plans: &[u16], index: u32, count: u32, books: &[u32]) -> bool
+    requires { ⌜ (index ≤ 63) × (32768 ≤ length (now plans)) ⌝ }
+    ensures { λ r. ⌜ r ≡ residueTest (booksOf count (now (books .entry))) (drop (headWidth * index) (now (residues .entry))) (drop (planWidth * index) (now (plans .entry))) ⌝ }
+{
+    let head = residue_row::head(residues, index);
+    if !is_head(head, count, books) {
+        return false;
+    }
+    let first = PLAN_WIDTH * wide_u32(index);
+    let used = 8 * wide_u32(head.classifications);
+    let last = first + used;
+    if !places_set_up(plans, first, last, count) {
+        return false;
+    }
+    if !residues::fits::places_fit(plans, first, last, head.size, books) {
+        return false;
+    }
+    reading::zeros::zeros_u16(&plans[first..first + PLAN_WIDTH], used)
+}
+
+// Whether the tables are those of `n` residues.
+pub fn are_residues(residues: &[u32], plans: &[u16], n: u32, count: u32, books: &[u32]) -> bool
+    requires { ⌜ n ≤ 64 ⌝ }
+    ensures { λ r. ⌜ (r ≡ true) ↔ ResiduesRecognised (booksOf count (now (books .entry))) n (now (residues .entry)) (now (plans .entry)) ⌝ }
+    ensures { λ _. ⌜ OneContent (booksOf count (now (books .entry))) n (now (residues .entry)) (now (plans .entry)) ⌝ }
+{
+    if residues.len() < 384 {
+        return false;
+    }
+    if plans.len() < 32768 {
+        return false;
+    }
+    let mut i: u32 = 0;
+    while i < n {
+        if !is_residue(residues, plans, i, count, books) {
+            return false;
+        }
+        i = i + 1;
+    }
+    if !reading::zeros::zeros_u32(residues, HEAD_WIDTH * wide_u32(n)) {
+        return false;
+    }
+    reading::zeros::zeros_u16(plans, PLAN_WIDTH * wide_u32(n))
+}
