@@ -53,7 +53,7 @@ bool torchvalley_identity_sound(struct torchvalley_identity identity);
  * behind what is written:
  *
  *   counts              5  how many books, floors, residues, mappings and modes there are
- *   books           2,560  10 for each book
+ *   books           2,816  11 for each book
  *   lengths        16,384  one for each entry of all books
  *   codewords      16,384  one for each entry of all books
  *   multiplicands  16,384

@@ -1,7 +1,14 @@
 // A codebook of a setup: what it is, and its row in the table of books. A number past the table's end reads as zero.
+pub mod mark; // whether a book has a sole used entry, and which
+
 ghost use mathlib.Core.Path.{_≡_};
 ghost use Prim.Native.Nat.{_<_};
-ghost use Rattle.book.specs.Layout.{numberAt, dimensionsAt, entriesAt, firstEntryAt, lookupAt};
+ghost use Rattle.book.specs.Layout.{bookWidth, numberAt, dimensionsAt, entriesAt, firstEntryAt, lookupAt, loneAt};
+
+// How many numbers a row has, and the fixed need of the table.
+pub const WIDTH: usize = 11;
+
+pub const NEED: usize = 256 * WIDTH;
 
 fn wide(x: u32) -> usize
     ensures { λ r. ⌜ r ≡ x ⌝ }
@@ -11,10 +18,10 @@ fn wide(x: u32) -> usize
 
 // Number `column` of a book's row.
 fn number(books: &[u32], book: u32, column: usize) -> u32
-    requires { ⌜ column < 10 ⌝ }
+    requires { ⌜ column < bookWidth ⌝ }
     ensures { λ r. ⌜ r ≡ numberAt (now (books .entry)) book column ⌝ }
 {
-    let place = 10 * wide(book) + column;
+    let place = WIDTH * wide(book) + column;
     reading::buffers::get_u32(books, place)
 }
 
@@ -40,4 +47,11 @@ pub fn lookup(books: &[u32], book: u32) -> u32
     ensures { λ r. ⌜ r ≡ lookupAt (now (books .entry)) book ⌝ }
 {
     number(books, book, 3)
+}
+
+// The number of the book's sole used entry of length 1 plus one, or 0 where it has none.
+pub fn lone(books: &[u32], book: u32) -> u32
+    ensures { λ r. ⌜ r ≡ loneAt (now (books .entry)) book ⌝ }
+{
+    number(books, book, 10)
 }

@@ -2,9 +2,10 @@
 use Prim.Native.Nat.{ℕ, _+_, _-_}
 use native.Mathlib.Omega.{arith}
 use mathlib.Core.List.{List}
-use mathlib.Core.Path.{_≡_}
+use mathlib.Core.Path.{_≡_, _∙_}
 use lib.ListN.{take, drop}
-use Rattle.book.specs.Layout.{entriesAt, firstEntryAt}
+use Rattle.codeword_assignment.specs.Book.{loneMark}
+use Rattle.book.specs.Layout.{entriesAt, firstEntryAt, loneAt}
 use Rattle.codebook.specs.Book.{Codebook}
 use Rattle.codebook.specs.Claims.{Settled}
 use Rattle.codebook.specs.Codeword.{codeword}
@@ -14,12 +15,12 @@ use Rattle.book_codeword.specs.Lying.{entriesOf, BookLies}
 
 -- first and count as the code holds them
 module _ {books lengths words : List ℕ} {b : ℕ} (l : BookLies books lengths words b) {f f′ n n′ : ℕ} (e₁ : f′ ≡ f) (e₂ : f ≡ firstEntryAt books b) (e₃ : n′ ≡ n)
-    (e₄ : n ≡ entriesAt books b) where
+    (e₄ : n ≡ entriesAt books b) {m : ℕ} (e₅ : m ≡ loneAt books b) where
   part-is : (cells : List ℕ) → take (f′ + n′ - f′) (drop f′ cells) ≡ entriesOf books b cells
   part-is cells = let h : f′ + n′ - f′ ≡ n′ = omega arith in rw (h, e₁, e₂, e₃, e₄)
 
-  pub asked : Codebook (take (f′ + n′ - f′) (drop f′ lengths)) (take (f′ + n′ - f′) (drop f′ words))
-  asked = rw (part-is lengths, part-is words) (l .book)
+  pub asked : Codebook (take (f′ + n′ - f′) (drop f′ lengths)) (take (f′ + n′ - f′) (drop f′ words)) × (m ≡ loneMark (take (f′ + n′ - f′) (drop f′ lengths)))
+  asked = rw (part-is lengths, part-is words) (l .book, e₅ ∙ l .lone)
 
   pub read : (s : List ℕ) (k : ℕ) (r : Field)
       → (outcome r ≡ codeword (take (f′ + n′ - f′) (drop f′ lengths)) s k) × Settled (take (f′ + n′ - f′) (drop f′ lengths))

@@ -28,5 +28,6 @@ pub fn read_entry(
 {
     let first = wide(book::first_entry(books, book));
     let end = first + wide(book::entries(books, book));
-    codebook::read_codeword(packet, from, &lengths[first..end], &words[first..end])
+    let lone = book::lone(books, book);
+    codebook::read_codeword(packet, from, lone, &lengths[first..end], &words[first..end])
 }

@@ -14,7 +14,7 @@ use Rattle.reading.proofs.Stands.{pad-append}
 use Rattle.limits.specs.declared.Limits.{Limits}
 use Rattle.codeword_assignment.specs.Book.{codewords}
 use Rattle.book.specs.Content.{Book}
-use Rattle.book.specs.Layout.{bookRow}
+use Rattle.book.specs.Layout.{bookWidth, bookRow}
 use Rattle.book_head.specs.Reading.{Before}
 use Rattle.book_head.specs.Answers.{totals}
 use Rattle.books.specs.Reading.{andThis}
@@ -46,7 +46,7 @@ join k t xs ys l h e f =
 
 -- what is left of the tables has room for the books that are left, and for what the limits allow
 pub record Room (limits : Limits) (n entries values : ℕ) (rs ls ws ms : List ℕ) : Type 0 where
-  pub rows-room : 10 * n ≤ length rs
+  pub rows-room : bookWidth * n ≤ length rs
   pub lengths-room : limits .entries ≤ entries + length ls
   pub words-room : limits .entries ≤ entries + length ws
   pub values-room : limits .multiplicands ≤ values + length ms
@@ -54,7 +54,7 @@ pub record Room (limits : Limits) (n entries values : ℕ) (rs ls ws ms : List �
 -- behind a book
 abbrev Behind : Limits → ℕ → ℕ → ℕ → Row → List ℕ → List ℕ → List ℕ → List ℕ → Type 0
 Behind limits n entries values row rs ls ws ms =
-    Held limits n (entries + row .entries) (values + row .count) (drop 10 rs) (drop (row .entries) ls) (drop (row .entries) ws) (drop (row .count) ms)
+    Held limits n (entries + row .entries) (values + row .count) (drop bookWidth rs) (drop (row .entries) ls) (drop (row .entries) ws) (drop (row .count) ms)
 
 -- no book: zeros alone
 pub held-none : (limits : Limits) (entries values : ℕ) (rs ls ws ms : List ℕ) → Held limits 0 entries values rs ls ws ms ↔ Clear rs ls ws ms
@@ -108,7 +108,7 @@ module _ (limits : Limits) (n entries values : ℕ) (rs ls ws ms : List ℕ) (ro
               content = bs;
               counted = omega arith;
               valid = v .1;
-              book-rows = left 10 rs (bookRow entries values b) _ l₁ (omega arith) e;
+              book-rows = left bookWidth rs (bookRow entries values b) _ l₁ (omega arith) e;
               all-lengths = left (length (b .lengths)) ls (b .lengths) _ refl (omega arith) f;
               all-codewords = left (length (b .lengths)) ws (codewords (b .lengths)) _ l₃ (omega arith) g;
               all-multiplicands = left (length (b .multiplicands)) ms (b .multiplicands) _ refl (omega arith) h;
@@ -134,8 +134,8 @@ module _ (limits : Limits) (n entries values : ℕ) (rs ls ws ms : List ℕ) (ro
         counted = ap suc (held .counted);
         valid = (rules-valid limits entries values (rowOf rs) ls ws ms r₂ r₄ r, rw (l₁, l₂) (held .valid));
         book-rows =
-            join 10 rs (bookRow entries values b) _ (row-length entries values b) (omega arith) (written-row limits entries values rs ls ws ms (omega arith) r₂ r₄ r)
-            (held .book-rows ∙ ap (pad (length (drop 10 rs))) rest);
+            join bookWidth rs (bookRow entries values b) _ (row-length entries values b) (omega arith) (written-row limits entries values rs ls ws ms (omega arith) r₂ r₄ r)
+            (held .book-rows ∙ ap (pad (length (drop bookWidth rs))) rest);
         all-lengths = join (getD rs 1 0) ls (b .lengths) (allLengths (held .content)) l₁ (omega arith) refl (held .all-lengths);
         all-codewords = join (getD rs 1 0) ws (codewords (b .lengths)) (allCodewords (held .content)) l₃ (omega arith) (r .coded .assigned) (held .all-codewords);
         all-multiplicands = join (getD rs 8 0) ms (b .multiplicands) (allMultiplicands (held .content)) l₂ (omega arith) refl (held .all-multiplicands);

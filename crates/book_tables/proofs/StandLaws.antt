@@ -11,6 +11,7 @@ use lib.ListN.{length, drop, length-drop}
 use lib.Seq.{drop-drop}
 use Rattle.reading.proofs.Stands.{iff-false}
 use Rattle.limits.specs.declared.Limits.{Limits}
+use Rattle.book.specs.Layout.{bookWidth, booksNeed}
 use Rattle.books.specs.Lent.{Lent}
 use Rattle.book_tables.specs.declared.row.Row.{Row}
 use Rattle.book_tables.specs.Rules.{rowOf, BookRules, Begun}
@@ -21,7 +22,7 @@ use Rattle.book_tables.proofs.HeldLaws.{Room, held-none, held-first, he
 -- what is left of the tables behind i books of so many entries and values
 abbrev Left : Limits → ℕ → ℕ → ℕ → List ℕ → List ℕ → List ℕ → List ℕ → ℕ → Type 0
 Left limits n entries values books lengths words multiplicands i =
-    Held limits n entries values (drop (10 * i) books) (drop entries lengths) (drop entries words) (drop values multiplicands)
+    Held limits n entries values (drop (bookWidth * i) books) (drop entries lengths) (drop entries words) (drop values multiplicands)
 
 -- i books are found right, so that all depends on the others
 pub record Going (limits : Limits) (count : ℕ) (books lengths words multiplicands : List ℕ) (entries values i : ℕ) : Type 0 where
@@ -46,14 +47,14 @@ module _ (limits : Limits) (count : ℕ) (books lengths words multiplicands : Li
 
   module _ (asked : Asked limits count) (entries values i : ℕ) (w : Going limits count books lengths words multiplicands entries values i) where
     module _ (h : i < count) where
-      room : Room limits (suc (count - (i + 1))) entries values (drop (10 * i) books) (drop entries lengths) (drop entries words) (drop values multiplicands)
+      room : Room limits (suc (count - (i + 1))) entries values (drop (bookWidth * i) books) (drop entries lengths) (drop entries words) (drop values multiplicands)
       room =
           let few = asked .few-books in
           let a = lent .books-long in
           let b = lent .lengths-long in
           let c = lent .words-long in
           let d = lent .multiplicands-long in
-          let e = length-drop (10 * i) books in
+          let e = length-drop (bookWidth * i) books in
           let f = length-drop entries lengths in
           let g = length-drop entries words in
           let k = length-drop values multiplicands in
@@ -62,9 +63,9 @@ module _ (limits : Limits) (count : ℕ) (books lengths words multiplicands : Li
       one-left : Held limits count 0 0 books lengths words multiplicands ↔ Left limits (suc (count - (i + 1))) entries values books lengths words multiplicands i
       one-left = let n : count - i ≡ suc (count - (i + 1)) = omega arith in rw n at (w .left)
 
-      module _ {row : Row} (e : row ≡ rowOf (drop (10 * i) books)) {b : Bool}
+      module _ {row : Row} (e : row ≡ rowOf (drop (bookWidth * i) books)) {b : Bool}
           (p : (b ≡ true) ↔ BookRules limits entries values row (drop entries lengths) (drop entries words) (drop values multiplicands)) where
-        judged : (b ≡ true) ↔ BookRules limits entries values (rowOf (drop (10 * i) books)) (drop entries lengths) (drop entries words) (drop values multiplicands)
+        judged : (b ≡ true) ↔ BookRules limits entries values (rowOf (drop (bookWidth * i) books)) (drop entries lengths) (drop entries words) (drop values multiplicands)
         judged = subst (λ (x : Row). (b ≡ true) ↔ BookRules limits entries values x (drop entries lengths) (drop entries words) (drop values multiplicands)) e p
 
         pub going-stop : not b ≡ true → (false ≡ true) ↔ Held limits count 0 0 books lengths words multiplicands
@@ -76,19 +77,19 @@ module _ (limits : Limits) (count : ℕ) (books lengths words multiplicands : Li
         pub values-inside : not b ≡ false → values + row .count ≤ limits .multiplicands
         values-inside n = shown p n .place .values-all
 
-        behind : Held limits (count - (i + 1)) (entries + row .entries) (values + row .count) (drop 10 (drop (10 * i) books)) (drop (row .entries) (drop entries lengths)) (drop (row .entries) (drop entries words)) (drop (row .count) (drop values multiplicands))
+        behind : Held limits (count - (i + 1)) (entries + row .entries) (values + row .count) (drop bookWidth (drop (bookWidth * i) books)) (drop (row .entries) (drop entries lengths)) (drop (row .entries) (drop entries words)) (drop (row .count) (drop values multiplicands))
             ≡ Left limits (count - (i + 1)) (entries + row .entries) (values + row .count) books lengths words multiplicands (i + 1)
         behind =
-            let t : 10 * (i + 1) ≡ 10 * i + 10 = omega arith in
-            rw (t, drop-drop 10 (10 * i) books, drop-drop (row .entries) entries lengths, drop-drop (row .entries) entries words, drop-drop (row .count) values multiplicands)
+            let t : bookWidth * (i + 1) ≡ bookWidth * i + bookWidth = omega arith in
+            rw (t, drop-drop bookWidth (bookWidth * i) books, drop-drop (row .entries) entries lengths, drop-drop (row .entries) entries words, drop-drop (row .count) values multiplicands)
 
         next-left : not b ≡ false → Held limits count 0 0 books lengths words multiplicands
-            ↔ Held limits (count - (i + 1)) (entries + row .entries) (values + row .count) (drop 10 (drop (10 * i) books)) (drop (row .entries) (drop entries lengths)) (drop (row .entries) (drop entries words)) (drop (row .count) (drop values multiplicands))
+            ↔ Held limits (count - (i + 1)) (entries + row .entries) (values + row .count) (drop bookWidth (drop (bookWidth * i) books)) (drop (row .entries) (drop entries lengths)) (drop (row .entries) (drop entries words)) (drop (row .count) (drop values multiplicands))
         next-left n =
             subst
             (λ (x : Row).
             Held limits count 0 0 books lengths words multiplicands
-            ↔ Held limits (count - (i + 1)) (entries + x .entries) (values + x .count) (drop 10 (drop (10 * i) books)) (drop (x .entries) (drop entries lengths)) (drop (x .entries) (drop entries words)) (drop (x .count) (drop values multiplicands)))
+            ↔ Held limits (count - (i + 1)) (entries + x .entries) (values + x .count) (drop bookWidth (drop (bookWidth * i) books)) (drop (x .entries) (drop entries lengths)) (drop (x .entries) (drop entries words)) (drop (x .count) (drop values multiplicands)))
             (sym e) (
               (λ s. held-first limits (count - (i + 1)) entries values _ _ _ _ room (one-left .0 s) .1),
               (λ s. one-left .1 (held-cons limits (count - (i + 1)) entries values _ _ _ _ room (shown judged n) s)),
@@ -109,13 +110,13 @@ module _ (limits : Limits) (count : ℕ) (books lengths words multiplicands : Li
             }
 
     pub going-end : count ≤ i → {x y z : ℕ} → x ≡ i → y ≡ entries → z ≡ values → {r : Bool}
-        → (r ≡ true) ↔ Clear (drop (10 * x) books) (drop y lengths) (drop y words) (drop z multiplicands)
+        → (r ≡ true) ↔ Clear (drop (bookWidth * x) books) (drop y lengths) (drop y words) (drop z multiplicands)
         → (r ≡ true) ↔ Held limits count 0 0 books lengths words multiplicands
     going-end h e f g {r} p =
         let k : count - i ≡ 0 = omega arith in
         let l : Held limits count 0 0 books lengths words multiplicands ↔ Left limits 0 entries values books lengths words multiplicands i = rw k at (w .left) in
-        let q : (r ≡ true) ↔ Clear (drop (10 * i) books) (drop entries lengths) (drop entries words) (drop values multiplicands) = rw (e, f, g) at p in
-        let z = held-none limits entries values (drop (10 * i) books) (drop entries lengths) (drop entries words) (drop values multiplicands) in
+        let q : (r ≡ true) ↔ Clear (drop (bookWidth * i) books) (drop entries lengths) (drop entries words) (drop values multiplicands) = rw (e, f, g) at p in
+        let z = held-none limits entries values (drop (bookWidth * i) books) (drop entries lengths) (drop entries words) (drop values multiplicands) in
         ((λ t. l .1 (z .1 (q .0 t))), (λ s. q .1 (z .0 (l .0 s))))
 
 -- the totals stay small
@@ -129,7 +130,7 @@ module _ (limits : Limits) (count entries values : ℕ) (row : Row) (ls ws ms : 
 
 -- the whole test
 module _ (limits : Limits) (count : ℕ) (books lengths words multiplicands : List ℕ) where
-  pub few-rows : length books < 2560 → (false ≡ true) ↔ BooksStand limits count books lengths words multiplicands
+  pub few-rows : length books < booksNeed → (false ≡ true) ↔ BooksStand limits count books lengths words multiplicands
   few-rows h = iff-false (λ s. let r = s .books-room in omega arith)
 
   module _ {x : ℕ} (e : x ≡ limits .entries) where
@@ -142,7 +143,7 @@ module _ (limits : Limits) (count : ℕ) (books lengths words multiplicands : Li
   pub few-multiplicands : {x : ℕ} → x ≡ limits .multiplicands → length multiplicands < x → (false ≡ true) ↔ BooksStand limits count books lengths words multiplicands
   few-multiplicands e h = iff-false (λ s. let r = s .multiplicands-room in omega arith)
 
-  pub all-lent : Asked limits count → 2560 ≤ length books → {x y z : ℕ} → x ≡ limits .entries → x ≤ length lengths → y ≡ limits .entries → y ≤ length words
+  pub all-lent : Asked limits count → booksNeed ≤ length books → {x y z : ℕ} → x ≡ limits .entries → x ≤ length lengths → y ≡ limits .entries → y ≤ length words
       → z ≡ limits .multiplicands → z ≤ length multiplicands → Lent limits books lengths words multiplicands
   all-lent asked a e b f c g d =
       record {

@@ -4,12 +4,12 @@ use native.Mathlib.Nat.{one-mul}
 use native.Mathlib.Numerals.{add-one}
 use native.Mathlib.Omega.{arith}
 use borrow.Author.Needs.{needs}
-use borrow.Author.Tests.{lt-ltb, le-ltb, not-true, not-false}
+use borrow.Author.Tests.{lt-ltb, le-ltb, eq-eqb, eqb-true, not-true, not-false}
 use mathlib.Core.Bool.{Bool, true, false, not, _&&_}
 use mathlib.Core.List.{List}
 use mathlib.Core.Logic.{_↔_, ⊎-elim}
 use mathlib.Core.Path.{_≡_, refl, sym, ap, _∙_}
-use lib.Dec.{ltb}
+use lib.Dec.{eqb, ltb}
 use lib.ListN.{length, getD, take, drop, drop-of-length-le}
 use lib.Pow.{shl-exact}
 use lib.Seq.{drop-cons, getD-drop}
@@ -18,7 +18,8 @@ use Rattle.reading.specs.Stand.{Zeros}
 use Rattle.reading.proofs.Least.{lt-or-le}
 use Rattle.reading.proofs.Stands.{iff-false, iff-true}
 use Rattle.limits.specs.declared.Limits.{Limits}
-use Rattle.codeword_assignment.specs.Book.{Coded}
+use Rattle.codeword_assignment.specs.Book.{Coded, loneMark}
+use Rattle.book.specs.Layout.{bookWidth}
 use Rattle.book_lookup.specs.Reading.{valueCount}
 use Rattle.book_tables.specs.declared.row.Row.{Row}
 use Rattle.book_tables.specs.Stand.{Clear}
@@ -32,13 +33,13 @@ pub shown : {b : Bool} {P : Type 0} → (b ≡ true) ↔ P → not b ≡ false �
 shown {b} f n = f .0 (not-false b n)
 
 -- a row's numbers
-pub number-at : (t : List ℕ) (i j : ℕ) {x v : ℕ} → x ≡ i → v ≡ getD t (10 * x + j) 0 → v ≡ getD (drop (10 * i) t) j 0
-number-at t i j {x} e f = f ∙ ap (λ (y : ℕ). getD t (10 * y + j) 0) e ∙ sym (getD-drop (10 * i) t j 0)
+pub number-at : (t : List ℕ) (i j : ℕ) {x v : ℕ} → x ≡ i → v ≡ getD t (bookWidth * x + j) 0 → v ≡ getD (drop (bookWidth * i) t) j 0
+number-at t i j {x} e f = f ∙ ap (λ (y : ℕ). getD t (bookWidth * y + j) 0) e ∙ sym (getD-drop (bookWidth * i) t j 0)
 
-pub row-made : (t : List ℕ) {a b c d e f g h i j : ℕ} → a ≡ getD t 0 0 → b ≡ getD t 1 0 → c ≡ getD t 2 0 → d ≡ getD t 3 0 → e ≡ getD t 4 0 → f ≡ getD t 5 0
-    → g ≡ getD t 6 0 → h ≡ getD t 7 0 → i ≡ getD t 8 0 → j ≡ getD t 9 0
-    → _≡_ {A = Row} (record { dimensions = a; entries = b; «first_entry» = c; lookup = d; minimum = e; delta = f; width = g; sequence = h; count = i; «first_value» = j }) (rowOf t)
-row-made t p₀ p₁ p₂ p₃ p₄ p₅ p₆ p₇ p₈ p₉ =
+pub row-made : (t : List ℕ) {a b c d e f g h i j l : ℕ} → a ≡ getD t 0 0 → b ≡ getD t 1 0 → c ≡ getD t 2 0 → d ≡ getD t 3 0 → e ≡ getD t 4 0 → f ≡ getD t 5 0
+    → g ≡ getD t 6 0 → h ≡ getD t 7 0 → i ≡ getD t 8 0 → j ≡ getD t 9 0 → l ≡ getD t 10 0
+    → _≡_ {A = Row} (record { dimensions = a; entries = b; «first_entry» = c; lookup = d; minimum = e; delta = f; width = g; sequence = h; count = i; «first_value» = j; lone = l }) (rowOf t)
+row-made t p₀ p₁ p₂ p₃ p₄ p₅ p₆ p₇ p₈ p₉ p₁₀ =
     λ k.
     record {
       dimensions = p₀ k;
@@ -51,6 +52,7 @@ row-made t p₀ p₁ p₂ p₃ p₄ p₅ p₆ p₇ p₈ p₉ =
       sequence = p₇ k;
       count = p₈ k;
       «first_value» = p₉ k;
+      lone = p₁₀ k;
     }
 
 -- the dimensions and the number of entries
@@ -171,6 +173,10 @@ coded-part ls ws first count e f p = rw (part ls first count e f, part ws first 
 pub fit-part : (g : ℕ → Bool) (ms : List ℕ) (first count : ℕ) {a b : ℕ} → a ≡ first → b ≡ count → {r : Bool} → r ≡ all g (take (a + b - a) (drop a ms)) → r ≡ all g (take count (drop first ms))
 fit-part g ms first count e f p = p ∙ ap (all g) (part ms first count e f)
 
+-- the mark that a row names
+pub marked : {m n k : ℕ} → n ≡ k → (eqb m n ≡ true) ↔ (m ≡ k)
+marked {m} {n} {k} e = ((λ t. eqb-true m n t ∙ e), (λ f. eq-eqb m n (f ∙ sym e)))
+
 -- multiplicands of so many bits
 pub one-shifted : (e : ℕ) → e ≤ 16 → (1 * 2 ^ e) % 2 ^ 32 ≡ 2 ^ e
 one-shifted e h = shl-exact {a = 1} 1 e 32 (omega arith) (omega arith) ∙ one-mul (2 ^ e)
@@ -239,14 +245,18 @@ module _ (limits : Limits) (entries values : ℕ) (row : Row) (ls ws ms : List �
         pub book-coded : not b₄ ≡ true → (false ≡ true) ↔ BookRules limits entries values row (drop entries ls) (drop entries ws) (drop values ms)
         book-coded n = iff-false (λ r. refuted p₄ n (r .coded))
 
-        pub book-end : not b₄ ≡ false → {b₅ : Bool} → b₅ ≡ all (λ v. ltb v (2 ^ row .width)) (take (row .count) (drop values ms))
-            → (b₅ ≡ true) ↔ BookRules limits entries values row (drop entries ls) (drop entries ws) (drop values ms)
-        book-end y₄ e = (
-          (λ t. record { head = shown p₁ y₁; place = shown p₂ y₂; lookup = shown p₃ y₃; coded = shown p₄ y₄; fit = sym e ∙ t }),
-          (λ r. e ∙ r .fit),
-        )
+        module _ (y₄ : not b₄ ≡ false) {b₅ : Bool} (p₅ : (b₅ ≡ true) ↔ (row .lone ≡ loneMark (take (row .entries) (drop entries ls)))) where
+          pub book-marked : not b₅ ≡ true → (false ≡ true) ↔ BookRules limits entries values row (drop entries ls) (drop entries ws) (drop values ms)
+          book-marked n = iff-false (λ r. refuted p₅ n (r .lone))
 
-pub ruleset book-laws = (needs, book-head, book-place, book-lookup, book-coded, book-end)
+          pub book-end : not b₅ ≡ false → {b₆ : Bool} → b₆ ≡ all (λ v. ltb v (2 ^ row .width)) (take (row .count) (drop values ms))
+              → (b₆ ≡ true) ↔ BookRules limits entries values row (drop entries ls) (drop entries ws) (drop values ms)
+          book-end y₅ e = (
+            (λ t. record { head = shown p₁ y₁; place = shown p₂ y₂; lookup = shown p₃ y₃; coded = shown p₄ y₄; lone = shown p₅ y₅; fit = sym e ∙ t }),
+            (λ r. e ∙ r .fit),
+          )
+
+pub ruleset book-laws = (needs, book-head, book-place, book-lookup, book-coded, book-marked, book-end)
 
 -- zeros behind all four tables
 module _ (rs ls ws ms : List ℕ) {b₁ : Bool} (p₁ : (b₁ ≡ true) ↔ Zeros rs) where

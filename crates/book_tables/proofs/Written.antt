@@ -11,9 +11,9 @@ use lib.Seq.{take-at, length-take-le}
 use Rattle.reading.specs.Lists.{all}
 use Rattle.reading.proofs.Least.{lt-or-le}
 use Rattle.limits.specs.declared.Limits.{Limits}
-use Rattle.codeword_assignment.specs.Book.{codewords}
+use Rattle.codeword_assignment.specs.Book.{codewords, loneMark}
 use Rattle.book.specs.Content.{Book}
-use Rattle.book.specs.Layout.{bookRow}
+use Rattle.book.specs.Layout.{bookWidth, bookRow}
 use Rattle.book_head.specs.Answers.{totals}
 use Rattle.books.specs.Valid.{NoLookup, SomeLookup, ValidBook}
 use Rattle.books.proofs.Laid.{codewords-length}
@@ -49,6 +49,7 @@ rowFor entries values b =
       sequence = b .sequence;
       count = length (b .multiplicands);
       «first_value» = values;
+      lone = loneMark (b .lengths);
     }
 
 empty : (l : List ℕ) → length l ≡ 0 → l ≡ []
@@ -154,6 +155,7 @@ module _ (limits : Limits) (entries values : ℕ) where
           place = record { entries-first = refl; values-first = refl; values-all = v .values-all };
           lookup = record { most = v .lookup; none = λ e. none-rules (v .no-lookup e); some = λ e. some-rules (v .some-lookup e) };
           coded = rw (l, w) (record { accepted = v .accepted; assigned = refl });
+          lone = sym (ap loneMark l);
           fit = rw m fits;
         }
       where
@@ -169,25 +171,27 @@ pub row-written : (entries values : ℕ) (b : Book) (t : List ℕ) → rowOf (bo
 unfolding bookRow
 row-written entries values b t = refl
 
-ten : (t : List ℕ) → 10 ≤ length t
-    → take 10 t ≡ getD t 0 0 ∷ getD t 1 0 ∷ getD t 2 0 ∷ getD t 3 0 ∷ getD t 4 0 ∷ getD t 5 0 ∷ getD t 6 0 ∷ getD t 7 0 ∷ getD t 8 0 ∷ getD t 9 0 ∷ []
-ten [] long = absurd (omega arith)
-ten (a ∷ []) long = absurd (omega arith)
-ten (a ∷ b ∷ []) long = absurd (omega arith)
-ten (a ∷ b ∷ c ∷ []) long = absurd (omega arith)
-ten (a ∷ b ∷ c ∷ d ∷ []) long = absurd (omega arith)
-ten (a ∷ b ∷ c ∷ d ∷ e ∷ []) long = absurd (omega arith)
-ten (a ∷ b ∷ c ∷ d ∷ e ∷ f ∷ []) long = absurd (omega arith)
-ten (a ∷ b ∷ c ∷ d ∷ e ∷ f ∷ g ∷ []) long = absurd (omega arith)
-ten (a ∷ b ∷ c ∷ d ∷ e ∷ f ∷ g ∷ h ∷ []) long = absurd (omega arith)
-ten (a ∷ b ∷ c ∷ d ∷ e ∷ f ∷ g ∷ h ∷ i ∷ []) long = absurd (omega arith)
-ten (a ∷ b ∷ c ∷ d ∷ e ∷ f ∷ g ∷ h ∷ i ∷ j ∷ t) long = refl
+eleven : (t : List ℕ) → bookWidth ≤ length t
+    → take bookWidth t
+    ≡ getD t 0 0 ∷ getD t 1 0 ∷ getD t 2 0 ∷ getD t 3 0 ∷ getD t 4 0 ∷ getD t 5 0 ∷ getD t 6 0 ∷ getD t 7 0 ∷ getD t 8 0 ∷ getD t 9 0 ∷ getD t 10 0 ∷ []
+eleven [] long = absurd (omega arith)
+eleven (a ∷ []) long = absurd (omega arith)
+eleven (a ∷ b ∷ []) long = absurd (omega arith)
+eleven (a ∷ b ∷ c ∷ []) long = absurd (omega arith)
+eleven (a ∷ b ∷ c ∷ d ∷ []) long = absurd (omega arith)
+eleven (a ∷ b ∷ c ∷ d ∷ e ∷ []) long = absurd (omega arith)
+eleven (a ∷ b ∷ c ∷ d ∷ e ∷ f ∷ []) long = absurd (omega arith)
+eleven (a ∷ b ∷ c ∷ d ∷ e ∷ f ∷ g ∷ []) long = absurd (omega arith)
+eleven (a ∷ b ∷ c ∷ d ∷ e ∷ f ∷ g ∷ h ∷ []) long = absurd (omega arith)
+eleven (a ∷ b ∷ c ∷ d ∷ e ∷ f ∷ g ∷ h ∷ i ∷ []) long = absurd (omega arith)
+eleven (a ∷ b ∷ c ∷ d ∷ e ∷ f ∷ g ∷ h ∷ i ∷ j ∷ []) long = absurd (omega arith)
+eleven (a ∷ b ∷ c ∷ d ∷ e ∷ f ∷ g ∷ h ∷ i ∷ j ∷ k ∷ t) long = refl
 
-pub written-row : (limits : Limits) (entries values : ℕ) (t ls ws ms : List ℕ) → 10 ≤ length t → limits .entries ≤ entries + length ls → limits .multiplicands ≤ values + length ms
-    → BookRules limits entries values (rowOf t) ls ws ms → take 10 t ≡ bookRow entries values (bookOf (rowOf t) ls ms)
+pub written-row : (limits : Limits) (entries values : ℕ) (t ls ws ms : List ℕ) → bookWidth ≤ length t → limits .entries ≤ entries + length ls → limits .multiplicands ≤ values + length ms
+    → BookRules limits entries values (rowOf t) ls ws ms → take bookWidth t ≡ bookRow entries values (bookOf (rowOf t) ls ms)
 unfolding bookRow
 written-row limits entries values t ls ws ms h room room-values r =
-    ten t h
+    eleven t h
     ∙ (λ j.
     getD t 0 0
     ∷ sym (lengths-long limits entries values (rowOf t) ls ws ms room room-values r) j
@@ -199,4 +203,5 @@ written-row limits entries values t ls ws ms h room room-values r =
     ∷ getD t 7 0
     ∷ sym (values-long limits entries values (rowOf t) ls ws ms room room-values r) j
     ∷ r .place .values-first j
+    ∷ r .lone j
     ∷ [])

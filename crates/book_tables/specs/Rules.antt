@@ -9,7 +9,7 @@ use lib.Dec.{ltb}
 use lib.ListN.{length, getD, take}
 use Rattle.reading.specs.Lists.{all}
 use Rattle.limits.specs.declared.Limits.{Limits}
-use Rattle.codeword_assignment.specs.Book.{Coded}
+use Rattle.codeword_assignment.specs.Book.{Coded, loneMark}
 use Rattle.book_lookup.specs.Reading.{valueCount}
 use Rattle.book_tables.specs.declared.row.Row.{Row}
 
@@ -27,6 +27,7 @@ rowOf t =
       sequence = getD t 7 0;
       count = getD t 8 0;
       «first_value» = getD t 9 0;
+      lone = getD t 10 0;
     }
 
 -- the fields before the lengths (002; 01, refusals 6 and 14); entries is how many the books before have
@@ -74,6 +75,8 @@ pub record BookRules (limits : Limits) (entries values : ℕ) (row : Row) (lengt
   pub lookup : LookupRules row
   -- refusals 7 and 8
   pub coded : Coded (take (row .entries) lengths) (take (row .entries) words)
+  -- its sole used entry of length 1, or none
+  pub lone : row .lone ≡ loneMark (take (row .entries) lengths)
   pub fit : all (λ v. ltb v (2 ^ row .width)) (take (row .count) multiplicands) ≡ true
 
 -- what is known where a book is judged: those before it are within the limits, and the tables have room for what the limits allow

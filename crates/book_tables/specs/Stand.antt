@@ -7,6 +7,7 @@ use Rattle.reading.specs.Pad.{pad}
 use Rattle.reading.specs.Stand.{Zeros}
 use Rattle.limits.specs.declared.Limits.{Limits}
 use Rattle.book.specs.Content.{Book}
+use Rattle.book.specs.Layout.{booksNeed}
 use Rattle.book_head.specs.Answers.{totals}
 use Rattle.books.specs.Rows.{bookRows, allLengths, allCodewords, allMultiplicands, decodeBooks}
 use Rattle.books.specs.Valid.{ValidBooks}
@@ -17,9 +18,9 @@ pub record Asked (limits : Limits) (count : ℕ) : Type 0 where
   pub few-entries : limits .entries ≤ 16777216
   pub few-values : limits .multiplicands ≤ 16777216
 
--- `count` books fill the tables from their fronts, and zeros follow. 2,560 is the fixed need: 256 rows of 10
+-- `count` books fill the tables from their fronts, and zeros follow. The table of books has its fixed need, a row for each of 256 books
 pub record BooksStand (limits : Limits) (count : ℕ) (books lengths words multiplicands : List ℕ) : Type 0 where
-  pub books-room : 2560 ≤ length books
+  pub books-room : booksNeed ≤ length books
   pub lengths-room : limits .entries ≤ length lengths
   pub words-room : limits .entries ≤ length words
   pub multiplicands-room : limits .multiplicands ≤ length multiplicands

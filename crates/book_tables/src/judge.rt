@@ -1,6 +1,8 @@
-// One codebook in the tables against every rule: the fields before the lengths, the places, the lookup, the lengths with their codewords, the multiplicands.
+// One codebook in the tables against every rule: the fields before the lengths, the places, the lookup, the lengths with their codewords and their mark,
+// the multiplicands.
 use crate::row::Row;
 use crate::row::wide;
+use book::mark::lone_mark_at;
 use limits::Limits;
 ghost use mathlib.Core.Path.{_≡_};
 ghost use mathlib.Core.Bool.{true};
@@ -9,7 +11,7 @@ ghost use Prim.Native.Nat.{_+_, _^_, _<_, _≤_};
 ghost use lib.Dec.{ltb};
 ghost use lib.ListN.{length, take, drop};
 ghost use Rattle.reading.specs.Lists.{all};
-ghost use Rattle.codeword_assignment.specs.Book.{Coded};
+ghost use Rattle.codeword_assignment.specs.Book.{Coded, loneMark};
 ghost use Rattle.book_tables.specs.Rules.{HeadRules, PlaceRules, NoneRules, SomeRules, LookupRules, BookRules, Begun};
 
 fn long(x: u32) -> u64
@@ -131,6 +133,15 @@ fn is_coded(lengths: &[u8], words: &[u32], first: u32, count: u32) -> bool
     codeword_assignment::book::are_codewords(&lengths[start..end], &words[start..end])
 }
 
+// The row names the sole used entry of length 1 of the lengths from `first` on, or none where they have none.
+fn is_marked(lengths: &[u8], first: u32, row: Row) -> bool
+    requires { ⌜ first + row .entries ≤ length (now lengths) ⌝ }
+    ensures { λ r. ⌜ (r ≡ true) ↔ (row .lone ≡ loneMark (take (row .entries) (drop first (now (lengths .entry))))) ⌝ }
+{
+    let mark = lone_mark_at(lengths, first, row.entries);
+    row.lone == mark
+}
+
 fn power(exponent: u32) -> u32
     requires { ⌜ exponent ≤ 16 ⌝ }
     ensures { λ r. ⌜ r ≡ 2 ^ exponent ⌝ }
@@ -187,6 +198,9 @@ pub fn is_book(
         return false;
     }
     if !is_coded(lengths, words, entries, row.entries) {
+        return false;
+    }
+    if !is_marked(lengths, entries, row) {
         return false;
     }
     is_fit(multiplicands, values, row.count, row.width)

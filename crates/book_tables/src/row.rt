@@ -2,6 +2,7 @@
 ghost use mathlib.Core.Path.{_≡_};
 ghost use Prim.Native.Nat.{_*_, _<_};
 ghost use lib.ListN.{getD, drop};
+ghost use Rattle.book.specs.Layout.{bookWidth};
 ghost use Rattle.book_tables.specs.Rules.{rowOf};
 
 pub struct Row {
@@ -17,6 +18,8 @@ pub struct Row {
     pub count: u32,
     // How many multiplicands the books before it have.
     pub first_value: u32,
+    // The number of its sole used entry of length 1 plus one, or 0 where it has none.
+    pub lone: u32,
 }
 
 pub fn wide(x: u32) -> usize
@@ -27,16 +30,16 @@ pub fn wide(x: u32) -> usize
 
 // Number `column` of the row of book `index`.
 fn number(books: &[u32], index: u32, column: usize) -> u32
-    requires { ⌜ column < 10 ⌝ }
-    ensures { λ r. ⌜ r ≡ getD (drop (10 * index) (now (books .entry))) column 0 ⌝ }
+    requires { ⌜ column < bookWidth ⌝ }
+    ensures { λ r. ⌜ r ≡ getD (drop (bookWidth * index) (now (books .entry))) column 0 ⌝ }
 {
-    let place = 10 * wide(index) + column;
+    let place = book::WIDTH * wide(index) + column;
     reading::buffers::get_u32(books, place)
 }
 
-// All ten.
+// All eleven.
 pub fn row_at(books: &[u32], index: u32) -> Row
-    ensures { λ r. ⌜ r ≡ rowOf (drop (10 * index) (now (books .entry))) ⌝ }
+    ensures { λ r. ⌜ r ≡ rowOf (drop (bookWidth * index) (now (books .entry))) ⌝ }
 {
     let dimensions = number(books, index, 0);
     let entries = number(books, index, 1);
@@ -48,6 +51,7 @@ pub fn row_at(books: &[u32], index: u32) -> Row
     let sequence = number(books, index, 7);
     let count = number(books, index, 8);
     let first_value = number(books, index, 9);
+    let lone = number(books, index, 10);
     Row {
         dimensions,
         entries,
@@ -59,5 +63,6 @@ pub fn row_at(books: &[u32], index: u32) -> Row
         sequence,
         count,
         first_value,
+        lone,
     }
 }

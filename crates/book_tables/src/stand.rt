@@ -35,7 +35,7 @@ fn are_rows(
         i = i + 1;
     }
     are_clear(
-        10 * wide(i),
+        book::WIDTH * wide(i),
         wide(entries),
         wide(values),
         books,
@@ -58,7 +58,7 @@ pub fn are_books(
     ensures { λ r. ⌜ (r ≡ true) ↔ BooksStand limits count (now (books .entry)) (now (lengths .entry)) (now (words .entry)) (now (multiplicands .entry)) ⌝ }
     ensures { λ _. ⌜ OneContent limits count (now (books .entry)) (now (lengths .entry)) (now (words .entry)) (now (multiplicands .entry)) ⌝ }
 {
-    if books.len() < 2560 {
+    if books.len() < book::NEED {
         return false;
     }
     if lengths.len() < wide(limits.entries) {

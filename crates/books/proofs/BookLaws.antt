@@ -1,11 +1,11 @@
 -- Laws of reading one book as the code asks them: the lookup and the row, what follows the head, the whole book. Each part's outcome is carried into the
 -- tables by a function of it. Assumes nothing.
-use Prim.Native.Nat.{ℕ, _+_, _-_, _*_}
+use Prim.Native.Nat.{ℕ, _+_, _-_, _*_, _≤_}
 use native.Mathlib.Omega.{arith}
-use mathlib.Core.List.{List, [], _∷_, _++_}
-use mathlib.Core.Path.{_≡_, sym, ap, _∙_}
-use lib.ListN.{length, getD}
-use lib.Seq.{sets}
+use mathlib.Core.List.{List, [], _∷_, _++_, append-assoc}
+use mathlib.Core.Path.{_≡_, refl, sym, ap, _∙_}
+use lib.ListN.{length, getD, take, drop}
+use lib.Seq.{sets, sets-eq, take-at, drop-at, length-take-le}
 use Rattle.reading.specs.Outcome.{Outcome, ok}
 use Rattle.reading.specs.Reader.{mapped, into1}
 use Rattle.reading.proofs.Readers.{mapped-bad, mapped-ok}
@@ -16,8 +16,8 @@ use Rattle.bits.specs.declared.Step.the-variants as S
 use Rattle.bits.specs.Cursors.{position, Wrote}
 use Rattle.bits.proofs.Steps.{wrote-bad, wrote-ok, wrote-refused}
 use Rattle.limits.specs.declared.Limits.{Limits}
-use Rattle.codeword_assignment.specs.Book.{codewords}
-use Rattle.book.specs.Layout.{bookRow}
+use Rattle.codeword_assignment.specs.Book.{codewords, loneMark}
+use Rattle.book.specs.Layout.{bookWidth, bookRow}
 use Rattle.filling.proofs.Written.{mapped-then, mapped-mapped, wrote-mapped, wrote-as}
 use Rattle.book_head.specs.Reading.{Head, head}
 use Rattle.book_head.specs.Answers.{totals, headOf, headRead}
@@ -34,17 +34,25 @@ use Rattle.books.specs.Parts.{bookOf, body}
 use Rattle.books.specs.Layout.{Tables, tables, putBook, finished}
 
 -- the lookup and the row
-module _ (h : Head) (bk m : List ℕ) (index before values : ℕ) where
+module _ (h : Head) (bk m : List ℕ) (index before values lone : ℕ) where
   -- over a lookup's numbers and the multiplicands
   abbrev rowed : List ℕ × List ℕ → List ℕ × List ℕ × ℕ
-  rowed x = (sets bk (10 * index) (h .dimensions ∷ h .entries ∷ before ∷ (x .0 ++ (values ∷ []))), x .1, values + getD (x .0) 5 0)
+  rowed x = (sets bk (bookWidth * index) (h .dimensions ∷ h .entries ∷ before ∷ (x .0 ++ (values ∷ lone ∷ []))), x .1, values + getD (x .0) 5 0)
 
   pub finish-whole : (o : Outcome (Lookup × ℕ)) {st : Step} {a₀ a₁ a₂ a₃ a₄ a₅ : ℕ} {m′ : List ℕ} → Wrote (mapped (laid m values) o) st (a₀ ∷ a₁ ∷ a₂ ∷ a₃ ∷ a₄ ∷ a₅ ∷ [], m′)
-      → {bk′ : List ℕ} → bk′ ≡ sets bk (10 * index) (h .dimensions ∷ h .entries ∷ before ∷ a₀ ∷ a₁ ∷ a₂ ∷ a₃ ∷ a₄ ∷ a₅ ∷ values ∷ [])
-      → Wrote (mapped (finished bk m h index before values) o) st (bk′, m′, values + a₅)
+      → {bk′ : List ℕ} → bk′ ≡ sets bk (bookWidth * index) (h .dimensions ∷ h .entries ∷ before ∷ a₀ ∷ a₁ ∷ a₂ ∷ a₃ ∷ a₄ ∷ a₅ ∷ values ∷ lone ∷ [])
+      → Wrote (mapped (finished bk m h index before values lone) o) st (bk′, m′, values + a₅)
   unfolding finished
   finish-whole o {st} {a₀} {a₁} {a₂} {a₃} {a₄} {a₅} {m′} w {bk′} b =
       wrote-as (mapped-mapped rowed (laid m values) o) (λ j. (sym b j, m′, values + a₅)) (wrote-mapped rowed w)
+
+-- a run that was stored is read back
+run-back : (l vs : List ℕ) (i : ℕ) → i + length vs ≤ length l → take (length vs) (drop i (sets l i vs)) ≡ vs
+run-back l vs i h =
+    let n : length (take i l) ≡ i = length-take-le i l (omega arith) in
+    ap (λ (x : List ℕ). take (length vs) (drop i x)) (sets-eq vs l i h ∙ append-assoc (take i l) vs (drop (i + length vs) l))
+    ∙ ap (take (length vs)) (drop-at (take i l) (vs ++ drop (i + length vs) l) i n)
+    ∙ take-at vs (drop (i + length vs) l) (length vs) refl
 
 -- what follows the head
 module _ (place : Cursor) (h : Head) (most : ℕ) (s : List ℕ) (k : ℕ) (bk lens wds m : List ℕ) (index before values : ℕ) where
@@ -69,22 +77,28 @@ module _ (place : Cursor) (h : Head) (most : ℕ) (s : List ℕ) (k : ℕ) (bk l
       placed ls x = tables (x .0) (sets lens before ls) (sets wds before (codewords ls)) (x .1) (index + 1) (before + length ls) (x .2)
 
       body-as : (ls : List ℕ) → entries (position place) (h .entries) s k ≡ ok (ls, position c)
-          → into1 putBook (body (position place) h most values s k) at-entry ≡ mapped (placed ls) (mapped (finished bk m (counted (length ls)) index before values) rest)
+          → into1 putBook (body (position place) h most values s k) at-entry ≡ mapped (placed ls) (mapped (finished bk m (counted (length ls)) index before values (loneMark ls)) rest)
       unfolding into1 body putBook bookRow finished
       body-as ls e =
           rw e
           (mapped-then (λ b. putBook b at-entry) (bookOf h ls) rest
-          ∙ sym (mapped-mapped (placed ls) (finished bk m (counted (length ls)) index before values) rest))
+          ∙ sym (mapped-mapped (placed ls) (finished bk m (counted (length ls)) index before values (loneMark ls)) rest))
 
-      pub body-whole : {st₂ : Step} {bk′ m′ : List ℕ} {entries′ values′ : ℕ} → Wrote (mapped (finished bk m h index before values) rest) st₂ (bk′, m′, values′)
+      pub body-whole : {lone : ℕ} → before + h .entries ≤ length lens → lone ≡ loneMark (take (h .entries) (drop before lens′))
+          → {st₂ : Step} {bk′ m′ : List ℕ} {entries′ values′ : ℕ} → Wrote (mapped (finished bk m h index before values lone) rest) st₂ (bk′, m′, values′)
           → entries′ ≡ before + h .entries
           → Wrote (into1 putBook (body (position place) h most values s k) at-entry) st₂ (tables bk′ lens′ wds′ m′ (index + 1) entries′ values′)
-      body-whole {st₂} {bk′} {m′} {entries′} {values′} w₂ f =
+      body-whole {lone} fits mark {st₂} {bk′} {m′} {entries′} {values′} w₂ f =
           let a = mapped-ok (L.laid lens wds before) (entries (position place) (h .entries) s k) (wrote-ok w q) in
           let n : length (a .0) ≡ h .entries = entries-known (position place) (h .entries) s k (a .1) .long in
           let g : before + length (a .0) ≡ entries′ = omega arith in
+          let own : take (h .entries) (drop before lens′) ≡ a .0 =
+          ap (λ (x : List ℕ × List ℕ). take (h .entries) (drop before (x .0))) (sym (a .2))
+          ∙ ap (λ (x : ℕ). take x (drop before (sets lens before (a .0)))) (sym n)
+          ∙ run-back lens (a .0) before (omega arith) in
+          let o : loneMark (a .0) ≡ lone = sym (mark ∙ ap loneMark own) in
           wrote-as
-          (sym (body-as (a .0) (a .1) ∙ ap (λ (x : ℕ). mapped (placed (a .0)) (mapped (finished bk m (counted x) index before values) rest)) n))
+          (sym (body-as (a .0) (a .1) ∙ (λ j. mapped (placed (a .0)) (mapped (finished bk m (counted (n j)) index before values (o j)) rest))))
           (λ j. tables bk′ (a .2 j .0) (a .2 j .1) m′ (index + 1) (g j) values′)
           (wrote-mapped (placed (a .0)) w₂)
 

@@ -14,7 +14,7 @@ use Rattle.reading.proofs.Tables.{sets-pad}
 use Rattle.reading.proofs.Tabulate.{tabulate-length}
 use Rattle.codeword_assignment.specs.Book.{codewords, codewordOf}
 use Rattle.book.specs.Content.{Book}
-use Rattle.book.specs.Layout.{bookRow}
+use Rattle.book.specs.Layout.{bookWidth, bookRow}
 use Rattle.book_head.specs.Reading.{Before}
 use Rattle.books.specs.Reading.{andThis}
 use Rattle.books.specs.Layout.{Tables, tables, putBook}
@@ -24,11 +24,11 @@ pub codewords-length : (ls : List ℕ) → length (codewords ls) ≡ length ls
 unfolding codewords
 codewords-length ls = tabulate-length (codewordOf ls) (length ls)
 
-pub row-length : (e v : ℕ) (b : Book) → length (bookRow e v b) ≡ 10
+pub row-length : (e v : ℕ) (b : Book) → length (bookRow e v b) ≡ bookWidth
 unfolding bookRow
 row-length e v b = refl
 
-pub rows-length : (before : Before) (bs : List Book) → length (bookRows before bs) ≡ 10 * length bs
+pub rows-length : (before : Before) (bs : List Book) → length (bookRows before bs) ≡ bookWidth * length bs
 unfolding bookRows
 rows-length before [] = refl
 rows-length before (b ∷ bs) =
@@ -41,13 +41,13 @@ module _ (n₁ n₂ n₃ n₄ : ℕ) where
   abbrev laidOut : List ℕ → List ℕ → List ℕ → List ℕ → ℕ → Before → Tables
   laidOut r l w m count before = tables (pad n₁ r) (pad n₂ l) (pad n₃ w) (pad n₄ m) count (before .entries) (before .values)
 
-  put-laid : (b : Book) (r l w m : List ℕ) (count : ℕ) (before : Before) → 10 * count ≡ length r → before .entries ≡ length l → before .entries ≡ length w → before .values ≡ length m
+  put-laid : (b : Book) (r l w m : List ℕ) (count : ℕ) (before : Before) → bookWidth * count ≡ length r → before .entries ≡ length l → before .entries ≡ length w → before .values ≡ length m
       → putBook b (laidOut r l w m count before)
       ≡ laidOut (r ++ bookRow (before .entries) (before .values) b) (l ++ b .lengths) (w ++ codewords (b .lengths)) (m ++ b .multiplicands) (count + 1) (andThis before b)
   unfolding putBook
   put-laid b r l w m count before e₁ e₂ e₃ e₄ =
       λ j.
-      tables (sets-pad n₁ (bookRow (before .entries) (before .values) b) r (10 * count) e₁ j)
+      tables (sets-pad n₁ (bookRow (before .entries) (before .values) b) r (bookWidth * count) e₁ j)
       (sets-pad n₂ (b .lengths) l (before .entries) e₂ j)
       (sets-pad n₃ (codewords (b .lengths)) w (before .entries) e₃ j)
       (sets-pad n₄ (b .multiplicands) m (before .values) e₄ j)
@@ -55,7 +55,7 @@ module _ (n₁ n₂ n₃ n₄ : ℕ) where
       (before .entries + length (b .lengths))
       (before .values + length (b .multiplicands))
 
-  puts-laid : (bs : List Book) (r l w m : List ℕ) (count : ℕ) (before : Before) → 10 * count ≡ length r → before .entries ≡ length l → before .entries ≡ length w → before .values ≡ length m
+  puts-laid : (bs : List Book) (r l w m : List ℕ) (count : ℕ) (before : Before) → bookWidth * count ≡ length r → before .entries ≡ length l → before .entries ≡ length w → before .values ≡ length m
       → puts putBook bs (laidOut r l w m count before)
       ≡ laidOut (r ++ bookRows before bs) (l ++ allLengths bs) (w ++ allCodewords bs) (m ++ allMultiplicands bs) (count + length bs) (andThese before bs)
   unfolding puts bookRows rows andThese
@@ -149,7 +149,7 @@ decode-laid (b ∷ bs) before behind l l′ m m′ e f =
     ∙ i) j)
 
 -- ONE CONTENT FOR ONE WRITING-OUT: tables that have room give their books back
-pub decode-books : (n₁ n₂ n₄ : ℕ) (bs : List Book) → 10 * length bs ≤ n₁ → length (allLengths bs) ≤ n₂ → length (allMultiplicands bs) ≤ n₄
+pub decode-books : (n₁ n₂ n₄ : ℕ) (bs : List Book) → bookWidth * length bs ≤ n₁ → length (allLengths bs) ≤ n₂ → length (allMultiplicands bs) ≤ n₄
     → decodeBooks (length bs) (pad n₁ (bookRows (record { entries = 0; values = 0 }) bs)) (pad n₂ (allLengths bs)) (pad n₄ (allMultiplicands bs)) ≡ bs
 decode-books n₁ n₂ n₄ bs h₁ h₂ h₄ =
     let zeroes : Before = record { entries = 0; values = 0 } in
@@ -159,17 +159,17 @@ decode-books n₁ n₂ n₄ bs h₁ h₂ h₄ =
     (replicate (n₄ - length (allMultiplicands bs)) 0) refl refl)
 
 -- a row's number in the table: row i is that of book i, with the totals before it
-pub row-at : (before : Before) (bs : List Book) (i j : ℕ) (d : Book) → i < length bs → j < 10
-    → getD (bookRows before bs) (10 * i + j) 0 ≡ getD (bookRow (andThese before (take i bs) .entries) (andThese before (take i bs) .values) (getD bs i d)) j 0
+pub row-at : (before : Before) (bs : List Book) (i j : ℕ) (d : Book) → i < length bs → j < bookWidth
+    → getD (bookRows before bs) (bookWidth * i + j) 0 ≡ getD (bookRow (andThese before (take i bs) .entries) (andThese before (take i bs) .values) (getD bs i d)) j 0
 unfolding bookRows andThese
 row-at before [] i j d h g = absurd (omega arith)
 row-at before (b ∷ bs) zero j d h g =
     let r = row-length (before .entries) (before .values) b in
-    let e : 10 * 0 + j ≡ j = omega arith in
+    let e : bookWidth * 0 + j ≡ j = omega arith in
     rw e (List·getD-append (bookRow (before .entries) (before .values) b) (bookRows (andThis before b) bs) 0 j (omega arith))
 row-at before (b ∷ bs) (suc i) j d h g =
     let r = row-length (before .entries) (before .values) b in
-    let e : 10 * suc i + j ≡ length (bookRow (before .entries) (before .values) b) + (10 * i + j) = omega arith in
+    let e : bookWidth * suc i + j ≡ length (bookRow (before .entries) (before .values) b) + (bookWidth * i + j) = omega arith in
     ap (λ (x : ℕ). getD (bookRow (before .entries) (before .values) b ++ bookRows (andThis before b) bs) x 0) e
-    ∙ getD-append-add (bookRow (before .entries) (before .values) b) (bookRows (andThis before b) bs) (10 * i + j) 0
+    ∙ getD-append-add (bookRow (before .entries) (before .values) b) (bookRows (andThis before b) bs) (bookWidth * i + j) 0
     ∙ row-at (andThis before b) bs i j d (omega arith) g

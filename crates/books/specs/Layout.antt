@@ -6,7 +6,7 @@ use lib.ListN.{length}
 use lib.Seq.{sets}
 use Rattle.codeword_assignment.specs.Book.{codewords}
 use Rattle.book.specs.Content.{Book}
-use Rattle.book.specs.Layout.{bookRow}
+use Rattle.book.specs.Layout.{bookWidth, bookRow}
 use Rattle.book_head.specs.Reading.{Before, Head}
 use Rattle.book_lookup.specs.Reading.{Lookup}
 use Rattle.book_lookup.specs.Parts.{lookupNumbers}
@@ -35,7 +35,7 @@ tables books lengths words multiplicands count entries values =
 unfoldable pub putBook : Book → Tables → Tables
 putBook b t =
     record {
-      books = sets (t .books) (10 * t .count) (bookRow (t .before .entries) (t .before .values) b);
+      books = sets (t .books) (bookWidth * t .count) (bookRow (t .before .entries) (t .before .values) b);
       lengths = sets (t .lengths) (t .before .entries) (b .lengths);
       codewords = sets (t .codewords) (t .before .entries) (codewords (b .lengths));
       multiplicands = sets (t .multiplicands) (t .before .values) (b .multiplicands);
@@ -44,10 +44,10 @@ putBook b t =
     }
 
 -- a book's lookup laid out: the table of books with its row, the table with its multiplicands, and how many there are then. index is the book's number,
--- entries and values the totals before it
-unfoldable pub finished : List ℕ → List ℕ → Head → ℕ → ℕ → ℕ → Lookup → List ℕ × List ℕ × ℕ
-finished books table h index entries values l = (
-  sets books (10 * index) (h .dimensions ∷ h .entries ∷ entries ∷ (lookupNumbers l ++ (values ∷ []))),
+-- entries and values the totals before it, lone its mark
+unfoldable pub finished : List ℕ → List ℕ → Head → ℕ → ℕ → ℕ → ℕ → Lookup → List ℕ × List ℕ × ℕ
+finished books table h index entries values lone l = (
+  sets books (bookWidth * index) (h .dimensions ∷ h .entries ∷ entries ∷ (lookupNumbers l ++ (values ∷ lone ∷ []))),
   sets table values (l .multiplicands),
   values + length (l .multiplicands),
 )

@@ -3,9 +3,10 @@ use Prim.Native.Nat.{ℕ, _+_, _≤_, _<_}
 use mathlib.Core.List.{List}
 use lib.ListN.{length}
 use Rattle.limits.specs.declared.Limits.{Limits}
+use Rattle.book.specs.Layout.{booksNeed}
 
 pub record Lent (limits : Limits) (books lengths words multiplicands : List ℕ) : Type 0 where
-  pub books-long : 2560 ≤ length books
+  pub books-long : booksNeed ≤ length books
   pub lengths-long : limits .entries ≤ length lengths
   pub words-long : limits .entries ≤ length words
   pub multiplicands-long : limits .multiplicands ≤ length multiplicands

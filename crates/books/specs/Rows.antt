@@ -5,7 +5,7 @@ use lib.ListN.{getD, take, drop}
 use Rattle.reading.specs.Lists.{rows}
 use Rattle.codeword_assignment.specs.Book.{codewords}
 use Rattle.book.specs.Content.{Book}
-use Rattle.book.specs.Layout.{bookRow}
+use Rattle.book.specs.Layout.{bookWidth, bookRow}
 use Rattle.book_head.specs.Reading.{Before}
 use Rattle.books.specs.Reading.{andThis}
 
@@ -46,4 +46,4 @@ decodeBook row lengths multiplicands =
 -- the first n books of the tables
 unfoldable pub decodeBooks : ℕ → List ℕ → List ℕ → List ℕ → List Book
 decodeBooks zero books lengths multiplicands = []
-decodeBooks (suc n) books lengths multiplicands = decodeBook books lengths multiplicands ∷ decodeBooks n (drop 10 books) lengths multiplicands
+decodeBooks (suc n) books lengths multiplicands = decodeBook books lengths multiplicands ∷ decodeBooks n (drop bookWidth books) lengths multiplicands

@@ -1,6 +1,7 @@
 // Codebooks read into their four tables: a row for each book, the lengths and codewords of all entries, all multiplicands.
 use bits::Cursor;
 use bits::Step;
+use book::mark::lone_mark_at;
 use book_head::head::Head;
 use book_head::head::HeadRead;
 use book_head::head::read_head;
@@ -16,6 +17,7 @@ ghost use lib.ListN.{length};
 ghost use lib.Seq.{sets};
 ghost use Rattle.reading.specs.Reader.{mapped, into, into1};
 ghost use Rattle.bits.specs.Cursors.{position, Wrote};
+ghost use Rattle.book.specs.Layout.{bookWidth};
 ghost use Rattle.book_head.specs.Answers.{totals, headOf};
 ghost use Rattle.book_lookup.specs.Reading.{lookup};
 ghost use Rattle.book_lookup.specs.Answers.{numbersOf};
@@ -32,9 +34,17 @@ pub struct BooksRead {
 }
 
 // A book's row, at its place in the table of books.
-fn write_row(books: &mut [u32], index: u32, head: Head, entries: u32, l: LookupRead, values: u32)
+fn write_row(
+    books: &mut [u32],
+    index: u32,
+    head: Head,
+    entries: u32,
+    l: LookupRead,
+    values: u32,
+    lone: u32,
+)
     requires { ⌜ index < 256 ⌝ }
-    ensures { λ _. ⌜ now (books .exit) ≡ sets (now (books .entry)) (10 * index) (head .dimensions ∷ head .entries ∷ entries ∷ (numbersOf l ++ (values ∷ []))) ⌝ }
+    ensures { λ _. ⌜ now (books .exit) ≡ sets (now (books .entry)) (bookWidth * index) (head .dimensions ∷ head .entries ∷ entries ∷ (numbersOf l ++ (values ∷ lone ∷ []))) ⌝ }
 {
     let row = [
         head.dimensions,
@@ -47,11 +57,12 @@ fn write_row(books: &mut [u32], index: u32, head: Head, entries: u32, l: LookupR
         l.sequence,
         l.count,
         values,
+        lone,
     ];
-    write_u32(books, 10 * index as usize, &row);
+    write_u32(books, book::WIDTH * index as usize, &row);
 }
 
-// What follows a book's lengths: its lookup and its row. `place`, `most`, `entries` and `values` as for `read_body`.
+// What follows a book's lengths: its lookup and its row. `place`, `most`, `entries` and `values` as for `read_body`; `lone` is the mark of its lengths.
 fn finish_book(
     packet: &[u8],
     from: Cursor,
@@ -61,11 +72,12 @@ fn finish_book(
     index: u32,
     entries: u32,
     values: u32,
+    lone: u32,
     books: &mut [u32],
     multiplicands: &mut [u16],
 ) -> BooksRead
     requires { ⌜ (index < 256) × (entries + head .entries ≤ 16777216) × (values ≤ most) × (most ≤ length (now multiplicands)) × (most ≤ 16777216) ⌝ }
-    ensures { λ r. ⌜ Wrote (mapped (finished (now (books .entry)) (now (multiplicands .entry)) (headOf head) index entries values) (lookup (position place) (head .entries) (head .dimensions) most values (now (packet .entry)) (position from))) (r .step) (now (books .exit), now (multiplicands .exit), r .values) ⌝ }
+    ensures { λ r. ⌜ Wrote (mapped (finished (now (books .entry)) (now (multiplicands .entry)) (headOf head) index entries values lone) (lookup (position place) (head .entries) (head .dimensions) most values (now (packet .entry)) (position from))) (r .step) (now (books .exit), now (multiplicands .exit), r .values) ⌝ }
     ensures { λ r. ⌜ (r .entries ≡ entries + head .entries) × (r .values ≤ most) ⌝ }
 {
     let l = read_lookup(
@@ -78,7 +90,7 @@ fn finish_book(
         most,
         multiplicands,
     );
-    write_row(books, index, head, entries, l, values);
+    write_row(books, index, head, entries, l, values, lone);
     let step = l.step;
     BooksRead {
         step,
@@ -113,6 +125,7 @@ fn read_body(
             values,
         },
         Step::Next(next) => {
+            let lone = lone_mark_at(lengths, entries, head.entries);
             finish_book(
                 packet,
                 next,
@@ -122,6 +135,7 @@ fn read_body(
                 index,
                 entries,
                 values,
+                lone,
                 books,
                 multiplicands,
             )

@@ -18,11 +18,11 @@ use Rattle.reading.proofs.Least.{lowest-some, lowest-ok, IsLowest, and-split, l
 use Rattle.bits.specs.Field.{field}
 use Rattle.bits.proofs.Fields.{field-none, field-ok}
 use Rattle.bits.proofs.Cuts.{field-cut-packet}
-use Rattle.codeword_assignment.specs.Book.{used, isUsed, isLone, orZero, codewords, verdict, Begins, PrefixCode, Decodable}
+use Rattle.codeword_assignment.specs.Book.{used, isUsed, isLone, firstUsed, loneMark, orZero, codewords, verdict, Begins, PrefixCode, Decodable}
 use Rattle.codespace.specs.Ledger.{share}
 use Rattle.codeword_assignment.specs.declared.book.Assigned.the-variants.{Accepted}
 use Rattle.codeword_assignment.proofs.Laws.{accepted-decodable, used-length}
-use Rattle.codebook.specs.Codeword.{bitsAt, isCodeword, entryOf, orGoOn, matching, firstUsed, codeword}
+use Rattle.codebook.specs.Codeword.{bitsAt, isCodeword, entryOf, orGoOn, matching, loneBits, codeword}
 use Rattle.bits.specs.Cursors.{position, outcome}
 use Rattle.bits.specs.declared.Cursor.{Cursor}
 use Rattle.bits.specs.declared.Field.{Field}
@@ -30,7 +30,7 @@ use Rattle.codebook.specs.Book.{Codebook}
 use Rattle.codebook.specs.Claims.{Settled}
 use Rattle.codebook.proofs.Accepted.{none-refused}
 use Rattle.codebook.proofs.Bits.{bits-lt, bits-begin, bits-cut}
-use Rattle.codebook.proofs.Lone.{none-used}
+use Rattle.codeword_assignment.proofs.Lone.{none-used, mark-none, mark-lone}
 use Rattle.codebook.proofs.Matching.{Starts, NoneBefore, turn-on, turn-found}
 
 module _ (ls : List ℕ) (accepted : verdict ls ≡ Accepted) where
@@ -190,14 +190,13 @@ settled ls accepted =
     }
 
 -- as the code asks it: the equation, and the promise beside it
-module _ (ls ws : List ℕ) (book : Codebook ls ws) (s : List ℕ) (k : Cursor) (r : Field) where
-  pub by-lone : outcome r ≡ codeword ls s (position k) → (outcome r ≡ codeword ls s (position k)) × Settled ls
-  by-lone p = (p, settled ls (book .accepted))
-
-  pub by-matching : (b : Bool) → b ≡ isLone (used ls) → b ≡ false → outcome r ≡ matching ls 0 32 s (position k)
-      → (outcome r ≡ codeword ls s (position k)) × Settled ls
+module _ (ls ws : List ℕ) {m : ℕ} (book : Codebook ls ws × (m ≡ loneMark ls)) (s : List ℕ) (k : Cursor) (r : Field) where
+  pub by-lone : (m ≡ 0 → ⊥) → outcome r ≡ mapped (λ _. m - 1) (field loneBits s (position k)) → (outcome r ≡ codeword ls s (position k)) × Settled ls
   unfolding codeword
-  by-matching b q f p = (rw (sym q ∙ f) p, settled ls (book .accepted))
+  by-lone n p =
+      let l = mark-lone ls (book .1) n in
+      (rw (l .0) (p ∙ ap (λ (e : ℕ). mapped (λ _. e) (field loneBits s (position k))) (l .1)), settled ls (book .0 .accepted))
 
-pub lone-asked : (ls ws : List ℕ) → Codebook ls ws → (b : Bool) → b ≡ isLone (used ls) → b ≡ true → (isLone (used ls) ≡ true) × (length ls < 4294967296)
-lone-asked ls ws book b q t = let h = book .entries in (sym q ∙ t, omega arith)
+  pub by-matching : m ≡ 0 → outcome r ≡ matching ls 0 32 s (position k) → (outcome r ≡ codeword ls s (position k)) × Settled ls
+  unfolding codeword
+  by-matching z p = (rw (mark-none ls (book .1) z) p, settled ls (book .0 .accepted))

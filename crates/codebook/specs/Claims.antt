@@ -6,8 +6,8 @@ use mathlib.Core.Logic.{_⊎_}
 use mathlib.Core.Path.{_≡_}
 use lib.ListN.{length, getD, take}
 use Rattle.reading.specs.Outcome.{refusal, ok, bad}
-use Rattle.codeword_assignment.specs.Book.{used, isLone, codewords, Begins}
-use Rattle.codebook.specs.Codeword.{bitsAt, codeword, firstUsed}
+use Rattle.codeword_assignment.specs.Book.{used, isLone, firstUsed, codewords, Begins}
+use Rattle.codebook.specs.Codeword.{bitsAt, codeword}
 
 pub record Settled (lengths : List ℕ) : Type 0 where
   -- whatever 32 bits come next, reading gives the one entry whose codeword they start with, and takes just its codeword's bits

@@ -10,7 +10,7 @@ use Rattle.reading.specs.Outcome.{refusal, Outcome, ok, bad, need}
 use Rattle.reading.specs.Reader.{Reader, mapped}
 use Rattle.reading.specs.Least.{lowest}
 use Rattle.bits.specs.Field.{bitAt, field}
-use Rattle.codeword_assignment.specs.Book.{used, isUsed, isLone, codewordOf, orZero}
+use Rattle.codeword_assignment.specs.Book.{used, isLone, codewordOf, firstUsed}
 
 -- the n bits from bit k on as a number, the first read the most significant (002: "read and used bit by bit from left to right")
 unfoldable pub bitsAt : List ℕ → ℕ → ℕ → ℕ
@@ -41,10 +41,6 @@ matching lengths n (suc m) s k =
 -- how many bits a sole used entry takes (01; 000, 3.2.1)
 abbrev pub loneBits : ℕ
 loneBits = 0
-
--- the sole used entry: the first that is used
-unfoldable pub firstUsed : List ℕ → ℕ
-firstUsed lengths = orZero (lowest (isUsed lengths) (length lengths))
 
 -- ONE CODEWORD: its entry, with the position behind it, or the cut. 32 bits always settle it
 unfoldable pub codeword : List ℕ → Reader ℕ

@@ -3,54 +3,39 @@ use bits::Cursor;
 use bits::Field;
 use bits::Refusal;
 ghost use mathlib.Core.Path.{_≡_};
-ghost use mathlib.Core.Bool.{true};
 ghost use Prim.Native.Nat.{_+_, _*_, _<_};
 ghost use lib.Dec.{ltb};
 ghost use lib.ListN.{length};
 ghost use Rattle.reading.specs.Outcome.{refusal, bad};
-ghost use Rattle.bits.specs.Field.{bitAt};
+ghost use Rattle.reading.specs.Reader.{mapped};
+ghost use Rattle.bits.specs.Field.{bitAt, field};
 ghost use Rattle.bits.specs.Cursors.{position, outcome};
-ghost use Rattle.codeword_assignment.specs.Book.{used, isLone};
-ghost use Rattle.codebook.specs.Codeword.{codeword, firstUsed, matching};
+ghost use Rattle.codeword_assignment.specs.Book.{loneMark};
+ghost use Rattle.codebook.specs.Codeword.{codeword, loneBits, matching};
 ghost use Rattle.codebook.specs.Book.{Codebook};
 ghost use Rattle.codebook.specs.Claims.{Settled};
 
-// The entry whose codeword stands at the cursor, with the position behind it; or the cut, where the packet ends within the codeword.
-pub fn read_codeword(packet: &[u8], from: Cursor, lengths: &[u8], words: &[u32]) -> Field
-    requires { ⌜ Codebook (now lengths) (now words) ⌝ }
+// The entry whose codeword stands at the cursor, with the position behind it; or the cut, where the packet ends within the codeword. `lone` is the
+// number of the book's sole used entry of length 1 plus one, or 0 where it has none.
+pub fn read_codeword(packet: &[u8], from: Cursor, lone: u32, lengths: &[u8], words: &[u32]) -> Field
+    requires { ⌜ Codebook (now lengths) (now words) × (lone ≡ loneMark (now lengths)) ⌝ }
     ensures { λ r. ⌜ outcome r ≡ codeword (now (lengths .entry)) (now (packet .entry)) (position from) ⌝ }
     ensures { λ _. ⌜ Settled (now (lengths .entry)) ⌝ }
 {
-    if codeword_assignment::book::is_lone(lengths) {
-        return lone_entry(packet, from, lengths);
+    if lone != 0 {
+        return lone_entry(packet, from, lone - 1);
     }
     match_codeword(packet, from, lengths, words)
 }
 
 // A sole used entry takes no bits.
-fn lone_entry(packet: &[u8], from: Cursor, lengths: &[u8]) -> Field
-    requires { ⌜ (isLone (used (now lengths)) ≡ true) × (length (now lengths) < 4294967296) ⌝ }
-    ensures { λ r. ⌜ outcome r ≡ codeword (now (lengths .entry)) (now (packet .entry)) (position from) ⌝ }
+fn lone_entry(packet: &[u8], from: Cursor, entry: u32) -> Field
+    ensures { λ r. ⌜ outcome r ≡ mapped (λ _. entry) (field loneBits (now (packet .entry)) (position from)) ⌝ }
 {
     match from.field(packet, 0) {
         Field::Refused(z) => Field::Refused(z),
-        Field::Value(_, next) => Field::Value(first_used(lengths) as u32, next),
+        Field::Value(_, next) => Field::Value(entry, next),
     }
-}
-
-// The first used entry of a book that has one.
-fn first_used(lengths: &[u8]) -> usize
-    requires { ⌜ isLone (used (now lengths)) ≡ true ⌝ }
-    ensures { λ r. ⌜ (r ≡ firstUsed (now (lengths .entry))) × (r < length (now (lengths .entry))) ⌝ }
-{
-    let mut entry: usize = 0;
-    while entry < lengths.len() {
-        if lengths[entry] != 0 {
-            return entry;
-        }
-        entry = entry + 1;
-    }
-    entry
 }
 
 // Bits are taken one at a time until they are an entry's codeword. An entry whose codeword does not begin with the bits taken so far does not

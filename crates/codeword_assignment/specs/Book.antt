@@ -4,7 +4,7 @@ use mathlib.Core.Bool.{Bool, true, false, cond, not, _&&_, _||_}
 use mathlib.Core.List.{List, [], _∷_}
 use mathlib.Core.Option.{Option, none, some}
 use mathlib.Core.Path.{_≡_}
-use Prim.Native.Nat.{ℕ, _-_, _/_, _^_, _≤_, _<_}
+use Prim.Native.Nat.{ℕ, _+_, _-_, _/_, _^_, _≤_, _<_}
 use lib.Dec.{eqb, ltb}
 use lib.ListN.{length, getD, take, drop, replicate}
 use Rattle.reading.specs.Least.{lowest}
@@ -61,6 +61,14 @@ unfoldable pub isLone : List ℕ → Bool
 isLone [] = false
 isLone (l ∷ []) = eqb l 1
 isLone (l ∷ k ∷ ls) = false
+
+-- the sole used entry: the first that is used
+unfoldable pub firstUsed : List ℕ → ℕ
+firstUsed lengths = orZero (lowest (isUsed lengths) (length lengths))
+
+-- a book's mark in the tables: the number of its sole used entry of length 1 plus one, or 0 where it has none
+unfoldable pub loneMark : List ℕ → ℕ
+loneMark lengths = cond (isLone (used lengths)) (firstUsed lengths + 1) 0
 
 abbrev pub refusedOr : Option ℕ → Assigned → Assigned
 refusedOr (some e) a = Overspecified e

@@ -7,10 +7,11 @@ use mathlib.Core.List.{List, [], _∷_, _++_, map}
 use mathlib.Core.Logic.{_↔_}
 use mathlib.Core.Path.{_≡_, refl, sym, ap, _∙_}
 use lib.Dec.{ltb}
-use lib.ListN.{length, getD}
-use lib.Seq.{slice, take-length}
+use lib.ListN.{length, getD, drop, length-drop, length-replicate, getD-replicate}
+use lib.Seq.{slice, take-length, getD-drop, ext-getD}
 use Rattle.reading.specs.Lists.{all, distinct, rows}
 use Rattle.reading.specs.Pad.{pad}
+use Rattle.reading.specs.Stand.{Zeros}
 use Rattle.reading.proofs.Pads.{length-pad}
 use Rattle.floor_class.specs.Content.{Class}
 use Rattle.floors.specs.Content.{Floor, classCount, valueCount}
@@ -234,6 +235,27 @@ module _ (books : ℕ) (t : List ℕ) where
       let z = padded-zeros 0 (length t) (277 * count) R long (lies-of t (pad (length t) R) (st .written)) in
       record { each = λ i a b. z .each i (omega arith) (omega arith) }
 
+-- numbers below 1 are zeros alone
+module _ (t : List ℕ) (from : ℕ) where
+  below-one : Zeros (drop from t) → Below t from (length t) 1
+  below-one z =
+      record {
+        each = λ i a b.
+            let j : from + (i - from) ≡ i = omega arith in
+            let k = length-drop from t in
+            let v : getD t i 0 ≡ 0 = ap (λ (x : ℕ). getD t x 0) (sym j) ∙ sym (getD-drop from t (i - from) 0) ∙ ap (λ (l : List ℕ). getD l (i - from) 0) z ∙ getD-replicate (length (drop from t)) (i - from) 0 0 (omega arith) in
+            omega arith;
+      }
+
+  zeros-of : Below t from (length t) 1 → Zeros (drop from t)
+  zeros-of b =
+      ext-getD 0 (drop from t) _ (sym (length-replicate _ 0))
+      (λ i h.
+      let k = length-drop from t in
+      let v = b .each (from + i) (omega arith) (omega arith) in
+      let w : getD t (from + i) 0 ≡ 0 = omega arith in
+      getD-drop from t i 0 ∙ w ∙ sym (getD-replicate _ i 0 0 h))
+
 -- THE TEST OF A TABLE, as the code asks it
 module _ (books count : ℕ) (t : List ℕ) where
   pub table-short : length t < 17728 → (false ≡ true) ↔ FloorsRecognised books count t
@@ -243,5 +265,8 @@ module _ (books count : ℕ) (t : List ℕ) where
     pub table-rows : not b ≡ true → (false ≡ true) ↔ FloorsRecognised books count t
     table-rows n = iff-false (λ st. refuted p n (rw same (floors-tested books t count few st)))
 
-    pub table-end : not b ≡ false → {b₂ : Bool} → (b₂ ≡ true) ↔ Below t (277 * count) (length t) 1 → (b₂ ≡ true) ↔ FloorsRecognised books count t
-    table-end n p₂ = (λ e. floors-stand books t count few room (rw same at (shown p n)) (p₂ .0 e), λ st. p₂ .1 (floors-trailing books t count st))
+    pub table-end : not b ≡ false → {b₂ : Bool} → (b₂ ≡ true) ↔ Zeros (drop (277 * count) t) → (b₂ ≡ true) ↔ FloorsRecognised books count t
+    table-end n p₂ = (
+      (λ e. floors-stand books t count few room (rw same at (shown p n)) (below-one t (277 * count) (p₂ .0 e))),
+      (λ st. p₂ .1 (zeros-of t (277 * count) (floors-trailing books t count st))),
+    )

@@ -171,5 +171,5 @@ pub fn are_floors(floors: &[u16], count: usize, books: u32) -> bool
     if !are_rows(floors, count, numbers::long(books)) {
         return false;
     }
-    are_below(floors, FLOOR_WIDTH * count, floors.len(), 1)
+    reading::zeros::zeros_u16(floors, FLOOR_WIDTH * count)
 }

@@ -10,8 +10,8 @@ use Rattle.reading.specs.Lists.{rows}
 use Rattle.reading.specs.Outcome.{Refusal, refusal, Outcome, ok, bad, then, need}
 use Rattle.reading.specs.Reader.{Reader, many, each, mapped}
 use Rattle.bits.specs.Field.{valueAt, field}
-use Rattle.codeword_assignment.specs.Book.{used, isLone}
-use Rattle.codebook.specs.Codeword.{bitsAt, entryOf, orGoOn, matching, firstUsed, codeword}
+use Rattle.codeword_assignment.specs.Book.{used, isLone, firstUsed}
+use Rattle.codebook.specs.Codeword.{bitsAt, entryOf, orGoOn, matching, codeword}
 use Rattle.floor_class.specs.Content.{Class}
 use Rattle.floors.specs.Content.{Floor}
 use Rattle.floor_class.specs.Decode.{noClass}

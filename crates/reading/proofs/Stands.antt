@@ -5,11 +5,13 @@ use native.Mathlib.Nat.{add-zero, sub-zero, mul-zero, mul-suc, add-comm, mul-le-
 use native.Mathlib.Numerals.{add-one}
 use native.Mathlib.Omega.{arith}
 use borrow.Author.Needs.{needs}
-use borrow.Author.Tests.{not-true, not-false}
+use borrow.Author.Tests.{eqb-true, eq-eqb, not-true, not-false}
 use mathlib.Core.Bool.{Bool, true, false, not}
 use mathlib.Core.List.{List, [], _∷_, _++_, append-nil}
 use mathlib.Core.Logic.{_↔_}
 use mathlib.Core.Path.{_≡_, refl, sym, ap, subst, _∙_}
+use lib.Bits.{bitOr, or-zero-l, or-add-and, and-le-l, and-le-r}
+use lib.Dec.{eqb}
 use lib.ListN.{length, getD, take, drop, replicate, length-append, length-drop, length-replicate, take-append-drop, drop-of-length-le, List·getD-append}
 use lib.Seq.{drop-cons, take-at, drop-at, drop-drop, getD-append-add}
 use Rattle.reading.specs.Lists.{rows}
@@ -46,35 +48,47 @@ refuted {b} f n = not-said f (not-true b n)
 pub shown : {b : Bool} {P : Type 0} → (b ≡ true) ↔ P → not b ≡ false → P
 shown {b} f n = f .0 (not-false b n)
 
--- a loop that looks for a number that is not zero: those from `from` to i are zeros, so that all depends on the others
-pub record Zeroing (cells : List ℕ) (from i : ℕ) : Type 0 where
-  pub left : Zeros (drop from cells) ↔ Zeros (drop i cells)
+-- a bitwise or is zero exactly where both sides are
+or-none : {a b : ℕ} → bitOr a b ≡ 0 → (a ≡ 0) × (b ≡ 0)
+or-none {a} {b} e = (omega (arith, or-add-and a b, and-le-r a b), omega (arith, or-add-and a b, and-le-l a b))
 
-pub zeros-start : (cells : List ℕ) (from : ℕ) → Zeroing cells from from
-zeros-start cells from = record { left = ((λ e. e), (λ e. e)) }
+or-both : {a b : ℕ} → a ≡ 0 → b ≡ 0 → bitOr a b ≡ 0
+or-both {a} {b} e f = rw (e, f, or-zero-l)
 
-module _ (cells : List ℕ) (from i : ℕ) (z : Zeroing cells from i) where
-  pub zeros-next : i < length cells → getD cells i 0 ≡ 0 → Zeroing cells from (i + 1)
-  zeros-next h e =
-      let d : drop i cells ≡ 0 ∷ drop (i + 1) cells = rw (drop-cons cells i 0 h, e, add-one) in
-      record { left = ((λ a. down (subst Zeros d (z .left .0 a))), (λ b. z .left .1 (subst Zeros (sym d) (up b)))) }
-    where
-      down : {l : List ℕ} → Zeros (0 ∷ l) → Zeros l
-      down {l} q = cc
+-- a loop that joins numbers by a bitwise or: those from `from` to i are zeros where `any` is, and all depends on the others
+pub record Zeroing (cells : List ℕ) (from i any : ℕ) : Type 0 where
+  pub left : Zeros (drop from cells) ↔ ((any ≡ 0) × Zeros (drop i cells))
 
-      up : {l : List ℕ} → Zeros l → Zeros (0 ∷ l)
-      up {l} q = ap (λ (k : List ℕ). 0 ∷ k) q
+pub zeros-start : (cells : List ℕ) (from : ℕ) → Zeroing cells from from 0
+zeros-start cells from = record { left = ((λ e. (refl, e)), (λ e. e .1)) }
 
-  pub zeros-stop : i < length cells → (getD cells i 0 ≡ 0 → ⊥) → (false ≡ true) ↔ Zeros (drop from cells)
-  zeros-stop h n = iff-false (λ a. n (first (rw (drop-cons cells i 0 h) at (z .left .0 a))))
+module _ (cells : List ℕ) (from i any : ℕ) (z : Zeroing cells from i any) where
+  pub zeros-next : i < length cells → Zeroing cells from (i + 1) (bitOr any (getD cells i 0))
+  zeros-next h =
+      let d : drop i cells ≡ getD cells i 0 ∷ drop (i + 1) cells = rw (drop-cons cells i 0 h, add-one) in
+      record {
+        left = (
+          (λ a. let s = z .left .0 a in let q = subst Zeros d (s .1) in (or-both (s .0) (first q), rest q)),
+          (λ b. let n = or-none (b .0) in z .left .1 (n .0, subst Zeros (sym d) (whole (n .1) (b .1)))),
+        );
+      }
     where
       first : {x : ℕ} {l : List ℕ} → Zeros (x ∷ l) → x ≡ 0
       first {x} {l} q = cc
 
-  pub zeros-end : length cells ≤ i → (true ≡ true) ↔ Zeros (drop from cells)
-  zeros-end h = iff-true (z .left .1 (rw (drop-of-length-le cells h) refl))
+      rest : {x : ℕ} {l : List ℕ} → Zeros (x ∷ l) → Zeros l
+      rest {x} {l} q = cc
 
-pub ruleset zeroing = (needs, zeros-start, zeros-next, zeros-stop, zeros-end)
+      whole : {x : ℕ} {l : List ℕ} → x ≡ 0 → Zeros l → Zeros (x ∷ l)
+      whole {x} {l} e q = cc
+
+  pub zeros-end : length cells ≤ i → (eqb any 0 ≡ true) ↔ Zeros (drop from cells)
+  zeros-end h = (
+    (λ e. z .left .1 (eqb-true any 0 e, rw (drop-of-length-le cells h) refl)),
+    (λ a. eq-eqb any 0 (z .left .0 a .0)),
+  )
+
+pub ruleset zeroing = (needs, zeros-start, zeros-next, zeros-end)
 
 module _ {A : Type 0} (row : A → List ℕ) (Valid : A → Type 0) where
   -- no item: zeros alone

@@ -10,7 +10,7 @@ use Rattle.reading.specs.Pad.{pad}
 use Rattle.reading.proofs.Pads.{pad-get, length-pad}
 use Rattle.reading.proofs.Least.{lt-or-le}
 use Rattle.book.specs.Content.{Book}
-use Rattle.book.specs.Layout.{bookRow, numberAt}
+use Rattle.book.specs.Layout.{bookWidth, bookRow, numberAt}
 use Rattle.book_head.specs.Reading.{Before}
 use Rattle.books.specs.Rows.{bookRows, andThese}
 use Rattle.books.proofs.Laid.{rows-length, row-at}
@@ -26,10 +26,10 @@ abbrev pub noBook : Book
 noBook = record { dimensions = 0; lengths = []; lookup = 0; minimum = 0; delta = 0; width = 0; sequence = 0; multiplicands = [] }
 
 -- a number of book b's row that depends on the book alone
-module _ (n : ℕ) (bs : List Book) (room : 10 * length bs ≤ n) (column : ℕ) (f : Book → ℕ) (low : column < 10) (row : (e v : ℕ) (b : Book) → getD (bookRow e v b) column 0 ≡ f b) (empty : f noBook ≡ 0) where
+module _ (n : ℕ) (bs : List Book) (room : bookWidth * length bs ≤ n) (column : ℕ) (f : Book → ℕ) (low : column < bookWidth) (row : (e v : ℕ) (b : Book) → getD (bookRow e v b) column 0 ≡ f b) (empty : f noBook ≡ 0) where
   inside : (b : ℕ) → b < length bs → numberAt (pad n (bookRows none bs)) b column ≡ f (getD bs b noBook)
   inside b h =
-      pad-get n (bookRows none bs) (10 * b + column) (omega arith)
+      pad-get n (bookRows none bs) (bookWidth * b + column) (omega arith)
       ∙ row-at none bs b column noBook h low
       ∙ row (andThese none (take b bs) .entries) (andThese none (take b bs) .values) (getD bs b noBook)
 
@@ -37,9 +37,9 @@ module _ (n : ℕ) (bs : List Book) (room : 10 * length bs ≤ n) (column : ℕ)
   outside b h =
       let l = rows-length none bs in
       ⊎-elim
-      (λ (k : 10 * b + column < n). pad-get n (bookRows none bs) (10 * b + column) k ∙ List·getD-eq-default (bookRows none bs) 0 (omega arith))
-      (λ (k : n ≤ 10 * b + column). let m = length-pad n (bookRows none bs) in List·getD-eq-default (pad n (bookRows none bs)) 0 (omega arith))
-      (lt-or-le (10 * b + column) n)
+      (λ (k : bookWidth * b + column < n). pad-get n (bookRows none bs) (bookWidth * b + column) k ∙ List·getD-eq-default (bookRows none bs) 0 (omega arith))
+      (λ (k : n ≤ bookWidth * b + column). let m = length-pad n (bookRows none bs) in List·getD-eq-default (pad n (bookRows none bs)) 0 (omega arith))
+      (lt-or-le (bookWidth * b + column) n)
 
   pub column-is : (b : ℕ) → numberAt (pad n (bookRows none bs)) b column ≡ getD (map f bs) b 0
   column-is b =
@@ -52,7 +52,7 @@ module _ (n : ℕ) (bs : List Book) (room : 10 * length bs ≤ n) (column : ℕ)
       listed b = sym (List·getD-map f bs b noBook) ∙ ap (λ (d : ℕ). getD (map f bs) b d) empty
 
 -- THE LINK
-pub books-link : (n count : ℕ) (bs : List Book) → count ≡ length bs → 10 * length bs ≤ n → booksOf count (pad n (bookRows none bs)) ≡ booksKnown bs
+pub books-link : (n count : ℕ) (bs : List Book) → count ≡ length bs → bookWidth * length bs ≤ n → booksOf count (pad n (bookRows none bs)) ≡ booksKnown bs
 unfolding booksKnown bookRow
 books-link n count bs e room =
     λ j.

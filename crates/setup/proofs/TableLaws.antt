@@ -9,6 +9,7 @@ use mathlib.Core.Path.{_≡_, refl, sym, ap, _∙_}
 use lib.Dec.{leb}
 use lib.ListN.{length, replicate}
 use Rattle.limits.specs.declared.Limits.{Limits}
+use Rattle.book.specs.Layout.{booksNeed}
 use Rattle.setup.specs.Layout.{Tables, hasRoom, cleared, tables}
 
 module _ (limits : Limits) (c b l w m f r p a o : List ℕ) where
@@ -17,11 +18,11 @@ module _ (limits : Limits) (c b l w m f r p a o : List ℕ) where
   small0 h = rw (lt-leb _ _ h) refl
 
   module _ (h0 : 5 ≤ length c) where
-    pub small1 : length b < 2560 → false ≡ hasRoom limits (tables c b l w m f r p a o)
+    pub small1 : length b < booksNeed → false ≡ hasRoom limits (tables c b l w m f r p a o)
     unfolding hasRoom
     small1 h = rw (le-leb _ _ h0, lt-leb _ _ h) refl
 
-    module _ (h1 : 2560 ≤ length b) where
+    module _ (h1 : booksNeed ≤ length b) where
       pub small2 : {n : ℕ} → n ≡ limits .entries → length l < n → false ≡ hasRoom limits (tables c b l w m f r p a o)
       unfolding hasRoom
       small2 e h′ = let h : length l < limits .entries = omega arith in rw (le-leb _ _ h0, le-leb _ _ h1, lt-leb _ _ h) refl
@@ -89,7 +90,7 @@ and-true false b e = let z : _≡_ {A = ℕ} 0 1 = cc in absurd (omega arith)
 
 pub record RoomParts (limits : Limits) (t : Tables) : Type 0 where
   pub counts : 5 ≤ length (t .counts)
-  pub books : 2560 ≤ length (t .books)
+  pub books : booksNeed ≤ length (t .books)
   pub lengths : limits .entries ≤ length (t .lengths)
   pub codewords : limits .entries ≤ length (t .codewords)
   pub multiplicands : limits .multiplicands ≤ length (t .multiplicands)

@@ -7,6 +7,7 @@ use lib.ListN.{length, replicate}
 use Rattle.reading.specs.Lists.{rows}
 use Rattle.reading.specs.Pad.{pad}
 use Rattle.limits.specs.declared.Limits.{Limits}
+use Rattle.book.specs.Layout.{booksNeed}
 use Rattle.books.specs.Rows.{bookRows, allLengths, allCodewords, allMultiplicands}
 use Rattle.floors.specs.Layout.{floorRow}
 use Rattle.residues.specs.Layout.{headRow, planTable}
@@ -47,7 +48,7 @@ layout c =
 unfoldable pub hasRoom : Limits → Tables → Bool
 hasRoom limits t =
     leb 5 (length (t .counts))
-    && (leb 2560 (length (t .books))
+    && (leb booksNeed (length (t .books))
     && (leb (limits .entries) (length (t .lengths))
     && (leb (limits .entries) (length (t .codewords))
     && (leb (limits .multiplicands) (length (t .multiplicands))

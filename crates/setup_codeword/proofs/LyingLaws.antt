@@ -9,10 +9,10 @@ use Rattle.reading.specs.Lists.{rows}
 use Rattle.reading.specs.Pad.{pad}
 use Rattle.reading.proofs.Pads.{pad-get}
 use Rattle.limits.specs.declared.Limits.{Limits}
-use Rattle.codeword_assignment.specs.Book.{codewords}
+use Rattle.codeword_assignment.specs.Book.{codewords, loneMark}
 use Rattle.codebook.specs.Book.{Codebook}
 use Rattle.book.specs.Content.{Book}
-use Rattle.book.specs.Layout.{bookRow, numberAt, entriesAt, firstEntryAt}
+use Rattle.book.specs.Layout.{bookWidth, bookRow, numberAt, entriesAt, firstEntryAt, loneAt}
 use Rattle.book_head.specs.Reading.{Before}
 use Rattle.books.specs.Reading.{andThis}
 use Rattle.books.specs.Rows.{bookRows, allLengths, allCodewords, andThese}
@@ -120,12 +120,12 @@ module _ {limits : Limits} {channels : ℕ} {t : Tables} (sound : Sound limits c
     abbrev own : Book
     own = getD items b noBook
 
-    number : (column : ℕ) → column < 10 → numberAt (t .books) b column ≡ getD (bookRow (andThese start (take b items) .entries) (andThese start (take b items) .values) own) column 0
+    number : (column : ℕ) → column < bookWidth → numberAt (t .books) b column ≡ getD (bookRow (andThese start (take b items) .entries) (andThese start (take b items) .values) own) column 0
     number column low =
         let r = room-parts limits t (sound .room) .books in
         let c = sound-valid sound .book-count .high in
-        ap (λ (l : List ℕ). getD l (10 * b + column) 0) books-are
-        ∙ pad-get (length (t .books)) (bookRows start items) (10 * b + column) (omega arith)
+        ap (λ (l : List ℕ). getD l (bookWidth * b + column) 0) books-are
+        ∙ pad-get (length (t .books)) (bookRows start items) (bookWidth * b + column) (omega arith)
         ∙ row-at start items b column noBook h low
 
     entries-are : entriesAt (t .books) b ≡ length (own .lengths)
@@ -135,6 +135,10 @@ module _ {limits : Limits} {channels : ℕ} {t : Tables} (sound : Sound limits c
     first-is : firstEntryAt (t .books) b ≡ length (allLengths (take b items))
     unfolding bookRow
     first-is = let e = these-entries start (take b items) in let n = number 2 (omega arith) in omega arith
+
+    lone-is : loneAt (t .books) b ≡ loneMark (own .lengths)
+    unfolding bookRow
+    lone-is = number 10 (omega arith)
 
     first-word : firstEntryAt (t .books) b ≡ length (allCodewords (take b items))
     first-word = first-is ∙ sym (codewords-long (take b items))
@@ -181,4 +185,5 @@ module _ {limits : Limits} {channels : ℕ} {t : Tables} (sound : Sound limits c
           words-fit = omega arith;
           book = subst (λ (ls : List ℕ). Codebook ls (entriesOf (t .books) b (t .codewords))) (sym own-lengths)
               (subst (λ (ws : List ℕ). Codebook (own .lengths) ws) (sym own-words) whole);
+          lone = lone-is ∙ ap loneMark (sym own-lengths);
         }

@@ -11,9 +11,9 @@ use Rattle.limits.specs.declared.Limits.{Limits}
 use Rattle.identification.specs.declared.Identity.{Identity}
 use Rattle.codespace.specs.Ledger.{answers}
 use Rattle.codespace.specs.Claims.{Balanced}
-use Rattle.codeword_assignment.specs.Book.{used, isLone, freeAfter, codewords, verdict, Begins}
+use Rattle.codeword_assignment.specs.Book.{used, isLone, firstUsed, freeAfter, codewords, verdict, Begins}
 use Rattle.codeword_assignment.specs.declared.book.Assigned.the-variants.{Accepted}
-use Rattle.codebook.specs.Codeword.{bitsAt, firstUsed}
+use Rattle.codebook.specs.Codeword.{bitsAt}
 use Rattle.setup.specs.Content.{Setup}
 use Rattle.setup.specs.Layout.{Tables}
 use Rattle.setup.specs.Call.{setupOf, setupCall}

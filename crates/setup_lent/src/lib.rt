@@ -34,7 +34,7 @@ pub fn have_room(
     if counts.len() < 5 {
         return false;
     }
-    if books.len() < 2560 {
+    if books.len() < book::NEED {
         return false;
     }
     if lengths.len() < wide(limits.entries) {

@@ -11,6 +11,7 @@ use Rattle.reading.specs.Stand.{Each, Stands}
 use Rattle.reading.proofs.Stands.{rows-length, stands-same}
 use Rattle.limits.specs.declared.Limits.{Limits}
 use Rattle.book.specs.Content.{Book}
+use Rattle.book.specs.Layout.{booksNeed}
 use Rattle.book_head.specs.Answers.{totals}
 use Rattle.books.specs.Rows.{bookRows}
 use Rattle.book_tables.specs.Stand.{Asked, BooksStand}
@@ -71,7 +72,7 @@ each-residues books [] v = tt
 each-residues books (r ∷ rs) v = (v .0, each-residues books rs (v .1))
 
 -- the books as the table has them are the books of the content
-pub books-are : (count : ℕ) (t : List ℕ) (bs : List Book) → count ≡ length bs → count ≤ 256 → 2560 ≤ length t → t ≡ pad (length t) (bookRows (totals 0 0) bs)
+pub books-are : (count : ℕ) (t : List ℕ) (bs : List Book) → count ≡ length bs → count ≤ 256 → booksNeed ≤ length t → t ≡ pad (length t) (bookRows (totals 0 0) bs)
     → booksOf count t ≡ booksKnown bs
 books-are count t bs e few room w = ap (booksOf count) w ∙ books-link (length t) count bs e (omega arith)
 

@@ -19,6 +19,9 @@ wide-requires-2 c κs = search needs
 add-end : tie.Need-add-end
 add-end c = search needs
 
+lone-requires : tie.Need-lone-requires
+lone-requires c κs = search needs
+
 sub-read-codeword : tie.Need-sub-read-codeword
 sub-read-codeword c = search needs
 
@@ -41,10 +44,14 @@ part-read-codeword-end-2 : tie.Need-part-read-codeword-end-2
 part-read-codeword-end-2 c = search needs
 
 read-codeword-requires : tie.Need-read-codeword-requires
-read-codeword-requires c κs = asked (c .before .before .before .before .before .before .before .before .before .before .pre) (c .before .before .before .before .wide .ensures) (c .before .before .before .before .before .first-entry .ensures) (c .before .before .wide2 .ensures) (c .before .before .before .entries .ensures)
+read-codeword-requires c κs =
+    let e = c .before .before in
+    asked (e .before .before .before .before .before .before .before .before .before .pre) (e .before .before .before .wide .ensures) (e .before .before .before .before .first-entry .ensures) (e .before .wide2 .ensures) (e .before .before .entries .ensures) (e .lone .ensures)
 
 returns : tie.Need-returns
-returns c = read (c .before .before .before .before .before .before .before .before .before .before .before .pre) (c .before .before .before .before .before .wide .ensures) (c .before .before .before .before .before .before .first-entry .ensures) (c .before .before .before .wide2 .ensures) (c .before .before .before .before .entries .ensures) _ _ _ (c .read-codeword .ensures)
+returns c =
+    let e = c .before .before .before in
+    read (e .before .before .before .before .before .before .before .before .before .pre) (e .before .before .before .wide .ensures) (e .before .before .before .before .first-entry .ensures) (e .before .wide2 .ensures) (e .before .before .entries .ensures) (e .lone .ensures) _ _ _ (c .read-codeword .ensures)
 
 pub read-entry-spec : {M : Type 1} → statement M
 read-entry-spec =
@@ -55,6 +62,7 @@ read-entry-spec =
     entries-requires
     wide-requires-2
     add-end
+    lone-requires
     sub-read-codeword
     part-read-codeword-start
     part-read-codeword-end

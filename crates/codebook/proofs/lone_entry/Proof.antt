@@ -1,5 +1,5 @@
 -- `codebook::lone_entry` meets its contract, by Lone. Assumes nothing.
-use Rattle.codebook.proofs.Lone.{lone-laws}
+use Rattle.codebook.proofs.Lone.{lone-cut, lone-laws}
 use borrow.Author.Needs.{needs}
 use Rattle.codebook.proofs.lone_entry.Statement.{statement}
 use Rattle.codebook.proofs.lone_entry.Tie as tie
@@ -13,14 +13,8 @@ enum-known-z c = search needs
 enum-known-next : tie.Need-enum-known-next
 enum-known-next c = search needs
 
-first-used-requires : tie.Need-first-used-requires
-first-used-requires c κs = search needs
-
-cast-t9 : tie.Need-cast-t9
-cast-t9 c = search needs
-
 returns : tie.Need-returns
-returns c = search lone-laws
+returns c = lone-cut _ _ _ (c .before .before .before .field .ensures) (c .before .z .given .1)
 
 returns-2 : tie.Need-returns-2
 returns-2 c = search lone-laws
@@ -32,7 +26,5 @@ lone-entry-spec =
     field-requires
     enum-known-z
     enum-known-next
-    first-used-requires
-    cast-t9
     returns
     returns-2)

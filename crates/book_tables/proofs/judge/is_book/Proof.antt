@@ -28,11 +28,17 @@ is-coded-requires c κs = search (needs, lengths-inside, words-inside)
 returns-4 : tie.Need-returns-4
 returns-4 c = search book-laws
 
-is-fit-requires : tie.Need-is-fit-requires
-is-fit-requires c κs = search (needs, values-inside, width-small)
+is-marked-requires : tie.Need-is-marked-requires
+is-marked-requires c κs = search (needs, lengths-inside)
 
 returns-5 : tie.Need-returns-5
 returns-5 c = search book-laws
+
+is-fit-requires : tie.Need-is-fit-requires
+is-fit-requires c κs = search (needs, values-inside, width-small)
+
+returns-6 : tie.Need-returns-6
+returns-6 c = search book-laws
 
 pub is-book-spec : {M : Type 1} → statement M
 is-book-spec =
@@ -46,5 +52,7 @@ is-book-spec =
     returns-3
     is-coded-requires
     returns-4
+    is-marked-requires
+    returns-5
     is-fit-requires
-    returns-5)
+    returns-6)

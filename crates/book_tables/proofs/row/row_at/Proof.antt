@@ -34,6 +34,9 @@ number-requires-9 c κs = search needs
 number-requires-10 : tie.Need-number-requires-10
 number-requires-10 c κs = search needs
 
+number-requires-11 : tie.Need-number-requires-11
+number-requires-11 c κs = search needs
+
 returns : tie.Need-returns
 returns c = search (needs, row-made)
 
@@ -51,4 +54,5 @@ row-at-spec =
     number-requires-8
     number-requires-9
     number-requires-10
+    number-requires-11
     returns)

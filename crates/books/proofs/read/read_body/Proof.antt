@@ -13,6 +13,9 @@ enum-known-z c = search needs
 enum-known-next : tie.Need-enum-known-next
 enum-known-next c = search needs
 
+lone-mark-at-requires : tie.Need-lone-mark-at-requires
+lone-mark-at-requires c κs = search needs
+
 finish-book-requires : tie.Need-finish-book-requires
 finish-book-requires c κs = search needs
 
@@ -38,7 +41,12 @@ same-length-6 : tie.Need-same-length-6
 same-length-6 c = search needs
 
 returns-2 : tie.Need-returns-2
-returns-2 c = (body-whole _ _ _ _ _ _ _ _ _ _ _ _ (c .before .before .before .before .before .before .before .before .before .before .before .before .before .before .read-entries-at .ensures) (c .before .before .before .before .before .before .before .before .next .given .1) (c .before .before .before .before .finish-book .ensures .0) (c .before .before .before .before .finish-book .ensures .1 .0), (search needs, c .before .before .before .before .finish-book .ensures .1 .1))
+returns-2 c =
+    let f = c .before .before .before .before in
+    let l = f .before .before .before in
+    let n = l .before .before .before in
+    let e = n .before .before .before .before .before .before in
+    (body-whole _ _ _ _ _ _ _ _ _ _ _ _ (e .read-entries-at .ensures) (n .next .given .1) (e .before .before .before .before .before .before .before .before .pre .lengths-fit) (l .lone-mark-at .ensures) (f .finish-book .ensures .0) (f .finish-book .ensures .1 .0), (search needs, f .finish-book .ensures .1 .1))
 
 pub read-body-spec : {M : Type 1} → statement M
 read-body-spec =
@@ -47,6 +55,7 @@ read-body-spec =
     read-entries-at-requires
     enum-known-z
     enum-known-next
+    lone-mark-at-requires
     finish-book-requires
     same-length
     same-length-2

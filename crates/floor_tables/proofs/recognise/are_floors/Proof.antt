@@ -16,11 +16,11 @@ are-rows-requires c κs = search needs
 returns-2 : tie.Need-returns-2
 returns-2 c = search table-rows
 
-mul-are-below : tie.Need-mul-are-below
-mul-are-below c = search needs
+mul-zeros-u16 : tie.Need-mul-zeros-u16
+mul-zeros-u16 c = search needs
 
-are-below-requires : tie.Need-are-below-requires
-are-below-requires c κs = search needs
+zeros-u16-requires : tie.Need-zeros-u16-requires
+zeros-u16-requires c κs = search needs
 
 returns-3 : tie.Need-returns-3
 returns-3 c = search table-end
@@ -33,6 +33,6 @@ are-floors-spec =
     long-requires
     are-rows-requires
     returns-2
-    mul-are-below
-    are-below-requires
+    mul-zeros-u16
+    zeros-u16-requires
     returns-3)

@@ -7,22 +7,19 @@ use Rattle.reading.proofs.zeros.zeros_u16.Statement.{statement}
 use Rattle.reading.proofs.zeros.zeros_u16.Tie as tie
 
 abbrev Inv-loop : tie.InvT-loop
-Inv-loop buffer from i₀ i = Zeroing buffer from i
+Inv-loop buffer from any₀ i₀ any i = Zeroing buffer from i any
 
 abbrev μ-loop : tie.MeasureT-loop
-μ-loop buffer from i₀ i = length buffer - i
+μ-loop buffer from any₀ i₀ any i = length buffer - i
 
 loop-holds : tie.Need-loop-holds Inv-loop μ-loop
 loop-holds c = search zeroing
 
-mul-if1 : tie.Need-mul-if1 Inv-loop μ-loop
-mul-if1 c = search needs
+mul-any : tie.Need-mul-any Inv-loop μ-loop
+mul-any c = search needs
 
-shared-slice-read-if1 : tie.Need-shared-slice-read-if1 Inv-loop μ-loop
-shared-slice-read-if1 c = search needs
-
-returns : tie.Need-returns Inv-loop μ-loop
-returns c = search zeroing
+shared-slice-read-any : tie.Need-shared-slice-read-any Inv-loop μ-loop
+shared-slice-read-any c = search needs
 
 add-i : tie.Need-add-i Inv-loop μ-loop
 add-i c = search needs
@@ -33,8 +30,8 @@ loop-less c = search needs
 loop-again : tie.Need-loop-again Inv-loop μ-loop
 loop-again c = search zeroing
 
-returns-2 : tie.Need-returns-2 Inv-loop μ-loop
-returns-2 c = search zeroing
+returns : tie.Need-returns Inv-loop μ-loop
+returns c = search zeroing
 
 pub zeros-u16-spec : {M : Type 1} → statement M
 zeros-u16-spec =
@@ -43,10 +40,9 @@ zeros-u16-spec =
     Inv-loop
     μ-loop
     loop-holds
-    mul-if1
-    shared-slice-read-if1
-    returns
+    mul-any
+    shared-slice-read-any
     add-i
     loop-less
     loop-again
-    returns-2)
+    returns)

@@ -1,4 +1,4 @@
--- `codebook::first_used` meets its contract, by Lone. Assumes nothing.
+-- `book::mark::first_used` meets its contract, by the laws of a sole used entry. Assumes nothing.
 use Prim.Native.Nat.{ℕ, _≤_, _<_, _-_}
 use mathlib.Core.Bool.{false}
 use mathlib.Core.Path.{_≡_, sym}
@@ -6,9 +6,9 @@ use native.Mathlib.Omega.{arith}
 use lib.ListN.{length}
 use borrow.Author.Needs.{needs}
 use Rattle.codeword_assignment.specs.Book.{isUsed}
-use Rattle.codebook.proofs.Lone.{used-passed, lone-there, first-is}
-use Rattle.codebook.proofs.first_used.Statement.{statement}
-use Rattle.codebook.proofs.first_used.Tie as tie
+use Rattle.codeword_assignment.proofs.Lone.{used-passed, lone-there, first-is}
+use Rattle.book.proofs.mark.first_used.Statement.{statement}
+use Rattle.book.proofs.mark.first_used.Tie as tie
 
 abbrev Inv-loop : tie.InvT-loop
 Inv-loop lengths entry₀ entry = (entry ≤ length lengths) × ((u : ℕ) → u < entry → isUsed lengths u ≡ false)
