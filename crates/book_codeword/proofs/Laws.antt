@@ -11,16 +11,16 @@ use Rattle.codebook.specs.Claims.{Settled}
 use Rattle.codebook.specs.Codeword.{codeword}
 use Rattle.bits.specs.Cursors.{outcome}
 use Rattle.bits.specs.declared.Field.{Field}
-use Rattle.book_codeword.specs.Lying.{entriesOf, BookLies}
+use Rattle.book_codeword.specs.Stored.{entriesOf, BookStored}
 
 -- first and count as the code holds them
-module _ {books lengths words : List ℕ} {b : ℕ} (l : BookLies books lengths words b) {f f′ n n′ : ℕ} (e₁ : f′ ≡ f) (e₂ : f ≡ firstEntryAt books b) (e₃ : n′ ≡ n)
+module _ {books lengths codewords : List ℕ} {b : ℕ} (l : BookStored books lengths codewords b) {f f′ n n′ : ℕ} (e₁ : f′ ≡ f) (e₂ : f ≡ firstEntryAt books b) (e₃ : n′ ≡ n)
     (e₄ : n ≡ entriesAt books b) {m : ℕ} (e₅ : m ≡ loneAt books b) where
   part-is : (cells : List ℕ) → take (f′ + n′ - f′) (drop f′ cells) ≡ entriesOf books b cells
   part-is cells = let h : f′ + n′ - f′ ≡ n′ = omega arith in rw (h, e₁, e₂, e₃, e₄)
 
-  pub asked : Codebook (take (f′ + n′ - f′) (drop f′ lengths)) (take (f′ + n′ - f′) (drop f′ words)) × (m ≡ loneMark (take (f′ + n′ - f′) (drop f′ lengths)))
-  asked = rw (part-is lengths, part-is words) (l .book, e₅ ∙ l .lone)
+  pub asked : Codebook (take (f′ + n′ - f′) (drop f′ lengths)) (take (f′ + n′ - f′) (drop f′ codewords)) × (m ≡ loneMark (take (f′ + n′ - f′) (drop f′ lengths)))
+  asked = rw (part-is lengths, part-is codewords) (l .book, e₅ ∙ l .lone)
 
   pub read : (s : List ℕ) (k : ℕ) (r : Field)
       → (outcome r ≡ codeword (take (f′ + n′ - f′) (drop f′ lengths)) s k) × Settled (take (f′ + n′ - f′) (drop f′ lengths))

@@ -5,7 +5,7 @@ ghost use mathlib.Core.Path.{_≡_};
 ghost use Rattle.bits.specs.Cursors.{position, outcome};
 ghost use Rattle.codebook.specs.Codeword.{codeword};
 ghost use Rattle.codebook.specs.Claims.{Settled};
-ghost use Rattle.book_codeword.specs.Lying.{entriesOf, BookLies};
+ghost use Rattle.book_codeword.specs.Stored.{entriesOf, BookStored};
 
 fn wide(x: u32) -> usize
     ensures { λ r. ⌜ r ≡ x ⌝ }
@@ -20,14 +20,14 @@ pub fn read_entry(
     book: u32,
     books: &[u32],
     lengths: &[u8],
-    words: &[u32],
+    codewords: &[u32],
 ) -> Field
-    requires { ⌜ BookLies (now books) (now lengths) (now words) book ⌝ }
+    requires { ⌜ BookStored (now books) (now lengths) (now codewords) book ⌝ }
     ensures { λ r. ⌜ outcome r ≡ codeword (entriesOf (now (books .entry)) book (now (lengths .entry))) (now (packet .entry)) (position from) ⌝ }
     ensures { λ _. ⌜ Settled (entriesOf (now (books .entry)) book (now (lengths .entry))) ⌝ }
 {
     let first = wide(book::first_entry(books, book));
     let end = first + wide(book::entries(books, book));
     let lone = book::lone(books, book);
-    codebook::read_codeword(packet, from, lone, &lengths[first..end], &words[first..end])
+    codebook::read_codeword(packet, from, lone, &lengths[first..end], &codewords[first..end])
 }

@@ -16,14 +16,14 @@ use Rattle.bits.specs.declared.Step.{Step}
 use Rattle.bits.specs.declared.Step.the-variants.{Next, Refused}
 use Rattle.bits.specs.Cursors.{position, Wrote}
 use Rattle.bits.proofs.Steps.{wrote-bad, wrote-ok, wrote-refused, wrote-next}
-use Rattle.codeword_assignment.specs.Book.{verdict, assigned, written, codewords}
+use Rattle.codeword_assignment.specs.Book.{verdict, assigned, written, ledgerCodewords}
 use Rattle.codeword_assignment.specs.declared.book.Assigned.{Assigned}
 use Rattle.codeword_assignment.specs.declared.book.Assigned.the-variants.{Accepted, Overspecified, Underspecified, TooShort}
 use Rattle.codeword_assignment.proofs.Laws.{codewords-length}
 use Rattle.book_lengths.proofs.Verdict.{accepted-meets, overspecified-breaks7, underspecified-breaks8, verdict-not-short}
 use Rattle.filling.proofs.Written.{mapped-mapped, wrote-mapped, wrote-as, part-back}
 use Rattle.book_lengths.specs.Reading.{lengths, entered}
-use Rattle.book_lengths.specs.Parts.{entries, coded, laid}
+use Rattle.book_lengths.specs.Parts.{entries, coded, stored}
 
 abbrev at : ℕ → Cursor → Refusal
 at n c = record { number = n; place = c }
@@ -50,14 +50,14 @@ module _ (place next : Cursor) (ls : List ℕ) (m : ℕ) {a : Assigned} (p : a �
   pub entered-short : a ≡ TooShort → (u : List ℕ × List ℕ) → Wrote (both (position place) ls (position next)) (Refused (at 17 place)) u
   entered-short f u = absurd (verdict-not-short ls (verdict-is ls m a p long ∙ f))
 
-  words-are : {words : List ℕ} → a ≡ Accepted → words ≡ written a ls m → words ≡ codewords ls
-  words-are f e = e ∙ ap (λ (x : Assigned). written x ls m) f ∙ pad-whole m (codewords ls) (codewords-length ls ∙ long)
+  codewords-are : {codewords : List ℕ} → a ≡ Accepted → codewords ≡ written a ls m → codewords ≡ ledgerCodewords ls
+  codewords-are f e = e ∙ ap (λ (x : Assigned). written x ls m) f ∙ pad-whole m (ledgerCodewords ls) (codewords-length ls ∙ long)
 
-  pub entered-accepted : {words : List ℕ} → a ≡ Accepted → words ≡ written a ls m → Wrote (both (position place) ls (position next)) (Next next) (ls, words)
+  pub entered-accepted : {codewords : List ℕ} → a ≡ Accepted → codewords ≡ written a ls m → Wrote (both (position place) ls (position next)) (Next next) (ls, codewords)
   unfolding entered mapped
-  entered-accepted {words} f e =
+  entered-accepted {codewords} f e =
       let v = accepted-meets ls (verdict-is ls m a p long ∙ f) in
-      let g : words ≡ codewords ls = words-are f e in
+      let g : codewords ≡ ledgerCodewords ls = codewords-are f e in
       wrote-next (rw (v .0, v .1, g))
 
 -- the lengths, read and entered
@@ -72,11 +72,11 @@ module _ (place : Cursor) (n : ℕ) (s : List ℕ) (k : ℕ) {r : Step} {ls : Li
   entries-entered q w₂ = rw (wrote-ok w q) w₂
 
 -- both laid out in the tables that lent the parts
-pub entries-laid : (place n : ℕ) (s : List ℕ) (k first count : ℕ) (lens wds : List ℕ) {r : Step} {ls ws : List ℕ} → Wrote (mapped coded (entries place n s k)) r (ls, ws)
+pub entries-stored : (place n : ℕ) (s : List ℕ) (k first count : ℕ) (lens wds : List ℕ) {r : Step} {ls ws : List ℕ} → Wrote (mapped coded (entries place n s k)) r (ls, ws)
     → n ≡ count → length ls ≡ count → length ws ≡ count → first + count ≤ length lens → first + count ≤ length wds
-    → Wrote (mapped (laid lens wds first) (entries place count s k)) r
+    → Wrote (mapped (stored lens wds first) (entries place count s k)) r
     (take first lens ++ (ls ++ drop (first + count - first) (drop first lens)), take first wds ++ (ws ++ drop (first + count - first) (drop first wds)))
-entries-laid place n s k first count lens wds {r} {ls} {ws} w e el ew fl fw =
+entries-stored place n s k first count lens wds {r} {ls} {ws} w e el ew fl fw =
     let d : first + count - first ≡ count = omega arith in
     let b₁ : sets lens first ls ≡ take first lens ++ (ls ++ drop (first + count - first) (drop first lens))
     = part-back lens first ls (omega arith) ∙ ap (λ (x : ℕ). take first lens ++ (ls ++ drop x (drop first lens))) (el ∙ sym d) in
@@ -84,7 +84,7 @@ entries-laid place n s k first count lens wds {r} {ls} {ws} w e el ew fl fw =
     = part-back wds first ws (omega arith) ∙ ap (λ (x : ℕ). take first wds ++ (ws ++ drop x (drop first wds))) (ew ∙ sym d) in
     wrote-as
     (mapped-mapped (λ (x : List ℕ × List ℕ). (sets lens first (x .0), sets wds first (x .1))) coded (entries place n s k)
-    ∙ ap (λ (x : ℕ). mapped (laid lens wds first) (entries place x s k)) e)
+    ∙ ap (λ (x : ℕ). mapped (stored lens wds first) (entries place x s k)) e)
     (λ j. (b₁ j, b₂ j))
     (wrote-mapped (λ (x : List ℕ × List ℕ). (sets lens first (x .0), sets wds first (x .1))) w)
 

@@ -30,7 +30,7 @@ use Rattle.bits.proofs.Ilogs.{ilog-places}
 use Rattle.bits.proofs.Steps.{wrote-refused, wrote-next}
 use Rattle.book_lengths.specs.Reading.{entryLength, runs, lengths}
 use Rattle.book_lengths.specs.Parts.{runNumber, unordered, ordered}
-use Rattle.filling.proofs.Filling.{behind, behind-nil, behind-append, behind-bad, behind-none, take-sets}
+use Rattle.filling.proofs.Filling.{after, after-nil, after-append, after-bad, after-none, take-sets}
 
 abbrev at : ℕ → Cursor → Refusal
 at n c = record { number = n; place = c }
@@ -55,19 +55,19 @@ module _ (sparse : ℕ) (s : List ℕ) (k : Cursor) where
   unfolding entryLength
   entry-dense r n e = rw (eq-eqb _ _ n) e
 
-  module _ (behind-flag : sparse ≡ 0 → ⊥) {r : Field} (p : outcome r ≡ field 1 s (position k)) where
+  module _ (after-flag : sparse ≡ 0 → ⊥) {r : Field} (p : outcome r ≡ field 1 s (position k)) where
     pub flag-cut : {z : Refusal} → r ≡ Refused z → outcome (Refused z) ≡ entryLength sparse s (position k)
     unfolding entryLength outcome
-    flag-cut q = rw (ne-eqb _ _ behind-flag, refused-is p q)
+    flag-cut q = rw (ne-eqb _ _ after-flag, refused-is p q)
 
     module _ {flag : ℕ} {n : Cursor} (q : r ≡ Value flag n) where
       pub flag-unused : flag ≡ 0 → outcome (Value 0 n) ≡ entryLength sparse s (position k)
       unfolding entryLength outcome
-      flag-unused e = rw (ne-eqb _ _ behind-flag, value-is p q, eq-eqb _ _ e)
+      flag-unused e = rw (ne-eqb _ _ after-flag, value-is p q, eq-eqb _ _ e)
 
       pub flag-used : (flag ≡ 0 → ⊥) → (r₁ : Field) → outcome r₁ ≡ mapped suc (field 5 s (position n)) → outcome r₁ ≡ entryLength sparse s (position k)
       unfolding entryLength
-      flag-used e r₁ p₁ = rw (ne-eqb _ _ behind-flag, value-is p q, ne-eqb _ _ e) p₁
+      flag-used e r₁ p₁ = rw (ne-eqb _ _ after-flag, value-is p q, ne-eqb _ _ e) p₁
 
 -- a length is at most 32
 used-small : (s : List ℕ) (k : ℕ) {v n : ℕ} → mapped suc (field 5 s k) ≡ ok (v, n) → v ≤ 32
@@ -173,8 +173,8 @@ module _ (place : ℕ) (s : List ℕ) (turns u : ℕ) (next : turns ≡ suc u) (
       unfolding runs runNumber
       runs-refused q = rw (next, ne-eqb left 0 e, le-leb bits 32 l, q)
 
-      runs-more : {n j : ℕ} → runNumber left s k ≡ ok (n, j) → runs place turns bits left s k ≡ behind (replicate n bits) (runs place u (bits + 1) (left - n) s j)
-      unfolding runs runNumber behind
+      runs-more : {n j : ℕ} → runNumber left s k ≡ ok (n, j) → runs place turns bits left s k ≡ after (replicate n bits) (runs place u (bits + 1) (left - n) s j)
+      unfolding runs runNumber after
       runs-more q = rw (next, ne-eqb left 0 e, le-leb bits 32 l, q)
 
 -- THE TURNS ARE ENOUGH: one turn more changes nothing, where as many are left as it takes to pass 32
@@ -210,7 +210,7 @@ module _ (place : Cursor) (first : ℕ) (s : List ℕ) (k : ℕ) (entry : List �
     pub within : i ≤ length entry
     pub long : length part ≡ length entry
     pub high : bits ≤ 33
-    pub rest : behind (take i part) (runs (position place) (34 + first - bits) bits (length entry - i) s (position c)) ≡ whole
+    pub rest : after (take i part) (runs (position place) (34 + first - bits) bits (length entry - i) s (position c)) ≡ whole
 
   module _ {c : Cursor} {bits : ℕ} {part : List ℕ} {i : ℕ} (w : Running c bits part i) where
     here : (r : Field) → outcome r ≡ runNumber (length part - i) s (position c) → outcome r ≡ runNumber (length entry - i) s (position c)
@@ -224,7 +224,7 @@ module _ (place : Cursor) (first : ℕ) (s : List ℕ) (k : ℕ) (entry : List �
         let e = w .long in
         wrote-next
         (sym (w .rest)
-        ∙ behind-none (take i part) (runs-none (position place) s (34 + first - bits) (33 + first - bits) turn bits (length entry - i) (position c) (omega arith))
+        ∙ after-none (take i part) (runs-none (position place) s (34 + first - bits) (33 + first - bits) turn bits (length entry - i) (position c) (omega arith))
         ∙ ap (λ (l : List ℕ). ok (l, position c)) (take-all i part (omega arith)))
 
     module _ (h : i < length entry) where
@@ -235,14 +235,14 @@ module _ (place : Cursor) (first : ℕ) (s : List ℕ) (k : ℕ) (entry : List �
       running-long l u =
           wrote-refused u
           (sym (w .rest)
-          ∙ behind-bad (take i part) (runs-long (position place) s (34 + first - bits) (33 + first - bits) turn bits (length entry - i) (position c) some-left l))
+          ∙ after-bad (take i part) (runs-long (position place) s (34 + first - bits) (33 + first - bits) turn bits (length entry - i) (position c) some-left l))
 
       module _ (l : bits ≤ 32) {r : Field} (p : outcome r ≡ runNumber (length part - i) s (position c)) where
         pub running-refused : {z : Refusal} → r ≡ Refused z → (u : List ℕ) → Wrote whole (S.Refused z) u
         running-refused q u =
             wrote-refused u
             (sym (w .rest)
-            ∙ behind-bad (take i part)
+            ∙ after-bad (take i part)
             (runs-refused (position place) s (34 + first - bits) (33 + first - bits) turn bits (length entry - i) (position c) some-left l (refused-is (here r p) q)))
 
         module _ {n : ℕ} {c′ : Cursor} (q : r ≡ Value n c′) where
@@ -264,8 +264,8 @@ module _ (place : Cursor) (first : ℕ) (s : List ℕ) (k : ℕ) (entry : List �
                 high = omega arith;
                 rest =
                     rw (e, t, f, d)
-                    (sym (behind-append (take i part) (replicate n bits) (runs (position place) (33 + first - bits) (bits + 1) (length entry - i - n) s (position c′)))
-                    ∙ ap (behind (take i part))
+                    (sym (after-append (take i part) (replicate n bits) (runs (position place) (33 + first - bits) (bits + 1) (length entry - i - n) s (position c′)))
+                    ∙ ap (after (take i part))
                     (sym (runs-more (position place) s (34 + first - bits) (33 + first - bits) turn bits (length entry - i) (position c) some-left l (value-is (here r p) q)))
                     ∙ w .rest);
               }
@@ -274,7 +274,7 @@ pub running-start : (place : Cursor) (first : ℕ) (s : List ℕ) (c : Cursor) (
 running-start place first s c entry h =
     let e : 34 + first - (first + 1) ≡ 33 = omega arith in
     let f : length entry - 0 ≡ length entry = omega arith in
-    record { within = omega arith; long = refl; high = omega arith; rest = rw (e, f) (behind-nil _) }
+    record { within = omega arith; long = refl; high = omega arith; rest = rw (e, f) (after-nil _) }
 
 -- the flags in front
 module _ (n : ℕ) (s : List ℕ) (k : Cursor) {r : Field} (p : outcome r ≡ field 1 s (position k)) where

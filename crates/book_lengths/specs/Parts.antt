@@ -7,7 +7,7 @@ use Rattle.reading.specs.Reader.{Reader, judged, many}
 use Rattle.bits.specs.Field.{field}
 use Rattle.bits.specs.Ilog.{ilog}
 use Rattle.rules.specs.Rules as Rule
-use Rattle.codeword_assignment.specs.Book.{codewords}
+use Rattle.codeword_assignment.specs.Book.{ledgerCodewords}
 use Rattle.book_lengths.specs.Reading.{entryLength, runs, lengths, entered}
 
 -- the number of a run's entries
@@ -27,8 +27,8 @@ entries place count s k = then (lengths place count s k) (λ ls. entered place (
 
 -- lengths with their codewords
 abbrev pub coded : List ℕ → List ℕ × List ℕ
-coded ls = (ls, codewords ls)
+coded ls = (ls, ledgerCodewords ls)
 
 -- lengths laid out: in their table from a place on, and their codewords in theirs
-abbrev pub laid : List ℕ → List ℕ → ℕ → List ℕ → List ℕ × List ℕ
-laid lengths words first ls = (sets lengths first ls, sets words first (codewords ls))
+abbrev pub stored : List ℕ → List ℕ → ℕ → List ℕ → List ℕ × List ℕ
+stored lengths codewords first ls = (sets lengths first ls, sets codewords first (ledgerCodewords ls))

@@ -12,14 +12,14 @@ ghost use Rattle.reading.specs.Outcome.{ok};
 ghost use Rattle.reading.specs.Reader.{mapped};
 ghost use Rattle.bits.specs.Cursors.{position, Wrote};
 ghost use Rattle.book_lengths.specs.Reading.{entered};
-ghost use Rattle.book_lengths.specs.Parts.{entries, coded, laid};
+ghost use Rattle.book_lengths.specs.Parts.{entries, coded, stored};
 
 // Lengths entered into an empty space of their own. `place` is the book's first bit, `next` the one behind its lengths.
-fn enter_lengths(lengths: &[u8], words: &mut [u32], place: Cursor, next: Cursor) -> Step
-    requires { ⌜ length (now lengths) ≡ length (now words) ⌝ }
-    ensures { λ r. ⌜ Wrote (mapped coded (entered (position place) (now (lengths .entry)) (ok (now (lengths .entry), position next)))) r (now (lengths .entry), now (words .exit)) ⌝ }
+fn enter_lengths(lengths: &[u8], codewords: &mut [u32], place: Cursor, next: Cursor) -> Step
+    requires { ⌜ length (now lengths) ≡ length (now codewords) ⌝ }
+    ensures { λ r. ⌜ Wrote (mapped coded (entered (position place) (now (lengths .entry)) (ok (now (lengths .entry), position next)))) r (now (lengths .entry), now (codewords .exit)) ⌝ }
 {
-    match assign_codewords(lengths, words) {
+    match assign_codewords(lengths, codewords) {
         Assigned::Accepted => Step::Next(next),
         Assigned::Overspecified(_) => Step::Refused(Refusal { number: 7, place }),
         Assigned::Underspecified => Step::Refused(Refusal { number: 8, place }),
@@ -33,14 +33,14 @@ pub fn read_entries(
     from: Cursor,
     place: Cursor,
     lengths: &mut [u8],
-    words: &mut [u32],
+    codewords: &mut [u32],
 ) -> Step
-    requires { ⌜ (length (now lengths) < 4294967296) × (length (now lengths) ≡ length (now words)) ⌝ }
-    ensures { λ r. ⌜ Wrote (mapped coded (entries (position place) (length (now (lengths .entry))) (now (packet .entry)) (position from))) r (now (lengths .exit), now (words .exit)) ⌝ }
+    requires { ⌜ (length (now lengths) < 4294967296) × (length (now lengths) ≡ length (now codewords)) ⌝ }
+    ensures { λ r. ⌜ Wrote (mapped coded (entries (position place) (length (now (lengths .entry))) (now (packet .entry)) (position from))) r (now (lengths .exit), now (codewords .exit)) ⌝ }
 {
     match read_lengths(packet, from, place, lengths) {
         Step::Refused(z) => Step::Refused(z),
-        Step::Next(next) => enter_lengths(lengths, words, place, next),
+        Step::Next(next) => enter_lengths(lengths, codewords, place, next),
     }
 }
 
@@ -52,10 +52,10 @@ pub fn read_entries_at(
     first: u32,
     count: u32,
     lengths: &mut [u8],
-    words: &mut [u32],
+    codewords: &mut [u32],
 ) -> Step
-    requires { ⌜ (first + count ≤ length (now lengths)) × (first + count ≤ length (now words)) ⌝ }
-    ensures { λ r. ⌜ Wrote (mapped (laid (now (lengths .entry)) (now (words .entry)) first) (entries (position place) count (now (packet .entry)) (position from))) r (now (lengths .exit), now (words .exit)) ⌝ }
+    requires { ⌜ (first + count ≤ length (now lengths)) × (first + count ≤ length (now codewords)) ⌝ }
+    ensures { λ r. ⌜ Wrote (mapped (stored (now (lengths .entry)) (now (codewords .entry)) first) (entries (position place) count (now (packet .entry)) (position from))) r (now (lengths .exit), now (codewords .exit)) ⌝ }
 {
     let start = first as usize;
     let end = start + count as usize;
@@ -64,6 +64,6 @@ pub fn read_entries_at(
         from,
         place,
         &mut lengths[start..end],
-        &mut words[start..end],
+        &mut codewords[start..end],
     )
 }

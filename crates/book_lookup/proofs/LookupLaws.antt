@@ -26,7 +26,7 @@ use Rattle.bits.proofs.Fields.{field-ok}
 use Rattle.bits.proofs.Steps.{wrote-refused, wrote-next}
 use Rattle.power.proofs.Laws.{product-fits}
 use Rattle.book_lookup.specs.Reading.{Lookup, lookup1Values, valueCount, values, lookup}
-use Rattle.book_lookup.specs.Parts.{Parameters, parameters, laid}
+use Rattle.book_lookup.specs.Parts.{Parameters, parameters, stored}
 use Rattle.book_lookup.specs.Answers.{parametersRead}
 use Rattle.book_lookup.specs.declared.lookup.ParametersRead.{ParametersRead}
 use Rattle.book_lookup.specs.declared.lookup.ParametersRead.the-variants as P
@@ -146,58 +146,58 @@ stopped f e b u = rw e (wrote-refused u (rw b))
 
 module _ (place : Cursor) (type count first most : ℕ) (s : List ℕ) (k : ℕ) (m : List ℕ) {r : ParametersRead} (p : parametersRead r ≡ parameters s k) where
   pub values-refused : {z : Refusal} → r ≡ P.Refused z → {st : Step} → st ≡ S.Refused z → (u : List ℕ × List ℕ)
-      → Wrote (mapped (laid m first) (values (position place) type count most first s k)) st u
-  values-refused q e u = stopped (laid m first) e (values-as (position place) type count most first s k ∙ rw (parameters-bad s k p q)) u
+      → Wrote (mapped (stored m first) (values (position place) type count most first s k)) st u
+  values-refused q e u = stopped (stored m first) e (values-as (position place) type count most first s k ∙ rw (parameters-bad s k p q)) u
 
   module _ {a : D.Parameters} {c : Cursor} (q : r ≡ P.Value a c) where
     pub values-past : most - first < count → {st : Step} → st ≡ S.Refused (at 14 place) → (u : List ℕ × List ℕ)
-        → Wrote (mapped (laid m first) (values (position place) type count most first s k)) st u
+        → Wrote (mapped (stored m first) (values (position place) type count most first s k)) st u
     values-past h e u =
-        stopped (laid m first) e (values-as (position place) type count most first s k ∙ rw (parameters-is s k p q, lt-leb (first + count) most (omega arith))) u
+        stopped (stored m first) e (values-as (position place) type count most first s k ∙ rw (parameters-is s k p q, lt-leb (first + count) most (omega arith))) u
 
     values-list : first ≤ most → count ≤ most - first
-        → mapped (laid m first) (values (position place) type count most first s k)
-        ≡ mapped (λ list. laid m first (withValues type (fromAnswer a) list)) (many (field (a .width)) count s (position c))
+        → mapped (stored m first) (values (position place) type count most first s k)
+        ≡ mapped (λ list. stored m first (withValues type (fromAnswer a) list)) (many (field (a .width)) count s (position c))
     values-list o h =
-        ap (mapped (laid m first)) (values-as (position place) type count most first s k)
+        ap (mapped (stored m first)) (values-as (position place) type count most first s k)
         ∙ rw (parameters-is s k p q, le-leb (first + count) most (omega arith))
-        (mapped-then (laid m first) (withValues type (fromAnswer a)) (many (field (a .width)) count s (position c)))
+        (mapped-then (stored m first) (withValues type (fromAnswer a)) (many (field (a .width)) count s (position c)))
 
     pub values-whole : first ≤ most → count ≤ most - first → first + count ≤ length m → {n : ℕ} → n ≡ count → {st : Step} {part : List ℕ}
         → Wrote (many (field (a .width)) n s (position c)) st part → length part ≡ count
-        → Wrote (mapped (laid m first) (values (position place) type count most first s k)) st
+        → Wrote (mapped (stored m first) (values (position place) type count most first s k)) st
         (type ∷ a .minimum ∷ a .delta ∷ a .width ∷ a .sequence ∷ count ∷ [], take first m ++ (part ++ drop (first + count - first) (drop first m)))
     values-whole o h g {n} e {st} {part} w l =
         let f : first + count - first ≡ count = omega arith in
         let b : sets m first part ≡ take first m ++ (part ++ drop (first + count - first) (drop first m))
         = part-back m first part (omega arith) ∙ ap (λ (x : ℕ). take first m ++ (part ++ drop x (drop first m))) (l ∙ sym f) in
         wrote-as
-        (sym (values-list o h ∙ ap (λ (x : ℕ). mapped (λ list. laid m first (withValues type (fromAnswer a) list)) (many (field (a .width)) x s (position c))) (sym e)))
+        (sym (values-list o h ∙ ap (λ (x : ℕ). mapped (λ list. stored m first (withValues type (fromAnswer a) list)) (many (field (a .width)) x s (position c))) (sym e)))
         (λ j. (type ∷ a .minimum ∷ a .delta ∷ a .width ∷ a .sequence ∷ l j ∷ [], b j))
-        (wrote-mapped (λ list. laid m first (withValues type (fromAnswer a) list)) w)
+        (wrote-mapped (λ list. stored m first (withValues type (fromAnswer a) list)) w)
 
 -- the lookup's type
 module _ (place : ℕ) (entries dimensions most first : ℕ) (s : List ℕ) (k : Cursor) (m : List ℕ) {r : Field} (p : outcome r ≡ field 4 s (position k)) where
   pub type-cut : {z : Refusal} → r ≡ Refused z → {st : Step} → st ≡ S.Refused z → (u : List ℕ × List ℕ)
-      → Wrote (mapped (laid m first) (lookup place entries dimensions most first s (position k))) st u
+      → Wrote (mapped (stored m first) (lookup place entries dimensions most first s (position k))) st u
   unfolding lookup
-  type-cut q e u = stopped (laid m first) e (rw (refused-is p q)) u
+  type-cut q e u = stopped (stored m first) e (rw (refused-is p q)) u
 
   module _ {type : ℕ} {c : Cursor} (q : r ≡ Value type c) where
     pub type-past : 2 < type → {st : Step} → st ≡ S.Refused (at 6 k) → (u : List ℕ × List ℕ)
-        → Wrote (mapped (laid m first) (lookup place entries dimensions most first s (position k))) st u
+        → Wrote (mapped (stored m first) (lookup place entries dimensions most first s (position k))) st u
     unfolding lookup
-    type-past h e u = stopped (laid m first) e (rw (value-is p q, lt-leb type 2 h)) u
+    type-past h e u = stopped (stored m first) e (rw (value-is p q, lt-leb type 2 h)) u
 
     module _ (h : type ≤ 2) where
       pub type-none : type ≡ 0 → {st : Step} → st ≡ S.Next c → {numbers : List ℕ} → numbers ≡ 0 ∷ 0 ∷ 0 ∷ 0 ∷ 0 ∷ 0 ∷ []
-          → Wrote (mapped (laid m first) (lookup place entries dimensions most first s (position k))) st (numbers, m)
+          → Wrote (mapped (stored m first) (lookup place entries dimensions most first s (position k))) st (numbers, m)
       unfolding lookup mapped
       type-none z e n = rw (e, n) (wrote-next (rw (value-is p q, le-leb type 2 h, eq-eqb type 0 z)))
 
       pub type-some : (type ≡ 0 → ⊥) → {count : ℕ} → count ≡ valueCount type entries dimensions → {st : Step} {u : List ℕ × List ℕ}
-          → Wrote (mapped (laid m first) (values place type count most first s (position c))) st u
-          → Wrote (mapped (laid m first) (lookup place entries dimensions most first s (position k))) st u
+          → Wrote (mapped (stored m first) (values place type count most first s (position c))) st u
+          → Wrote (mapped (stored m first) (lookup place entries dimensions most first s (position k))) st u
       unfolding lookup
       type-some z e w = rw (value-is p q, le-leb type 2 h, ne-eqb type 0 z, ← e) w
 

@@ -28,5 +28,5 @@ abbrev pub lookupNumbers : Lookup → List ℕ
 lookupNumbers l = l .lookup ∷ l .minimum ∷ l .delta ∷ l .width ∷ l .sequence ∷ length (l .multiplicands) ∷ []
 
 -- a lookup laid out: those numbers, and the table with its multiplicands from a place on
-abbrev pub laid : List ℕ → ℕ → Lookup → List ℕ × List ℕ
-laid table first l = (lookupNumbers l, sets table first (l .multiplicands))
+abbrev pub stored : List ℕ → ℕ → Lookup → List ℕ × List ℕ
+stored table first l = (lookupNumbers l, sets table first (l .multiplicands))

@@ -11,7 +11,7 @@ ghost use Rattle.reading.specs.Reader.{mapped, many};
 ghost use Rattle.bits.specs.Field.{field};
 ghost use Rattle.bits.specs.Cursors.{position, Wrote};
 ghost use Rattle.book_lookup.specs.Reading.{valueCount, values, lookup};
-ghost use Rattle.book_lookup.specs.Parts.{parameters, laid};
+ghost use Rattle.book_lookup.specs.Parts.{parameters, stored};
 ghost use Rattle.book_lookup.specs.Answers.{parametersRead, numbersOf};
 
 pub struct Parameters {
@@ -123,7 +123,7 @@ fn read_values(
     multiplicands: &mut [u16],
 ) -> LookupRead
     requires { ⌜ (first ≤ most) × (most ≤ length (now multiplicands)) ⌝ }
-    ensures { λ r. ⌜ Wrote (mapped (laid (now (multiplicands .entry)) first) (values (position place) lookup count most first (now (packet .entry)) (position from))) (r .step) (numbersOf r, now (multiplicands .exit)) ⌝ }
+    ensures { λ r. ⌜ Wrote (mapped (stored (now (multiplicands .entry)) first) (values (position place) lookup count most first (now (packet .entry)) (position from))) (r .step) (numbersOf r, now (multiplicands .exit)) ⌝ }
     ensures { λ r. ⌜ first + r .count ≤ most ⌝ }
 {
     match read_parameters(packet, from) {
@@ -161,7 +161,7 @@ pub fn read_lookup(
     multiplicands: &mut [u16],
 ) -> LookupRead
     requires { ⌜ (first ≤ most) × (most ≤ length (now multiplicands)) ⌝ }
-    ensures { λ r. ⌜ Wrote (mapped (laid (now (multiplicands .entry)) first) (lookup (position place) entries dimensions most first (now (packet .entry)) (position from))) (r .step) (numbersOf r, now (multiplicands .exit)) ⌝ }
+    ensures { λ r. ⌜ Wrote (mapped (stored (now (multiplicands .entry)) first) (lookup (position place) entries dimensions most first (now (packet .entry)) (position from))) (r .step) (numbersOf r, now (multiplicands .exit)) ⌝ }
     ensures { λ r. ⌜ first + r .count ≤ most ⌝ }
 {
     match from.field(packet, 4) {

@@ -1,5 +1,5 @@
 pub mod Small
 pub mod Written
-pub mod HeldLaws
+pub mod BooksLeftLaws
 pub mod TestLaws
-pub mod StandLaws
+pub mod RecogniseLaws

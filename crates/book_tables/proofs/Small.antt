@@ -11,7 +11,7 @@ use lib.Dec.{eqb, leb}
 use lib.ListN.{getD}
 use Rattle.reading.specs.Lists.{all}
 use Rattle.reading.proofs.Least.{lt-or-le}
-use Rattle.codeword_assignment.specs.Book.{used, isLone, verdict, refusedOr, firstRefused, freeAfter, codewords, entryAnswer, handedOutBefore}
+use Rattle.codeword_assignment.specs.Book.{used, isLone, verdict, refusedOr, firstRefused, freeAfter, ledgerCodewords, entryAnswer, handedOutBefore}
 use Rattle.codeword_assignment.specs.declared.book.Assigned.the-variants.{Accepted, Underspecified}
 use Rattle.codeword_assignment.proofs.Laws.{entry-answer}
 use Rattle.codespace.proofs.Whole.{some-says}
@@ -27,7 +27,7 @@ none-refused ls accepted = go (firstRefused ls) refl accepted
 
 used-small : (ls : List ℕ) (e : ℕ) → verdict ls ≡ Accepted → 0 < getD ls e 0 → getD ls e 0 ≤ 32
 unfolding entryAnswer
-used-small ls e a h = some-says (handedOutBefore ls e) (getD ls e 0) (getD (codewords ls) e 0) (entry-answer ls (none-refused ls a) e h) .0 .high
+used-small ls e a h = some-says (handedOutBefore ls e) (getD ls e 0) (getD (ledgerCodewords ls) e 0) (entry-answer ls (none-refused ls a) e h) .0 .high
 
 each-small : (ls : List ℕ) → ((e : ℕ) → getD ls e 0 ≤ 32) → all (λ l. leb l 32) ls ≡ true
 unfolding all

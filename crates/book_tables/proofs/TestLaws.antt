@@ -14,15 +14,15 @@ use lib.ListN.{length, getD, take, drop, drop-of-length-le}
 use lib.Pow.{shl-exact}
 use lib.Seq.{drop-cons, getD-drop}
 use Rattle.reading.specs.Lists.{all}
-use Rattle.reading.specs.Stand.{Zeros}
+use Rattle.reading.specs.Encoding.{Zeros}
 use Rattle.reading.proofs.Least.{lt-or-le}
-use Rattle.reading.proofs.Stands.{iff-false, iff-true}
+use Rattle.reading.proofs.Encodes.{iff-false, iff-true}
 use Rattle.limits.specs.declared.Limits.{Limits}
 use Rattle.codeword_assignment.specs.Book.{Coded, loneMark}
 use Rattle.book.specs.Layout.{bookWidth}
 use Rattle.book_lookup.specs.Reading.{valueCount}
 use Rattle.book_tables.specs.declared.row.Row.{Row}
-use Rattle.book_tables.specs.Stand.{Clear}
+use Rattle.book_tables.specs.Recognised.{Clear}
 use Rattle.book_tables.specs.Rules.{rowOf, HeadRules, PlaceRules, NoneRules, SomeRules, LookupRules, BookRules, Begun}
 
 -- a test that failed, and one that passed
@@ -102,25 +102,25 @@ pub ruleset place-laws = (needs, place-entries, place-values, place-all, place-e
 
 -- no lookup
 module _ (row : Row) where
-  pub silent-minimum : (row .minimum ≡ 0 → ⊥) → (false ≡ true) ↔ NoneRules row
-  silent-minimum n = iff-false (λ r. n (r .minimum))
+  pub no-lookup-minimum : (row .minimum ≡ 0 → ⊥) → (false ≡ true) ↔ NoneRules row
+  no-lookup-minimum n = iff-false (λ r. n (r .minimum))
 
-  pub silent-delta : (row .delta ≡ 0 → ⊥) → (false ≡ true) ↔ NoneRules row
-  silent-delta n = iff-false (λ r. n (r .delta))
+  pub no-lookup-delta : (row .delta ≡ 0 → ⊥) → (false ≡ true) ↔ NoneRules row
+  no-lookup-delta n = iff-false (λ r. n (r .delta))
 
-  pub silent-width : (row .width ≡ 0 → ⊥) → (false ≡ true) ↔ NoneRules row
-  silent-width n = iff-false (λ r. n (r .width))
+  pub no-lookup-width : (row .width ≡ 0 → ⊥) → (false ≡ true) ↔ NoneRules row
+  no-lookup-width n = iff-false (λ r. n (r .width))
 
-  pub silent-sequence : (row .sequence ≡ 0 → ⊥) → (false ≡ true) ↔ NoneRules row
-  silent-sequence n = iff-false (λ r. n (r .sequence))
+  pub no-lookup-sequence : (row .sequence ≡ 0 → ⊥) → (false ≡ true) ↔ NoneRules row
+  no-lookup-sequence n = iff-false (λ r. n (r .sequence))
 
-  pub silent-count : (row .count ≡ 0 → ⊥) → (false ≡ true) ↔ NoneRules row
-  silent-count n = iff-false (λ r. n (r .count))
+  pub no-lookup-count : (row .count ≡ 0 → ⊥) → (false ≡ true) ↔ NoneRules row
+  no-lookup-count n = iff-false (λ r. n (r .count))
 
-  pub silent-end : row .minimum ≡ 0 → row .delta ≡ 0 → row .width ≡ 0 → row .sequence ≡ 0 → row .count ≡ 0 → (true ≡ true) ↔ NoneRules row
-  silent-end a b c d e = iff-true (record { minimum = a; delta = b; width = c; sequence = d; count = e })
+  pub no-lookup-end : row .minimum ≡ 0 → row .delta ≡ 0 → row .width ≡ 0 → row .sequence ≡ 0 → row .count ≡ 0 → (true ≡ true) ↔ NoneRules row
+  no-lookup-end a b c d e = iff-true (record { minimum = a; delta = b; width = c; sequence = d; count = e })
 
-pub ruleset silent-laws = (needs, silent-minimum, silent-delta, silent-width, silent-sequence, silent-count, silent-end)
+pub ruleset no-lookup-laws = (needs, no-lookup-minimum, no-lookup-delta, no-lookup-width, no-lookup-sequence, no-lookup-count, no-lookup-end)
 
 -- a lookup with multiplicands
 module _ (row : Row) where
@@ -224,8 +224,8 @@ module _ (limits : Limits) (entries values : ℕ) (row : Row) (ls ws ms : List �
   pub lengths-inside : not b₁ ≡ false → entries + row .entries ≤ length ls
   lengths-inside y₁ = let h = shown p₁ y₁ .entries-all in let r = begun .lengths-room in omega arith
 
-  pub words-inside : not b₁ ≡ false → entries + row .entries ≤ length ws
-  words-inside y₁ = let h = shown p₁ y₁ .entries-all in let r = begun .words-room in omega arith
+  pub codewords-inside : not b₁ ≡ false → entries + row .entries ≤ length ws
+  codewords-inside y₁ = let h = shown p₁ y₁ .entries-all in let r = begun .codewords-room in omega arith
 
   module _ (y₁ : not b₁ ≡ false) {b₂ : Bool} (p₂ : (b₂ ≡ true) ↔ PlaceRules limits entries values row) where
     pub book-place : not b₂ ≡ true → (false ≡ true) ↔ BookRules limits entries values row (drop entries ls) (drop entries ws) (drop values ms)
@@ -268,10 +268,10 @@ module _ (rs ls ws ms : List ℕ) {b₁ : Bool} (p₁ : (b₁ ≡ true) ↔ Zero
     clear-lengths n = iff-false (λ z. refuted p₂ n (z .lengths))
 
     module _ (y₂ : not b₂ ≡ false) {b₃ : Bool} (p₃ : (b₃ ≡ true) ↔ Zeros ws) where
-      pub clear-words : not b₃ ≡ true → (false ≡ true) ↔ Clear rs ls ws ms
-      clear-words n = iff-false (λ z. refuted p₃ n (z .words))
+      pub clear-codewords : not b₃ ≡ true → (false ≡ true) ↔ Clear rs ls ws ms
+      clear-codewords n = iff-false (λ z. refuted p₃ n (z .codewords))
 
       pub clear-end : not b₃ ≡ false → {b₄ : Bool} → (b₄ ≡ true) ↔ Zeros ms → (b₄ ≡ true) ↔ Clear rs ls ws ms
-      clear-end y₃ p₄ = ((λ t. record { rows = shown p₁ y₁; lengths = shown p₂ y₂; words = shown p₃ y₃; multiplicands = p₄ .0 t }), (λ z. p₄ .1 (z .multiplicands)))
+      clear-end y₃ p₄ = ((λ t. record { rows = shown p₁ y₁; lengths = shown p₂ y₂; codewords = shown p₃ y₃; multiplicands = p₄ .0 t }), (λ z. p₄ .1 (z .multiplicands)))
 
-pub ruleset clear-laws = (needs, clear-rows, clear-lengths, clear-words, clear-end)
+pub ruleset clear-laws = (needs, clear-rows, clear-lengths, clear-codewords, clear-end)

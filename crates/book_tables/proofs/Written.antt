@@ -11,12 +11,12 @@ use lib.Seq.{take-at, length-take-le}
 use Rattle.reading.specs.Lists.{all}
 use Rattle.reading.proofs.Least.{lt-or-le}
 use Rattle.limits.specs.declared.Limits.{Limits}
-use Rattle.codeword_assignment.specs.Book.{codewords, loneMark}
+use Rattle.codeword_assignment.specs.Book.{ledgerCodewords, loneMark}
 use Rattle.book.specs.Content.{Book}
 use Rattle.book.specs.Layout.{bookWidth, bookRow}
 use Rattle.book_head.specs.Answers.{totals}
 use Rattle.books.specs.Valid.{NoLookup, SomeLookup, ValidBook}
-use Rattle.books.proofs.Laid.{codewords-length}
+use Rattle.books.proofs.BooksStored.{codewords-length}
 use Rattle.book_tables.specs.declared.row.Row.{Row}
 use Rattle.book_tables.specs.Rules.{rowOf, NoneRules, SomeRules, BookRules}
 use Rattle.book_tables.proofs.Small.{accepted-small}
@@ -138,10 +138,10 @@ module _ (limits : Limits) (entries values : ℕ) where
     unfolding all
     none-fit n = rw (n .multiplicands)
 
-    pub valid-rules : (ls ws ms : List ℕ) → BookRules limits entries values (rowFor entries values b) (b .lengths ++ ls) (codewords (b .lengths) ++ ws) (b .multiplicands ++ ms)
+    pub valid-rules : (ls ws ms : List ℕ) → BookRules limits entries values (rowFor entries values b) (b .lengths ++ ls) (ledgerCodewords (b .lengths) ++ ws) (b .multiplicands ++ ms)
     valid-rules ls ws ms =
         let l = take-at (b .lengths) ls (length (b .lengths)) refl in
-        let w = take-at (codewords (b .lengths)) ws (length (b .lengths)) (codewords-length (b .lengths)) in
+        let w = take-at (ledgerCodewords (b .lengths)) ws (length (b .lengths)) (codewords-length (b .lengths)) in
         let m = take-at (b .multiplicands) ms (length (b .multiplicands)) refl in
         record {
           head = record {
@@ -162,7 +162,7 @@ module _ (limits : Limits) (entries values : ℕ) where
         fits : all (λ x. ltb x (2 ^ b .width)) (b .multiplicands) ≡ true
         fits = ⊎-elim (λ (h : 0 < b .lookup). some-fit (v .some-lookup (λ e. omega arith))) (λ (h : b .lookup ≤ 0). none-fit (v .no-lookup (omega arith))) (lt-or-le 0 (b .lookup))
 
-    pub rules-at : (ls ws ms l w m : List ℕ) → ls ≡ b .lengths ++ l → ws ≡ codewords (b .lengths) ++ w → ms ≡ b .multiplicands ++ m
+    pub rules-at : (ls ws ms l w m : List ℕ) → ls ≡ b .lengths ++ l → ws ≡ ledgerCodewords (b .lengths) ++ w → ms ≡ b .multiplicands ++ m
         → BookRules limits entries values (rowFor entries values b) ls ws ms
     rules-at ls ws ms l w m e f g = rw (e, f, g) (valid-rules l w m)
 

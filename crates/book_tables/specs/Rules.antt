@@ -69,20 +69,20 @@ pub record LookupRules (row : Row) : Type 0 where
   pub some : (row .lookup ≡ 0 → ⊥) → SomeRules row
 
 -- the row, and its own lengths, codewords and multiplicands at the front of what is left of theirs
-pub record BookRules (limits : Limits) (entries values : ℕ) (row : Row) (lengths words multiplicands : List ℕ) : Type 0 where
+pub record BookRules (limits : Limits) (entries values : ℕ) (row : Row) (lengths codewords multiplicands : List ℕ) : Type 0 where
   pub head : HeadRules limits entries row
   pub place : PlaceRules limits entries values row
   pub lookup : LookupRules row
   -- refusals 7 and 8
-  pub coded : Coded (take (row .entries) lengths) (take (row .entries) words)
+  pub coded : Coded (take (row .entries) lengths) (take (row .entries) codewords)
   -- its sole used entry of length 1, or none
   pub lone : row .lone ≡ loneMark (take (row .entries) lengths)
   pub fit : all (λ v. ltb v (2 ^ row .width)) (take (row .count) multiplicands) ≡ true
 
 -- what is known where a book is judged: those before it are within the limits, and the tables have room for what the limits allow
-pub record Begun (limits : Limits) (entries values : ℕ) (lengths words multiplicands : List ℕ) : Type 0 where
+pub record Begun (limits : Limits) (entries values : ℕ) (lengths codewords multiplicands : List ℕ) : Type 0 where
   pub entries-within : entries ≤ limits .entries
   pub values-within : values ≤ limits .multiplicands
   pub lengths-room : limits .entries ≤ length lengths
-  pub words-room : limits .entries ≤ length words
+  pub codewords-room : limits .entries ≤ length codewords
   pub values-room : limits .multiplicands ≤ length multiplicands

@@ -3,7 +3,7 @@ ghost use mathlib.Core.Bool.{true};
 ghost use mathlib.Core.Logic.{_↔_};
 ghost use mathlib.Core.Path.{_≡_};
 ghost use lib.ListN.{drop};
-ghost use Rattle.book_tables.specs.Stand.{Clear};
+ghost use Rattle.book_tables.specs.Recognised.{Clear};
 
 // `rows` numbers of rows, and so many entries and multiplicands, are written.
 pub fn are_clear(
@@ -12,10 +12,10 @@ pub fn are_clear(
     values: usize,
     books: &[u32],
     lengths: &[u8],
-    words: &[u32],
+    codewords: &[u32],
     multiplicands: &[u16],
 ) -> bool
-    ensures { λ r. ⌜ (r ≡ true) ↔ Clear (drop rows (now (books .entry))) (drop entries (now (lengths .entry))) (drop entries (now (words .entry))) (drop values (now (multiplicands .entry))) ⌝ }
+    ensures { λ r. ⌜ (r ≡ true) ↔ Clear (drop rows (now (books .entry))) (drop entries (now (lengths .entry))) (drop entries (now (codewords .entry))) (drop values (now (multiplicands .entry))) ⌝ }
 {
     if !reading::zeros::zeros_u32(books, rows) {
         return false;
@@ -23,7 +23,7 @@ pub fn are_clear(
     if !reading::zeros::zeros_u8(lengths, entries) {
         return false;
     }
-    if !reading::zeros::zeros_u32(words, entries) {
+    if !reading::zeros::zeros_u32(codewords, entries) {
         return false;
     }
     reading::zeros::zeros_u16(multiplicands, values)

@@ -70,7 +70,7 @@ fn is_placed(limits: Limits, entries: u32, values: u32, row: Row) -> bool
 }
 
 // No lookup: zeros.
-fn is_silent(row: Row) -> bool
+fn has_no_lookup(row: Row) -> bool
     ensures { λ r. ⌜ (r ≡ true) ↔ NoneRules row ⌝ }
 {
     if row.minimum != 0 {
@@ -118,19 +118,19 @@ fn is_lookup(row: Row) -> bool
         return false;
     }
     if row.lookup == 0 {
-        return is_silent(row);
+        return has_no_lookup(row);
     }
     is_valued(row)
 }
 
 // The lengths from `first` on are accepted (01, refusals 7 and 8), and the words there are their codewords.
-fn is_coded(lengths: &[u8], words: &[u32], first: u32, count: u32) -> bool
-    requires { ⌜ (first + count ≤ length (now lengths)) × (first + count ≤ length (now words)) ⌝ }
-    ensures { λ r. ⌜ (r ≡ true) ↔ Coded (take count (drop first (now (lengths .entry)))) (take count (drop first (now (words .entry)))) ⌝ }
+fn is_coded(lengths: &[u8], codewords: &[u32], first: u32, count: u32) -> bool
+    requires { ⌜ (first + count ≤ length (now lengths)) × (first + count ≤ length (now codewords)) ⌝ }
+    ensures { λ r. ⌜ (r ≡ true) ↔ Coded (take count (drop first (now (lengths .entry)))) (take count (drop first (now (codewords .entry)))) ⌝ }
 {
     let start = wide(first);
     let end = start + wide(count);
-    codeword_assignment::book::are_codewords(&lengths[start..end], &words[start..end])
+    codeword_assignment::book::are_codewords(&lengths[start..end], &codewords[start..end])
 }
 
 // The row names the sole used entry of length 1 of the lengths from `first` on, or none where they have none.
@@ -182,11 +182,11 @@ pub fn is_book(
     values: u32,
     row: Row,
     lengths: &[u8],
-    words: &[u32],
+    codewords: &[u32],
     multiplicands: &[u16],
 ) -> bool
-    requires { ⌜ Begun limits entries values (now lengths) (now words) (now multiplicands) ⌝ }
-    ensures { λ r. ⌜ (r ≡ true) ↔ BookRules limits entries values row (drop entries (now (lengths .entry))) (drop entries (now (words .entry))) (drop values (now (multiplicands .entry))) ⌝ }
+    requires { ⌜ Begun limits entries values (now lengths) (now codewords) (now multiplicands) ⌝ }
+    ensures { λ r. ⌜ (r ≡ true) ↔ BookRules limits entries values row (drop entries (now (lengths .entry))) (drop entries (now (codewords .entry))) (drop values (now (multiplicands .entry))) ⌝ }
 {
     if !is_head(limits, entries, row) {
         return false;
@@ -197,7 +197,7 @@ pub fn is_book(
     if !is_lookup(row) {
         return false;
     }
-    if !is_coded(lengths, words, entries, row.entries) {
+    if !is_coded(lengths, codewords, entries, row.entries) {
         return false;
     }
     if !is_marked(lengths, entries, row) {

@@ -2,4 +2,4 @@
 pub mod row; // a book's row
 pub mod judge; // one book against the rules
 pub mod clear; // nothing but zeros behind what is written
-pub mod stand; // all books
+pub mod recognise; // all books

@@ -16,7 +16,7 @@ use Rattle.bits.specs.declared.Step.the-variants as S
 use Rattle.bits.specs.Cursors.{position, Wrote}
 use Rattle.bits.proofs.Steps.{wrote-bad, wrote-ok, wrote-refused}
 use Rattle.limits.specs.declared.Limits.{Limits}
-use Rattle.codeword_assignment.specs.Book.{codewords, loneMark}
+use Rattle.codeword_assignment.specs.Book.{ledgerCodewords, loneMark}
 use Rattle.book.specs.Layout.{bookWidth, bookRow}
 use Rattle.filling.proofs.Written.{mapped-then, mapped-mapped, wrote-mapped, wrote-as}
 use Rattle.book_head.specs.Reading.{Head, head}
@@ -28,7 +28,7 @@ use Rattle.book_lengths.specs.Parts.{entries}
 use Rattle.book_lengths.specs.Parts as L
 use Rattle.book_lengths.proofs.Accepted.{entries-known}
 use Rattle.book_lookup.specs.Reading.{Lookup, lookup}
-use Rattle.book_lookup.specs.Parts.{laid}
+use Rattle.book_lookup.specs.Parts.{stored}
 use Rattle.books.specs.Reading.{book}
 use Rattle.books.specs.Parts.{bookOf, body}
 use Rattle.books.specs.Layout.{Tables, tables, putBook, finished}
@@ -39,12 +39,12 @@ module _ (h : Head) (bk m : List ℕ) (index before values lone : ℕ) where
   abbrev rowed : List ℕ × List ℕ → List ℕ × List ℕ × ℕ
   rowed x = (sets bk (bookWidth * index) (h .dimensions ∷ h .entries ∷ before ∷ (x .0 ++ (values ∷ lone ∷ []))), x .1, values + getD (x .0) 5 0)
 
-  pub finish-whole : (o : Outcome (Lookup × ℕ)) {st : Step} {a₀ a₁ a₂ a₃ a₄ a₅ : ℕ} {m′ : List ℕ} → Wrote (mapped (laid m values) o) st (a₀ ∷ a₁ ∷ a₂ ∷ a₃ ∷ a₄ ∷ a₅ ∷ [], m′)
+  pub finish-whole : (o : Outcome (Lookup × ℕ)) {st : Step} {a₀ a₁ a₂ a₃ a₄ a₅ : ℕ} {m′ : List ℕ} → Wrote (mapped (stored m values) o) st (a₀ ∷ a₁ ∷ a₂ ∷ a₃ ∷ a₄ ∷ a₅ ∷ [], m′)
       → {bk′ : List ℕ} → bk′ ≡ sets bk (bookWidth * index) (h .dimensions ∷ h .entries ∷ before ∷ a₀ ∷ a₁ ∷ a₂ ∷ a₃ ∷ a₄ ∷ a₅ ∷ values ∷ lone ∷ [])
       → Wrote (mapped (finished bk m h index before values lone) o) st (bk′, m′, values + a₅)
   unfolding finished
   finish-whole o {st} {a₀} {a₁} {a₂} {a₃} {a₄} {a₅} {m′} w {bk′} b =
-      wrote-as (mapped-mapped rowed (laid m values) o) (λ j. (sym b j, m′, values + a₅)) (wrote-mapped rowed w)
+      wrote-as (mapped-mapped rowed (stored m values) o) (λ j. (sym b j, m′, values + a₅)) (wrote-mapped rowed w)
 
 -- a run that was stored is read back
 run-back : (l vs : List ℕ) (i : ℕ) → i + length vs ≤ length l → take (length vs) (drop i (sets l i vs)) ≡ vs
@@ -59,10 +59,10 @@ module _ (place : Cursor) (h : Head) (most : ℕ) (s : List ℕ) (k : ℕ) (bk l
   abbrev at-entry : Tables
   at-entry = tables bk lens wds m index before values
 
-  module _ {st : Step} {lens′ wds′ : List ℕ} (w : Wrote (mapped (L.laid lens wds before) (entries (position place) (h .entries) s k)) st (lens′, wds′)) where
+  module _ {st : Step} {lens′ wds′ : List ℕ} (w : Wrote (mapped (L.stored lens wds before) (entries (position place) (h .entries) s k)) st (lens′, wds′)) where
     pub body-refused : {z : Refusal} → st ≡ S.Refused z → (u : Tables) → Wrote (into1 putBook (body (position place) h most values s k) at-entry) (S.Refused z) u
     unfolding into1 mapped body
-    body-refused q u = wrote-refused u (rw (mapped-bad (L.laid lens wds before) (entries (position place) (h .entries) s k) (wrote-bad w q)))
+    body-refused q u = wrote-refused u (rw (mapped-bad (L.stored lens wds before) (entries (position place) (h .entries) s k) (wrote-bad w q)))
 
     module _ {c : Cursor} (q : st ≡ S.Next c) where
       -- the lookup's definition, and the head with a number of entries
@@ -74,7 +74,7 @@ module _ (place : Cursor) (h : Head) (most : ℕ) (s : List ℕ) (k : ℕ) (bk l
 
       -- the tables once the lengths ls are laid out, over what the lookup comes to
       abbrev placed : List ℕ → List ℕ × List ℕ × ℕ → Tables
-      placed ls x = tables (x .0) (sets lens before ls) (sets wds before (codewords ls)) (x .1) (index + 1) (before + length ls) (x .2)
+      placed ls x = tables (x .0) (sets lens before ls) (sets wds before (ledgerCodewords ls)) (x .1) (index + 1) (before + length ls) (x .2)
 
       body-as : (ls : List ℕ) → entries (position place) (h .entries) s k ≡ ok (ls, position c)
           → into1 putBook (body (position place) h most values s k) at-entry ≡ mapped (placed ls) (mapped (finished bk m (counted (length ls)) index before values (loneMark ls)) rest)
@@ -89,7 +89,7 @@ module _ (place : Cursor) (h : Head) (most : ℕ) (s : List ℕ) (k : ℕ) (bk l
           → entries′ ≡ before + h .entries
           → Wrote (into1 putBook (body (position place) h most values s k) at-entry) st₂ (tables bk′ lens′ wds′ m′ (index + 1) entries′ values′)
       body-whole {lone} fits mark {st₂} {bk′} {m′} {entries′} {values′} w₂ f =
-          let a = mapped-ok (L.laid lens wds before) (entries (position place) (h .entries) s k) (wrote-ok w q) in
+          let a = mapped-ok (L.stored lens wds before) (entries (position place) (h .entries) s k) (wrote-ok w q) in
           let n : length (a .0) ≡ h .entries = entries-known (position place) (h .entries) s k (a .1) .long in
           let g : before + length (a .0) ≡ entries′ = omega arith in
           let own : take (h .entries) (drop before lens′) ≡ a .0 =

@@ -20,7 +20,7 @@ use Rattle.book_head.specs.Answers.{totals}
 use Rattle.books.specs.Reading.{andThis, book, books}
 use Rattle.books.specs.Parts.{section}
 use Rattle.books.specs.Layout.{Tables, tables, putBook}
-use Rattle.books.specs.Lent.{Lent}
+use Rattle.books.specs.BookBuffers.{BookBuffers}
 
 into-cons : (b : Book) (o : Outcome (List Book × ℕ)) (t : Tables) → into putBook (then o (λ y. ok (b ∷ y .0, y .1))) t ≡ into putBook o (putBook b t)
 unfolding into mapped puts
@@ -62,15 +62,15 @@ module _ (l : Limits) (s : List ℕ) (n k : ℕ) (bk₀ lens₀ wds₀ m₀ : Li
     abbrev here : Tables
     here = tables bk lens wds m index entries values
 
-    pub books-lent : Lent l bk₀ lens₀ wds₀ m₀ → Lent l bk lens wds m
-    books-lent lent =
+    pub books-buffers : BookBuffers l bk₀ lens₀ wds₀ m₀ → BookBuffers l bk lens wds m
+    books-buffers buffers =
         record {
           books-long = omega arith;
           lengths-long = omega arith;
-          words-long = omega arith;
+          codewords-long = omega arith;
           multiplicands-long = omega arith;
-          few-entries = lent .few-entries;
-          few-values = lent .few-values;
+          few-entries = buffers .few-entries;
+          few-values = buffers .few-values;
         }
 
     pub books-done : {st : Step} → st ≡ Next c → n ≤ index → Wrote whole st (tables bk lens wds m n entries values)

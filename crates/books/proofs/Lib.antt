@@ -1,4 +1,4 @@
 pub mod BookLaws
 pub mod BooksLaws
 pub mod Accepted
-pub mod Laid
+pub mod BooksStored

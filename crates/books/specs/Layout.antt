@@ -4,7 +4,7 @@ use Prim.Native.Nat.{ℕ, _+_, _*_}
 use mathlib.Core.List.{List, [], _∷_, _++_}
 use lib.ListN.{length}
 use lib.Seq.{sets}
-use Rattle.codeword_assignment.specs.Book.{codewords}
+use Rattle.codeword_assignment.specs.Book.{ledgerCodewords}
 use Rattle.book.specs.Content.{Book}
 use Rattle.book.specs.Layout.{bookWidth, bookRow}
 use Rattle.book_head.specs.Reading.{Before, Head}
@@ -22,11 +22,11 @@ pub record Tables : Type 0 where
   pub before : Before
 
 abbrev pub tables : List ℕ → List ℕ → List ℕ → List ℕ → ℕ → ℕ → ℕ → Tables
-tables books lengths words multiplicands count entries values =
+tables books lengths codewords multiplicands count entries values =
     record {
       books = books;
       lengths = lengths;
-      codewords = words;
+      codewords = codewords;
       multiplicands = multiplicands;
       count = count;
       before = record { entries = entries; values = values };
@@ -37,7 +37,7 @@ putBook b t =
     record {
       books = sets (t .books) (bookWidth * t .count) (bookRow (t .before .entries) (t .before .values) b);
       lengths = sets (t .lengths) (t .before .entries) (b .lengths);
-      codewords = sets (t .codewords) (t .before .entries) (codewords (b .lengths));
+      codewords = sets (t .codewords) (t .before .entries) (ledgerCodewords (b .lengths));
       multiplicands = sets (t .multiplicands) (t .before .values) (b .multiplicands);
       count = t .count + 1;
       before = andThis (t .before) b;

@@ -1,6 +1,6 @@
 pub mod Reading
 pub mod Parts
 pub mod Layout
-pub mod Lent
+pub mod BookBuffers
 pub mod Rows
 pub mod Valid

@@ -3,7 +3,7 @@ use Prim.Native.Nat.{ℕ, zero, suc, _+_}
 use mathlib.Core.List.{List, [], _∷_, _++_}
 use lib.ListN.{getD, take, drop}
 use Rattle.reading.specs.Lists.{rows}
-use Rattle.codeword_assignment.specs.Book.{codewords}
+use Rattle.codeword_assignment.specs.Book.{ledgerCodewords}
 use Rattle.book.specs.Content.{Book}
 use Rattle.book.specs.Layout.{bookWidth, bookRow}
 use Rattle.book_head.specs.Reading.{Before}
@@ -19,7 +19,7 @@ abbrev pub allLengths : List Book → List ℕ
 allLengths = rows (λ b. b .lengths)
 
 abbrev pub allCodewords : List Book → List ℕ
-allCodewords = rows (λ b. codewords (b .lengths))
+allCodewords = rows (λ b. ledgerCodewords (b .lengths))
 
 abbrev pub allMultiplicands : List Book → List ℕ
 allMultiplicands = rows (λ b. b .multiplicands)

@@ -24,7 +24,7 @@ ghost use Rattle.book_lookup.specs.Answers.{numbersOf};
 ghost use Rattle.books.specs.Reading.{book};
 ghost use Rattle.books.specs.Parts.{body, section};
 ghost use Rattle.books.specs.Layout.{putBook, tables, finished};
-ghost use Rattle.books.specs.Lent.{Lent, Begins, BookAt};
+ghost use Rattle.books.specs.BookBuffers.{BookBuffers, Begins, BookAt};
 
 // Where reading goes on, or the refusal; and how many entries and multiplicands the books have by then.
 pub struct BooksRead {
@@ -111,14 +111,14 @@ fn read_body(
     values: u32,
     books: &mut [u32],
     lengths: &mut [u8],
-    words: &mut [u32],
+    codewords: &mut [u32],
     multiplicands: &mut [u16],
 ) -> BooksRead
-    requires { ⌜ BookAt (head .entries) most index entries values (now lengths) (now words) (now multiplicands) ⌝ }
-    ensures { λ r. ⌜ Wrote (into1 putBook (body (position place) (headOf head) most values (now (packet .entry)) (position from)) (tables (now (books .entry)) (now (lengths .entry)) (now (words .entry)) (now (multiplicands .entry)) index entries values)) (r .step) (tables (now (books .exit)) (now (lengths .exit)) (now (words .exit)) (now (multiplicands .exit)) (index + 1) (r .entries) (r .values)) ⌝ }
+    requires { ⌜ BookAt (head .entries) most index entries values (now lengths) (now codewords) (now multiplicands) ⌝ }
+    ensures { λ r. ⌜ Wrote (into1 putBook (body (position place) (headOf head) most values (now (packet .entry)) (position from)) (tables (now (books .entry)) (now (lengths .entry)) (now (codewords .entry)) (now (multiplicands .entry)) index entries values)) (r .step) (tables (now (books .exit)) (now (lengths .exit)) (now (codewords .exit)) (now (multiplicands .exit)) (index + 1) (r .entries) (r .values)) ⌝ }
     ensures { λ r. ⌜ (r .entries ≤ entries + head .entries) × (r .values ≤ most) ⌝ }
 {
-    match read_entries_at(packet, from, place, entries, head.entries, lengths, words) {
+    match read_entries_at(packet, from, place, entries, head.entries, lengths, codewords) {
         Step::Refused(z) => BooksRead {
             step: Step::Refused(z),
             entries,
@@ -153,11 +153,11 @@ pub fn read_book(
     values: u32,
     books: &mut [u32],
     lengths: &mut [u8],
-    words: &mut [u32],
+    codewords: &mut [u32],
     multiplicands: &mut [u16],
 ) -> BooksRead
-    requires { ⌜ Lent limits (now books) (now lengths) (now words) (now multiplicands) × Begins limits index entries values ⌝ }
-    ensures { λ r. ⌜ Wrote (into1 putBook (book limits (totals entries values) (now (packet .entry)) (position from)) (tables (now (books .entry)) (now (lengths .entry)) (now (words .entry)) (now (multiplicands .entry)) index entries values)) (r .step) (tables (now (books .exit)) (now (lengths .exit)) (now (words .exit)) (now (multiplicands .exit)) (index + 1) (r .entries) (r .values)) ⌝ }
+    requires { ⌜ BookBuffers limits (now books) (now lengths) (now codewords) (now multiplicands) × Begins limits index entries values ⌝ }
+    ensures { λ r. ⌜ Wrote (into1 putBook (book limits (totals entries values) (now (packet .entry)) (position from)) (tables (now (books .entry)) (now (lengths .entry)) (now (codewords .entry)) (now (multiplicands .entry)) index entries values)) (r .step) (tables (now (books .exit)) (now (lengths .exit)) (now (codewords .exit)) (now (multiplicands .exit)) (index + 1) (r .entries) (r .values)) ⌝ }
     ensures { λ r. ⌜ (r .entries ≤ limits .entries) × (r .values ≤ limits .multiplicands) ⌝ }
 {
     match read_head(packet, from, limits, entries) {
@@ -178,7 +178,7 @@ pub fn read_book(
                 values,
                 books,
                 lengths,
-                words,
+                codewords,
                 multiplicands,
             )
         }
@@ -193,11 +193,11 @@ pub fn read_books(
     limits: Limits,
     books: &mut [u32],
     lengths: &mut [u8],
-    words: &mut [u32],
+    codewords: &mut [u32],
     multiplicands: &mut [u16],
 ) -> BooksRead
-    requires { ⌜ Lent limits (now books) (now lengths) (now words) (now multiplicands) × (count ≤ 256) ⌝ }
-    ensures { λ r. ⌜ Wrote (into putBook (section limits count (now (packet .entry)) (position from)) (tables (now (books .entry)) (now (lengths .entry)) (now (words .entry)) (now (multiplicands .entry)) 0 0 0)) (r .step) (tables (now (books .exit)) (now (lengths .exit)) (now (words .exit)) (now (multiplicands .exit)) count (r .entries) (r .values)) ⌝ }
+    requires { ⌜ BookBuffers limits (now books) (now lengths) (now codewords) (now multiplicands) × (count ≤ 256) ⌝ }
+    ensures { λ r. ⌜ Wrote (into putBook (section limits count (now (packet .entry)) (position from)) (tables (now (books .entry)) (now (lengths .entry)) (now (codewords .entry)) (now (multiplicands .entry)) 0 0 0)) (r .step) (tables (now (books .exit)) (now (lengths .exit)) (now (codewords .exit)) (now (multiplicands .exit)) count (r .entries) (r .values)) ⌝ }
     ensures { λ r. ⌜ (r .entries ≤ limits .entries) × (r .values ≤ limits .multiplicands) ⌝ }
 {
     let mut at = from;
@@ -217,7 +217,7 @@ pub fn read_books(
             read.values,
             books,
             lengths,
-            words,
+            codewords,
             multiplicands,
         );
         let step = read.step;

@@ -54,9 +54,9 @@ bits-cut s b k zero h = refl
 bits-cut s b k (suc n) h = rw (bits-cut s b k n (omega arith), bit-cut s b (k + n) (omega arith))
 
 -- the bit n bits behind a cursor, as the code finds it
-pub bit-behind : (s : List ℕ) (byte bit n w : ℕ) → w ≡ bit → getD s (byte + (w + n) / 8) 0 / 2 ^ ((w + n) % 8) % 2 ≡ bitAt s (8 * byte + bit + n)
+pub bit-after : (s : List ℕ) (byte bit n w : ℕ) → w ≡ bit → getD s (byte + (w + n) / 8) 0 / 2 ^ ((w + n) % 8) % 2 ≡ bitAt s (8 * byte + bit + n)
 unfolding bitAt
-bit-behind s byte bit n w e =
+bit-after s byte bit n w e =
     let q : (8 * byte + bit + n) / 8 ≡ byte + (w + n) / 8 = omega arith in
     let r : (8 * byte + bit + n) % 8 ≡ (w + n) % 8 = omega arith in
     rw (q, r)

@@ -18,7 +18,7 @@ use Rattle.reading.proofs.Least.{lowest-some, lowest-ok, IsLowest, and-split, l
 use Rattle.bits.specs.Field.{field}
 use Rattle.bits.proofs.Fields.{field-none, field-ok}
 use Rattle.bits.proofs.Cuts.{field-cut-packet}
-use Rattle.codeword_assignment.specs.Book.{used, isUsed, isLone, firstUsed, loneMark, orZero, codewords, verdict, Begins, PrefixCode, Decodable}
+use Rattle.codeword_assignment.specs.Book.{used, isUsed, isLone, firstUsed, loneMark, orZero, ledgerCodewords, verdict, Begins, PrefixCode, Decodable}
 use Rattle.codespace.specs.Ledger.{share}
 use Rattle.codeword_assignment.specs.declared.book.Assigned.the-variants.{Accepted}
 use Rattle.codeword_assignment.proofs.Laws.{accepted-decodable, used-length}
@@ -34,28 +34,28 @@ use Rattle.codeword_assignment.proofs.Lone.{none-used, mark-none, mark-lone}
 use Rattle.codebook.proofs.Matching.{Starts, NoneBefore, turn-on, turn-found}
 
 module _ (ls : List ℕ) (accepted : verdict ls ≡ Accepted) where
-  decoded : Decodable ls (codewords ls)
+  decoded : Decodable ls (ledgerCodewords ls)
   decoded = accepted-decodable ls accepted
 
   -- the entry whose codeword the next 32 bits start with is found after just its bits
-  module _ (s : List ℕ) (k : ℕ) (there : k + 32 ≤ 8 * length s) (e : ℕ) (b : Begins ls (codewords ls) (bitsAt s k 32) e) where
+  module _ (s : List ℕ) (k : ℕ) (there : k + 32 ≤ 8 * length s) (e : ℕ) (b : Begins ls (ledgerCodewords ls) (bitsAt s k 32) e) where
     abbrev len : ℕ
     len = getD ls e 0
 
     few : len ≤ 32
     few = used-length ls (none-refused ls accepted) e (b .used) .high
 
-    whole-word : bitsAt s k len ≡ getD (codewords ls) e 0
+    whole-word : bitsAt s k len ≡ getD (ledgerCodewords ls) e 0
     whole-word =
         let x : len + (32 - len) ≡ 32 = let f = few in omega arith in
         sym (bits-begin s k len (32 - len)) ∙ ap (λ (n : ℕ). bitsAt s k n / 2 ^ (32 - len)) x ∙ b .starts
 
-    starts : (n : ℕ) → n ≤ len → Starts ls (codewords ls) n (bitsAt s k n) e
+    starts : (n : ℕ) → n ≤ len → Starts ls (ledgerCodewords ls) n (bitsAt s k n) e
     starts n h =
         let x : n + (len - n) ≡ len = omega arith in
         record { long = h; same = rw (← whole-word) (ap (λ (m : ℕ). bitsAt s k m / 2 ^ (len - n)) (sym x) ∙ bits-begin s k n (len - n)) }
 
-    alone : NoneBefore ls (codewords ls) len (bitsAt s k len) e
+    alone : NoneBefore ls (ledgerCodewords ls) len (bitsAt s k len) e
     alone f l st =
         let u = b .used in
         let m = st .long in
@@ -66,7 +66,7 @@ module _ (ls : List ℕ) (accepted : verdict ls ≡ Accepted) where
     found zero n h =
         let f = few in
         let x : n + 1 ≡ len = omega arith in
-        let a : NoneBefore ls (codewords ls) (n + 1) (bitsAt s k (n + 1)) e = rw x alone in
+        let a : NoneBefore ls (ledgerCodewords ls) (n + 1) (bitsAt s k (n + 1)) e = rw x alone in
         turn-found ls (decoded .prefixCode) s k n (omega arith) (omega arith) e a (b .entry) (starts (n + 1) (omega arith)) x ∙ rw x
     found (suc j) n h =
         let f = few in

@@ -2,5 +2,5 @@ pub mod Accepted
 pub mod Bits
 pub mod Lone
 pub mod Matching
-pub mod Asked
+pub mod LoopLaws
 pub mod Laws

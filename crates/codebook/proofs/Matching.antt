@@ -15,7 +15,7 @@ use borrow.Author.Tests.{lt-ltb, le-ltb, eq-eqb, ne-eqb, eqb-true}
 use Rattle.reading.specs.Outcome.{refusal, Outcome, ok, bad, need}
 use Rattle.reading.specs.Least.{lowest}
 use Rattle.reading.proofs.Least.{lowest-none, lowest-is, and-split, no-true, below-suc}
-use Rattle.codeword_assignment.specs.Book.{codewordOf, codewords, PrefixCode}
+use Rattle.codeword_assignment.specs.Book.{codewordOf, ledgerCodewords, PrefixCode}
 use Rattle.codeword_assignment.proofs.Laws.{codewords-at}
 use Rattle.codebook.specs.Codeword.{bitsAt, isCodeword, entryOf, orGoOn, matching}
 use Rattle.codebook.proofs.Bits.{bits-half}
@@ -59,9 +59,9 @@ module _ (ls ws : List ℕ) (n w e : ℕ) (h : NoneBefore ls ws n w e) where
   passes-other d = step (λ st. d (st .same))
 
 -- what the search says of the definition, for a book's own codewords
-module _ (ls : List ℕ) (code : PrefixCode ls (codewords ls)) where
+module _ (ls : List ℕ) (code : PrefixCode ls (ledgerCodewords ls)) where
   abbrev ws : List ℕ
-  ws = codewords ls
+  ws = ledgerCodewords ls
 
   -- an entry whose codeword is the n bits w
   exact : (n w e : ℕ) → e < length ls → isCodeword ls n w e ≡ true → (getD ls e 0 ≡ n) × (getD ws e 0 ≡ w)

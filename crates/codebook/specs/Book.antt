@@ -3,11 +3,11 @@ use mathlib.Core.List.{List}
 use mathlib.Core.Path.{_≡_}
 use Prim.Native.Nat.{ℕ, _^_, _≤_}
 use lib.ListN.{length}
-use Rattle.codeword_assignment.specs.Book.{codewords, verdict}
+use Rattle.codeword_assignment.specs.Book.{ledgerCodewords, verdict}
 use Rattle.codeword_assignment.specs.declared.book.Assigned.the-variants.{Accepted}
 
-pub record Codebook (lengths words : List ℕ) : Type 0 where
+pub record Codebook (lengths codewords : List ℕ) : Type 0 where
   -- the number of entries is a field of 24 bits (002)
   pub entries : length lengths ≤ 2 ^ 24
   pub accepted : verdict lengths ≡ Accepted
-  pub coded : words ≡ codewords lengths
+  pub coded : codewords ≡ ledgerCodewords lengths

@@ -6,14 +6,14 @@ use mathlib.Core.Logic.{_⊎_}
 use mathlib.Core.Path.{_≡_}
 use lib.ListN.{length, getD, take}
 use Rattle.reading.specs.Outcome.{refusal, ok, bad}
-use Rattle.codeword_assignment.specs.Book.{used, isLone, firstUsed, codewords, Begins}
+use Rattle.codeword_assignment.specs.Book.{used, isLone, firstUsed, ledgerCodewords, Begins}
 use Rattle.codebook.specs.Codeword.{bitsAt, codeword}
 
 pub record Settled (lengths : List ℕ) : Type 0 where
   -- whatever 32 bits come next, reading gives the one entry whose codeword they start with, and takes just its codeword's bits
   pub whole : isLone (used lengths) ≡ false → (s : List ℕ) (k : ℕ) → k + 32 ≤ 8 * length s
-      → (e : ℕ) × Begins lengths (codewords lengths) (bitsAt s k 32) e
-      × ((f : ℕ) → Begins lengths (codewords lengths) (bitsAt s k 32) f → f ≡ e)
+      → (e : ℕ) × Begins lengths (ledgerCodewords lengths) (bitsAt s k 32) e
+      × ((f : ℕ) → Begins lengths (ledgerCodewords lengths) (bitsAt s k 32) f → f ≡ e)
       × (codeword lengths s k ≡ ok (e, k + getD lengths e 0))
   -- a lone entry is given for every string and takes none of its bits, at the very end of the packet too
   pub lone : isLone (used lengths) ≡ true → (s : List ℕ) (k : ℕ) → k ≤ 8 * length s → codeword lengths s k ≡ ok (firstUsed lengths, k)

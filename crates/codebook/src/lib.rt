@@ -17,15 +17,15 @@ ghost use Rattle.codebook.specs.Claims.{Settled};
 
 // The entry whose codeword stands at the cursor, with the position behind it; or the cut, where the packet ends within the codeword. `lone` is the
 // number of the book's sole used entry of length 1 plus one, or 0 where it has none.
-pub fn read_codeword(packet: &[u8], from: Cursor, lone: u32, lengths: &[u8], words: &[u32]) -> Field
-    requires { ⌜ Codebook (now lengths) (now words) × (lone ≡ loneMark (now lengths)) ⌝ }
+pub fn read_codeword(packet: &[u8], from: Cursor, lone: u32, lengths: &[u8], codewords: &[u32]) -> Field
+    requires { ⌜ Codebook (now lengths) (now codewords) × (lone ≡ loneMark (now lengths)) ⌝ }
     ensures { λ r. ⌜ outcome r ≡ codeword (now (lengths .entry)) (now (packet .entry)) (position from) ⌝ }
     ensures { λ _. ⌜ Settled (now (lengths .entry)) ⌝ }
 {
     if lone != 0 {
         return lone_entry(packet, from, lone - 1);
     }
-    match_codeword(packet, from, lengths, words)
+    match_codeword(packet, from, lengths, codewords)
 }
 
 // A sole used entry takes no bits.
@@ -40,8 +40,8 @@ fn lone_entry(packet: &[u8], from: Cursor, entry: u32) -> Field
 
 // Bits are taken one at a time until they are an entry's codeword. An entry whose codeword does not begin with the bits taken so far does not
 // begin with more of them either, so the entry search goes on where it stopped: it passes each entry once a codeword, not once a bit.
-fn match_codeword(packet: &[u8], from: Cursor, lengths: &[u8], words: &[u32]) -> Field
-    requires { ⌜ Codebook (now lengths) (now words) ⌝ }
+fn match_codeword(packet: &[u8], from: Cursor, lengths: &[u8], codewords: &[u32]) -> Field
+    requires { ⌜ Codebook (now lengths) (now codewords) ⌝ }
     ensures { λ r. ⌜ outcome r ≡ matching (now (lengths .entry)) 0 32 (now (packet .entry)) (position from) ⌝ }
 {
     let mut word: u32 = 0;
@@ -62,9 +62,9 @@ fn match_codeword(packet: &[u8], from: Cursor, lengths: &[u8], words: &[u32]) ->
             }
             let length = wide(lengths[entry]);
             if taken <= length {
-                if words[entry] >> (length - taken) == word {
+                if codewords[entry] >> (length - taken) == word {
                     if taken == length {
-                        break 'word Field::Value(entry as u32, behind(from, taken));
+                        break 'word Field::Value(entry as u32, after(from, taken));
                     }
                     continue 'word;
                 }
@@ -113,7 +113,7 @@ fn bit(packet: &[u8], from: Cursor, taken: usize) -> u32
 }
 
 // The position `taken` bits behind the cursor.
-fn behind(from: Cursor, taken: usize) -> Cursor
+fn after(from: Cursor, taken: usize) -> Cursor
     requires { ⌜ (taken < 33) × (from .byte < 9223372036854775808) ⌝ }
     ensures { λ r. ⌜ position r ≡ position from + taken ⌝ }
 {

@@ -31,15 +31,15 @@ pub record Next (f : ℕ → Bool) (x a p : ℕ) : Type 0 where
 pub data Chain (f : ℕ → Bool) : ℕ → ℕ → List ℕ → Type 0 where
   end : {h x : ℕ} → x ≤ vacant → Gap f x vacant → Chain f h x []
   gone : {h x b : ℕ} {bs : List ℕ} → b ≡ vacant → Chain f (suc h) x bs → Chain f h x (b ∷ bs)
-  held : {h x b : ℕ} {bs : List ℕ} → Next f x b (2 ^ h) → Chain f (suc h) (b + 2 ^ h) bs → Chain f h x (b ∷ bs)
+  occupied : {h x b : ℕ} {bs : List ℕ} → Next f x b (2 ^ h) → Chain f (suc h) (b + 2 ^ h) bs → Chain f h x (b ∷ bs)
 
 -- f′ has nothing from x to y, and is f from y on
 pub move : (f f′ : ℕ → Bool) {h x y : ℕ} {bs : List ℕ} → x ≤ y → Gap f′ x y → ((s : ℕ) → y ≤ s → f′ s ≡ f s) → Chain f h y bs → Chain f′ h x bs
 move f f′ {h} {x} {y} l g e (end t k) = end {x = x} (omega arith) (gap-cat f′ g (λ s a b. e s a ∙ k s a b))
 move f f′ {h} {x} {y} l g e (gone q c) = gone q (move f f′ l g e c)
-move f f′ {h} {x} {y} l g e (held {b = b} n c) =
+move f f′ {h} {x} {y} l g e (occupied {b = b} n c) =
     let m : y ≤ b = n .low in
-    held
+    occupied
     {h = h}
     {x = x}
     {b = b}
@@ -74,7 +74,7 @@ half f h x (some g) p =
         full = λ s l u. n .full s l (omega arith);
         mult = (q * 2, omega arith);
       },
-      held
+      occupied
           {h = h}
           {x = a + 2 ^ h}
           {b = a + 2 ^ h}
@@ -92,7 +92,7 @@ pub smallest-ok : (f : ℕ → Bool) {h x : ℕ} {bs : List ℕ} → Chain f h x
 unfolding smallest
 smallest-ok f (end t k) = k
 smallest-ok f {h} {x} (gone {b = b} {bs = bs} q c) = rw (le-ltb b vacant (omega arith)) (half f h x (smallest (suc h) bs) (smallest-ok f c))
-smallest-ok f {h} {x} (held {b = b} {bs = bs} n c) =
+smallest-ok f {h} {x} (occupied {b = b} {bs = bs} n c) =
     let t = n .top in
     let p = pow-pos h in
     rw (lt-ltb b vacant (omega arith)) (n, gone refl c)
@@ -101,7 +101,7 @@ smallest-ok f {h} {x} (held {b = b} {bs = bs} n c) =
 pub record Less (f f′ : ℕ → Bool) (a p : ℕ) : Type 0 where
   pub inside : Gap f′ a (a + p)
   pub before : (s : ℕ) → s < a → f′ s ≡ f s
-  pub behind : (s : ℕ) → a + p ≤ s → f′ s ≡ f s
+  pub after : (s : ℕ) → a + p ≤ s → f′ s ≡ f s
 
 -- a block of p strings was taken at g: nothing was free below it but less than p strings; and what is left
 pub record Taken (f : ℕ → Bool) (p h x : ℕ) (g : Block) : Type 0 where
@@ -129,13 +129,13 @@ smallest-provided f h x (some g) l p =
       mult = n .mult;
       rest = λ f′ d.
           let l = n .low in
-          move f f′ (omega arith) (gap-cat f′ (λ s u v. d .before s v ∙ n .gap s u v) (d .inside)) (d .behind) (p .1);
+          move f f′ (omega arith) (gap-cat f′ (λ s u v. d .before s v ∙ n .gap s u v) (d .inside)) (d .after) (p .1);
     }
 
 chain-low : (f : ℕ → Bool) {h x : ℕ} {bs : List ℕ} → Chain f h x bs → x ≤ vacant
 chain-low f (end t k) = t
 chain-low f (gone q c) = chain-low f c
-chain-low f (held n c) = let t = n .top in let l = n .low in omega arith
+chain-low f (occupied n c) = let t = n .top in let l = n .low in omega arith
 
 kept-gone : (f : ℕ → Bool) (p h x b : ℕ) (r : Option Block) → b ≡ vacant → Provided f p (suc h) x r → Provided f p h x (keep b r)
 kept-gone f p h x b none q w = (w .0, let m = w .1 in omega arith)
@@ -158,14 +158,14 @@ module _ (f : ℕ → Bool) (h x b : ℕ) (n : Next f x b (2 ^ h)) where
       let v = count-full f u (n .full) in
       omega arith
 
-  kept-held : (p : ℕ) (r : Option Block) → Provided f p (suc h) (b + 2 ^ h) r → Provided f p h x (keep b r)
-  kept-held p none w =
+  kept-occupied : (p : ℕ) (r : Option Block) → Provided f p (suc h) (b + 2 ^ h) r → Provided f p h x (keep b r)
+  kept-occupied p none w =
       let m = w .1 in
       let e = passed in
       let l = n .low in
       let t = w .0 in
       (omega arith, omega arith)
-  kept-held p (some g) w =
+  kept-occupied p (some g) w =
       let m = w .few in
       let e = passed in
       let l = n .low in
@@ -185,7 +185,7 @@ module _ (f : ℕ → Bool) (h x b : ℕ) (n : Next f x b (2 ^ h)) where
               full = λ s u v. d .before s (omega arith) ∙ n .full s u v;
               mult = n .mult;
             } in
-            held n′ (w .rest f′ d);
+            occupied n′ (w .rest f′ d);
       }
 
 pub block-above-ok : (f : ℕ → Bool) (k : ℕ) {h x : ℕ} {bs : List ℕ} → Chain f h x bs → Provided f (2 ^ (h + k)) h x (blockAbove k h bs)
@@ -198,6 +198,6 @@ block-above-ok f (suc k) {h} {x} (end t g) =
 block-above-ok f (suc k) {h} {x} (gone {b = b} {bs = bs} q c) =
     let p : suc h + k ≡ h + suc k = omega arith in
     kept-gone f (2 ^ (h + suc k)) h x b (blockAbove k (suc h) bs) q (rw p at (block-above-ok f k c))
-block-above-ok f (suc k) {h} {x} (held {b = b} {bs = bs} n c) =
+block-above-ok f (suc k) {h} {x} (occupied {b = b} {bs = bs} n c) =
     let p : suc h + k ≡ h + suc k = omega arith in
-    kept-held f h x b n (2 ^ (h + suc k)) (blockAbove k (suc h) bs) (rw p at (block-above-ok f k c))
+    kept-occupied f h x b n (2 ^ (h + suc k)) (blockAbove k (suc h) bs) (rw p at (block-above-ok f k c))

@@ -17,10 +17,10 @@ use Rattle.reading.proofs.Pads.{pad-nil, pad-set}
 use Rattle.codespace.specs.Ledger.{Codeword, answer, enlist, after, answers, IsLength}
 use Rattle.codespace.specs.Claims.{Balanced}
 use Rattle.codespace.specs.Blocks.{enterAnswer, enterBlocks, Reached}
-use Rattle.codespace.specs.Steps.{firstHeld}
+use Rattle.codespace.specs.Steps.{firstOccupied}
 use Rattle.codespace.specs.Answers.{number, outcome, isNone}
 use Rattle.codespace.specs.Entering.{Entered, enteredAll}
-use Rattle.codespace.proofs.Whole.{Says, answer-says}
+use Rattle.codespace.proofs.Whole.{AnswerMeans, answer-says}
 use Rattle.codespace.proofs.Claimed.{answers-snoc, answers-length, balanced, next-answer, next-reached}
 use Rattle.codespace.proofs.Places.{Small, refused-same}
 use Rattle.codespace.proofs.Steps.{refused-answer, taken-answer}
@@ -30,7 +30,7 @@ outcome-number none p = refl
 outcome-number (some v) p = rw (lt-ltb v 4294967296 p)
 
 -- the ledger's answers are numbers of 32 bits
-says-small : (ws : List Codeword) (len : ℕ) (o : Option ℕ) → Says ws len o → Small o
+says-small : (ws : List Codeword) (len : ℕ) (o : Option ℕ) → AnswerMeans ws len o → Small o
 says-small ws len none p = tt
 says-small ws len (some v) p =
     let l : 2 ^ len ≤ 2 ^ 32 = pow-mono {i = len} {j = 32} (p .0 .high) in
@@ -55,7 +55,7 @@ entered-so {bs} {len} v b =
     }
 
 -- `is_full`, by the height that `smallest_block` found
-pub full-is : (bs : List ℕ) (g : ℕ) → length bs ≡ 33 → g ≡ firstHeld 33 0 bs → leb 33 g ≡ isNone (enterAnswer bs 32)
+pub full-is : (bs : List ℕ) (g : ℕ) → length bs ≡ 33 → g ≡ firstOccupied 33 0 bs → leb 33 g ≡ isNone (enterAnswer bs 32)
 full-is bs g n e =
     let k : IsLength 32 = record { low = omega arith; high = omega arith } in
     ⊎-elim

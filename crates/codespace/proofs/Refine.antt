@@ -53,7 +53,7 @@ module _ (ws : List Codeword) (len v : ℕ) where
       record {
         inside = λ s l u. rw (begins-in len v s l u);
         before = λ s l. rw (begins-out len v s (λ p. let a = p .0 in omega arith));
-        behind = λ s l. rw (begins-out len v s (λ p. let a = p .1 in omega arith));
+        after = λ s l. rw (begins-out len v s (λ p. let a = p .1 in omega arith));
       }
 
   pub codeword-full : v * share len + share len ≤ vacant → freeCodeword ws len v ≡ true → Full (free ws) (v * share len) (v * share len + share len)

@@ -18,7 +18,7 @@ use Rattle.reading.proofs.Least.{lt-or-le}
 use Rattle.codespace.specs.Ledger.{IsLength}
 use Rattle.codespace.specs.Blocks.{vacant, Block, smallest, halve, blockAbove, keep, blockFor, enterAnswer, enterBlocks}
 use Rattle.codespace.specs.Answers.{number}
-use Rattle.codespace.specs.Steps.{firstHeld, upperHalves}
+use Rattle.codespace.specs.Steps.{firstOccupied, upperHalves}
 use Rattle.codespace.proofs.Lengths.{is-length, no-length}
 
 -- a bit, as the machine shifts it
@@ -26,22 +26,22 @@ pub bit : (k : ℕ) → k < 64 → (1 * 2 ^ k) % 18446744073709551616 ≡ 2 ^ k
 bit k h = rw one-mul (mod-eq-of-lt (pow-lt h))
 
 module _ (bs : List ℕ) (g : ℕ) where
-  pub held-end : 33 ≤ g → firstHeld (33 - g) g bs ≡ g
-  unfolding firstHeld
-  held-end h = let z : 33 - g ≡ 0 = omega arith in rw z
+  pub occupied-end : 33 ≤ g → firstOccupied (33 - g) g bs ≡ g
+  unfolding firstOccupied
+  occupied-end h = let z : 33 - g ≡ 0 = omega arith in rw z
 
-  next : g < 33 → firstHeld (33 - g) g bs ≡ cond (ltb (getD bs g 0) vacant) g (firstHeld (33 - (g + 1)) (g + 1) bs)
-  unfolding firstHeld
+  next : g < 33 → firstOccupied (33 - g) g bs ≡ cond (ltb (getD bs g 0) vacant) g (firstOccupied (33 - (g + 1)) (g + 1) bs)
+  unfolding firstOccupied
   next h =
       let z : 33 - g ≡ suc (33 - (g + 1)) = omega arith in
       let s : g + 1 ≡ suc g = omega arith in
       rw (z, s)
 
-  pub held-here : g < 33 → getD bs g 0 < vacant → firstHeld (33 - g) g bs ≡ g
-  held-here h l = next h ∙ rw (lt-ltb (getD bs g 0) vacant l)
+  pub occupied-here : g < 33 → getD bs g 0 < vacant → firstOccupied (33 - g) g bs ≡ g
+  occupied-here h l = next h ∙ rw (lt-ltb (getD bs g 0) vacant l)
 
-  pub held-on : g < 33 → vacant ≤ getD bs g 0 → firstHeld (33 - g) g bs ≡ firstHeld (33 - (g + 1)) (g + 1) bs
-  held-on h l = next h ∙ rw (le-ltb (getD bs g 0) vacant l)
+  pub occupied-on : g < 33 → vacant ≤ getD bs g 0 → firstOccupied (33 - g) g bs ≡ firstOccupied (33 - (g + 1)) (g + 1) bs
+  occupied-on h l = next h ∙ rw (le-ltb (getD bs g 0) vacant l)
 
 module _ (g a : ℕ) (bs : List ℕ) where
   pub halves-none : upperHalves g (g - g) a bs ≡ bs
@@ -83,29 +83,29 @@ unfolding prefix lift
 halved h b p none e = refl
 halved h b p (some g) e = rw (append-snoc p b (g .rest), set-at p b (g .rest) (g .first + 2 ^ h) h e)
 
-pub held-ge : (n g : ℕ) (bs : List ℕ) → g ≤ firstHeld n g bs
-unfolding firstHeld
-held-ge zero g bs = omega arith
-held-ge (suc n) g bs = go (ltb (getD bs g 0) vacant) (held-ge n (suc g) bs)
+pub occupied-ge : (n g : ℕ) (bs : List ℕ) → g ≤ firstOccupied n g bs
+unfolding firstOccupied
+occupied-ge zero g bs = omega arith
+occupied-ge (suc n) g bs = go (ltb (getD bs g 0) vacant) (occupied-ge n (suc g) bs)
   where
-    go : (t : Bool) → suc g ≤ firstHeld n (suc g) bs → g ≤ cond t g (firstHeld n (suc g) bs)
+    go : (t : Bool) → suc g ≤ firstOccupied n (suc g) bs → g ≤ cond t g (firstOccupied n (suc g) bs)
     go true l = omega arith
     go false l = omega arith
 
-pub held-at : (n g : ℕ) (bs : List ℕ) → firstHeld n g bs < g + n → getD bs (firstHeld n g bs) 0 < vacant
-unfolding firstHeld
-held-at zero g bs l = absurd (omega arith)
-held-at (suc n) g bs l =
+pub occupied-at : (n g : ℕ) (bs : List ℕ) → firstOccupied n g bs < g + n → getD bs (firstOccupied n g bs) 0 < vacant
+unfolding firstOccupied
+occupied-at zero g bs l = absurd (omega arith)
+occupied-at (suc n) g bs l =
     ⊎-elim
     (λ (k : getD bs g 0 < vacant). rw (lt-ltb (getD bs g 0) vacant k) k)
     (λ (k : vacant ≤ getD bs g 0).
     let e = le-ltb (getD bs g 0) vacant k in
-    let m : firstHeld n (suc g) bs < g + suc n = rw e at l in
-    rw e (held-at n (suc g) bs (omega arith)))
+    let m : firstOccupied n (suc g) bs < g + suc n = rw e at l in
+    rw e (occupied-at n (suc g) bs (omega arith)))
     (lt-or-le (getD bs g 0) vacant)
 
-smallest-is : (q p : List ℕ) (h : ℕ) → length p ≡ h → prefix p (smallest h q) ≡ result h (h + length q) (firstHeld (length q) h (p ++ q)) (p ++ q)
-unfolding smallest firstHeld prefix upperHalves
+smallest-is : (q p : List ℕ) (h : ℕ) → length p ≡ h → prefix p (smallest h q) ≡ result h (h + length q) (firstOccupied (length q) h (p ++ q)) (p ++ q)
+unfolding smallest firstOccupied prefix upperHalves
 smallest-is [] p h e = rw (le-ltb h (h + 0) (omega arith))
 smallest-is (b ∷ q) p h e =
     let g = getD-at p b q 0 h e in
@@ -119,11 +119,11 @@ smallest-is (b ∷ q) p h e =
     let l : length (p ++ (b ∷ [])) ≡ suc h = omega (arith, length-append p (b ∷ [])) in
     let ih = smallest-is q (p ++ (b ∷ [])) (suc h) l in
     let s : suc h + length q ≡ h + suc (length q) = omega arith in
-    let w = held-ge (length q) (suc h) bs in
+    let w = occupied-ge (length q) (suc h) bs in
     rw (g, le-ltb b vacant k)
     (halved h b p (smallest (suc h) q) e
     ∙ ap (lift h) (rw (append-snoc p b q, s) at ih)
-    ∙ lifts (ltb (firstHeld (length q) (suc h) bs) (h + suc (length q))) h (firstHeld (length q) (suc h) bs) bs w))
+    ∙ lifts (ltb (firstOccupied (length q) (suc h) bs) (h + suc (length q))) h (firstOccupied (length q) (suc h) bs) bs w))
     (lt-or-le b vacant)
 
 kept : (b : ℕ) (p : List ℕ) (r : Option Block) → prefix p (keep b r) ≡ prefix (p ++ (b ∷ [])) r
@@ -132,7 +132,7 @@ kept b p none = refl
 kept b p (some g) = rw (append-snoc p b (g .rest))
 
 above : (k : ℕ) (q p : List ℕ) (h : ℕ) → length p ≡ h → k ≤ length q
-    → prefix p (blockAbove k h q) ≡ result (h + k) (h + length q) (firstHeld (length q - k) (h + k) (p ++ q)) (p ++ q)
+    → prefix p (blockAbove k h q) ≡ result (h + k) (h + length q) (firstOccupied (length q - k) (h + k) (p ++ q)) (p ++ q)
 unfolding blockAbove
 above zero q p h e l = rw (add-zero, sub-zero) (smallest-is q p h e)
 above (suc k) [] p h e l = absurd (omega arith)
@@ -150,7 +150,7 @@ plain none = refl
 plain (some g) = refl
 
 -- WHAT THE LOOPS FIND IS WHAT THE MODEL FINDS
-pub block-above-is : (k : ℕ) (bs : List ℕ) → length bs ≡ 33 → k ≤ 32 → blockAbove k 0 bs ≡ result k 33 (firstHeld (33 - k) k bs) bs
+pub block-above-is : (k : ℕ) (bs : List ℕ) → length bs ≡ 33 → k ≤ 32 → blockAbove k 0 bs ≡ result k 33 (firstOccupied (33 - k) k bs) bs
 block-above-is k bs e l =
     let z = above k bs [] 0 refl (omega arith) in
     sym (plain (blockAbove k 0 bs)) ∙ rw (zero-add, e, zero-add) at z
@@ -166,7 +166,7 @@ module _ (bs : List ℕ) (len : ℕ) (n : IsLength len → ⊥) where
   outside-blocks = rw (no-length len n)
 
 -- a length, by the height g that `smallest_block` found for it
-module _ (bs : List ℕ) (len g : ℕ) (k : IsLength len) (size : length bs ≡ 33) (e : g ≡ firstHeld (33 - (32 - len)) (32 - len) bs) where
+module _ (bs : List ℕ) (len g : ℕ) (k : IsLength len) (size : length bs ≡ 33) (e : g ≡ firstOccupied (33 - (32 - len)) (32 - len) bs) where
   what : blockFor bs len ≡ result (32 - len) 33 g bs
   unfolding blockFor
   what = rw (is-length len k) (rw e (block-above-is (32 - len) bs size (omega arith)))
@@ -195,9 +195,9 @@ module _ (bs : List ℕ) (len g : ℕ) (k : IsLength len) (size : length bs ≡ 
   taken-blocks l = rw (found-in l)
 
   pub found-low : 32 - len ≤ g
-  found-low = rw e (held-ge (33 - (32 - len)) (32 - len) bs)
+  found-low = rw e (occupied-ge (33 - (32 - len)) (32 - len) bs)
 
   pub found-block : g < 33 → getD bs g 0 < vacant
   found-block l =
-      let m : firstHeld (33 - (32 - len)) (32 - len) bs < 32 - len + (33 - (32 - len)) = omega arith in
-      rw e (held-at (33 - (32 - len)) (32 - len) bs m)
+      let m : firstOccupied (33 - (32 - len)) (32 - len) bs < 32 - len + (33 - (32 - len)) = omega arith in
+      rw e (occupied-at (33 - (32 - len)) (32 - len) bs m)

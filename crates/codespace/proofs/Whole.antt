@@ -16,7 +16,7 @@ use Rattle.codespace.specs.Ledger.{Codeword, codeword, share, begins, ta
 use Rattle.codespace.specs.Claims.{accepted, acceptedShare, starts, startsWith}
 use Rattle.codespace.specs.Blocks.{vacant, Block, blockAbove, blockFor, valueOf, restOf, enterAnswer, enterBlocks, runAnswers, runBlocks, emptyBlocks}
 use Rattle.codespace.proofs.Lengths.{is-length, length-is}
-use Rattle.codespace.proofs.Chain.{Chain, end, gone, held, Next, Provided, block-above-ok}
+use Rattle.codespace.proofs.Chain.{Chain, end, gone, occupied, Next, Provided, block-above-ok}
 use Rattle.codespace.proofs.Refine.{less, begins-then, codeword-full, codeword-count, whole, ends, enter-ok, run-ok}
 
 -- the empty space has every string free
@@ -33,7 +33,7 @@ unfolding emptyBlocks
 start =
     let n : Next (free []) 0 0 vacant
     = record { low = omega arith; top = omega arith; gap = no-gap (free []); full = all-free; mult = (0, omega arith) } in
-    vacants (free []) 32 0 (0 ∷ []) (held n (end (omega arith) (no-gap (free []))))
+    vacants (free []) 32 0 (0 ∷ []) (occupied n (end (omega arith) (no-gap (free []))))
 
 -- THE MODEL'S ANSWERS ARE THE LEDGER'S, answer by answer, refusals included
 pub answers-are : (ls : List ℕ) → runAnswers emptyBlocks ls ≡ answers [] ls
@@ -43,15 +43,15 @@ pub answer-are : (ls : List ℕ) (len : ℕ) → enterAnswer (runBlocks emptyBlo
 answer-are ls len = sym (enter-ok (after [] ls) len (runBlocks emptyBlocks ls) (run-ok ls [] emptyBlocks start .next) .same)
 
 -- What an answer says: a codeword has one of the lengths, is free and below 2 ^ len, and no lower one is free
-abbrev pub Says : List Codeword → ℕ → Option ℕ → Type 0
-Says ws len (some v) = IsLength len × Least (freeCodeword ws len) (2 ^ len) v
-Says ws len none = Unit {0}
+abbrev pub AnswerMeans : List Codeword → ℕ → Option ℕ → Type 0
+AnswerMeans ws len (some v) = IsLength len × Least (freeCodeword ws len) (2 ^ len) v
+AnswerMeans ws len none = Unit {0}
 
-found-says : (ws : List Codeword) (len : ℕ) (o : Option ℕ) → IsLength len → IsLowest (freeCodeword ws len) (2 ^ len) o → Says ws len o
+found-says : (ws : List Codeword) (len : ℕ) (o : Option ℕ) → IsLength len → IsLowest (freeCodeword ws len) (2 ^ len) o → AnswerMeans ws len o
 found-says ws len (some v) k p = (k, p)
 found-says ws len none k p = tt
 
-pub answer-says : (ws : List Codeword) (len : ℕ) → Says ws len (answer ws len)
+pub answer-says : (ws : List Codeword) (len : ℕ) → AnswerMeans ws len (answer ws len)
 unfolding answer
 answer-says ws len =
     ⊎-elim
@@ -83,7 +83,7 @@ module _ (ws : List Codeword) (len v : ℕ) (ok : len ≤ 32) (b : v < 2 ^ len) 
       let c₁ = count-agree f g l (λ s x y. d .before s y) in
       let c₂ = count-gap g m (d .inside) in
       let c₃ = count-full f m (codeword-full ws len v in-reach t) in
-      let c₄ = count-agree f g in-reach (λ s x y. d .behind s x) in
+      let c₄ = count-agree f g in-reach (λ s x y. d .after s x) in
       let z₁ = count-zero f in
       let z₂ = count-zero g in
       omega arith
@@ -99,7 +99,7 @@ module _ (ws : List Codeword) (len v : ℕ) (ok : len ≤ 32) (b : v < 2 ^ len) 
       not-free false q = refl
 
 -- THE BALANCE: shares of the accepted lengths and free strings are those at the start
-balance-step : (ws : List Codeword) (len : ℕ) (o : Option ℕ) → Says ws len o → acceptedShare len o + freeStrings (enlist ws len o) ≡ freeStrings ws
+balance-step : (ws : List Codeword) (len : ℕ) (o : Option ℕ) → AnswerMeans ws len o → acceptedShare len o + freeStrings (enlist ws len o) ≡ freeStrings ws
 balance-step ws len none p = zero-add (freeStrings ws)
 balance-step ws len (some v) p = takes ws len v (p .0 .high) (p .1 .below) (p .1 .passes)
 
@@ -123,7 +123,7 @@ balance ls =
 
 -- REFUSED exactly where the share is more than what is free
 module _ (ws : List Codeword) (len : ℕ) where
-  refused-if : (o : Option ℕ) → Says ws len o → freeStrings ws < share len → o ≡ none
+  refused-if : (o : Option ℕ) → AnswerMeans ws len o → freeStrings ws < share len → o ≡ none
   refused-if none p h = refl
   refused-if (some v) p h = let k = enough ws len v (p .0 .high) (p .1 .below) (p .1 .passes) in absurd (omega arith)
 
@@ -144,7 +144,7 @@ refused-is ls len k =
     )
 
 -- AT MOST ONE: a string that begins with a codeword of the list begins with exactly one, counted along the lengths and their answers
-single-step : (ws : List Codeword) (len s : ℕ) (o : Option ℕ) → Says ws len o → one (taken (enlist ws len o) s) ≡ startsWith s len o + one (taken ws s)
+single-step : (ws : List Codeword) (len s : ℕ) (o : Option ℕ) → AnswerMeans ws len o → one (taken (enlist ws len o) s) ≡ startsWith s len o + one (taken ws s)
 unfolding taken
 single-step ws len s none p = sym (zero-add (one (taken ws s)))
 single-step ws len s (some v) p = go (begins s (codeword len v)) (was-free ws len v (p .0 .high) (p .1 .below) (p .1 .passes) s)

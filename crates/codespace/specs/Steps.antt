@@ -7,9 +7,9 @@ use lib.ListN.{getD, set}
 use Rattle.codespace.specs.Blocks.{vacant}
 
 -- the first of the n places from g on that holds a block, or g + n
-unfoldable pub firstHeld : ℕ → ℕ → List ℕ → ℕ
-firstHeld zero g bs = g
-firstHeld (suc n) g bs = cond (ltb (getD bs g 0) vacant) g (firstHeld n (suc g) bs)
+unfoldable pub firstOccupied : ℕ → ℕ → List ℕ → ℕ
+firstOccupied zero g bs = g
+firstOccupied (suc n) g bs = cond (ltb (getD bs g 0) vacant) g (firstOccupied n (suc g) bs)
 
 -- the n places from h on hold the upper halves of the blocks at a
 unfoldable pub upperHalves : ℕ → ℕ → ℕ → List ℕ → List ℕ

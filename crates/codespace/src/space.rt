@@ -9,7 +9,7 @@ ghost use Prim.Native.Nat.{_-_, _<_, _≤_};
 ghost use lib.ListN.{length, set, take};
 ghost use Rattle.codespace.specs.Claims.{Balanced};
 ghost use Rattle.codespace.specs.Blocks.{vacant, emptyBlocks, enterAnswer, Reached};
-ghost use Rattle.codespace.specs.Steps.{firstHeld, upperHalves};
+ghost use Rattle.codespace.specs.Steps.{firstOccupied, upperHalves};
 ghost use Rattle.codespace.specs.Answers.{outcome, isNone};
 ghost use Rattle.codespace.specs.Entering.{Entered, enteredAll};
 
@@ -28,7 +28,7 @@ pub fn empty_space() -> [u64; 33]
 // The height of the smallest block of at least 2^height strings, or 33.
 fn smallest_block(blocks: &[u64; 33], height: usize) -> usize
     requires { ⌜ height ≤ 32 ⌝ }
-    ensures { λ r. ⌜ r ≡ firstHeld (33 - height) height (now (blocks .entry)) ⌝ }
+    ensures { λ r. ⌜ r ≡ firstOccupied (33 - height) height (now (blocks .entry)) ⌝ }
 {
     let mut h = height;
     while h < 33 {

@@ -19,7 +19,7 @@ use Rattle.reading.proofs.Tabulate.{tabulate-length}
 use Rattle.codespace.specs.Ledger.{freeStrings, IsLength, answer, after}
 use Rattle.codespace.specs.Blocks.{vacant, enterAnswer, enterBlocks, Reached}
 use Rattle.codespace.specs.Answers.{number, isNone}
-use Rattle.codeword_assignment.specs.Book.{used, isUsed, entryAnswer, orZero, isRefused, firstRefused, codewordOf, codewords, freeAfter, isLone, verdict, assigned, written, Decodable, NextUsed}
+use Rattle.codeword_assignment.specs.Book.{used, isUsed, entryAnswer, orZero, isRefused, firstRefused, codewordOf, ledgerCodewords, freeAfter, isLone, verdict, assigned, written, Decodable, NextUsed}
 use Rattle.codeword_assignment.specs.declared.book.Assigned.{Assigned}
 use Rattle.codeword_assignment.specs.declared.book.Assigned.the-variants.{Accepted, Overspecified, Underspecified, TooShort}
 use Rattle.codespace.proofs.Whole.{answer-are, refused-is}
@@ -124,31 +124,31 @@ module _ (ls bs : List ℕ) (i : ℕ) (h : length ls ≤ i) (w : Assigning ls bs
   underspecified r q e t f s = rw (none-refused, sym full-test ∙ sym e ∙ t, sym f ∙ s)
 
 -- `hand_out`: the places before i hold the codewords, and the others are zero
-pub record Handing (ls words₀ words bs : List ℕ) (i : ℕ) : Type 0 where
+pub record Handing (ls codewords₀ codewords bs : List ℕ) (i : ℕ) : Type 0 where
   pub entered : Assigning ls bs i
-  pub long : length words ≡ length words₀
-  pub places : words ≡ pad (length words₀) (tabulate (codewordOf ls) i)
+  pub long : length codewords ≡ length codewords₀
+  pub places : codewords ≡ pad (length codewords₀) (tabulate (codewordOf ls) i)
 
-pub handing-start : (ls words bs : List ℕ) → words ≡ replicate (length words) 0 → Reached [] bs → Handing ls words words bs 0
-handing-start ls words bs e r =
-    record { entered = assigning-start ls bs r; long = refl; places = unfold tabulate in e ∙ sym (pad-nil (length words)) }
+pub handing-start : (ls codewords bs : List ℕ) → codewords ≡ replicate (length codewords) 0 → Reached [] bs → Handing ls codewords codewords bs 0
+handing-start ls codewords bs e r =
+    record { entered = assigning-start ls bs r; long = refl; places = unfold tabulate in e ∙ sym (pad-nil (length codewords)) }
 
-pub handing-turn : (ls words₀ words bs : List ℕ) (i v : ℕ) → i < length ls → Handing ls words₀ words bs i
+pub handing-turn : (ls codewords₀ codewords bs : List ℕ) (i v : ℕ) → i < length ls → Handing ls codewords₀ codewords bs i
     → v ≡ cond (eqb (getD ls i 0) 0) 0 (number (enterAnswer bs (getD ls i 0))) → (bs′ : List ℕ) → bs′ ≡ enterBlocks bs (getD ls i 0) → v < vacant
-    → Handing ls words₀ (set words i v) bs′ (i + 1)
-handing-turn ls words₀ words bs i v h w e bs′ q l =
+    → Handing ls codewords₀ (set codewords i v) bs′ (i + 1)
+handing-turn ls codewords₀ codewords bs i v h w e bs′ q l =
     let g = codewordOf ls in
     record {
       entered = assigning-turn ls bs i v h (w .entered) e bs′ q l;
       long = simp length-set (w .long);
       places =
           rw (w .places, word-is ls bs i v h (w .entered) e l, add-one)
-          (unfold tabulate in pad-set (length words₀) (tabulate g i) i (g i) (sym (tabulate-length g i)));
+          (unfold tabulate in pad-set (length codewords₀) (tabulate g i) i (g i) (sym (tabulate-length g i)));
     }
 
-pub all-written : (ls words₀ words bs : List ℕ) (i : ℕ) → length ls ≤ i → Handing ls words₀ words bs i → words ≡ pad (length words₀) (codewords ls)
-unfolding codewords
-all-written ls words₀ words bs i h w = w .places ∙ rw (all-passed ls bs i h (w .entered))
+pub all-written : (ls codewords₀ codewords bs : List ℕ) (i : ℕ) → length ls ≤ i → Handing ls codewords₀ codewords bs i → codewords ≡ pad (length codewords₀) (ledgerCodewords ls)
+unfolding ledgerCodewords
+all-written ls codewords₀ codewords bs i h w = w .places ∙ rw (all-passed ls bs i h (w .entered))
 
 -- `entry_codeword`: an unused entry takes nothing
 module _ (bs : List ℕ) (len : ℕ) where
@@ -233,40 +233,40 @@ Promised ls places a out =
     ((a ≡ assigned ls places) × (out ≡ written a ls places)) × (a ≡ Accepted → Decodable ls (take (length ls) out))
 
 -- a list that was cleared
-module _ (places : ℕ) (words₀ : List ℕ) (cleared : words₀ ≡ replicate places 0) where
-  all-places : length words₀ ≡ places
+module _ (places : ℕ) (codewords₀ : List ℕ) (cleared : codewords₀ ≡ replicate places 0) where
+  all-places : length codewords₀ ≡ places
   all-places = ap length cleared ∙ length-replicate places 0
 
-  pub still-cleared : words₀ ≡ replicate (length words₀) 0
+  pub still-cleared : codewords₀ ≡ replicate (length codewords₀) 0
   still-cleared = cleared ∙ ap (λ (n : ℕ). replicate n 0) (sym all-places)
 
-module _ (ls : List ℕ) (places : ℕ) (words₀ : List ℕ) (cleared : words₀ ≡ replicate places 0) where
-  pub promised-short : length words₀ < length ls → Promised ls places TooShort words₀
+module _ (ls : List ℕ) (places : ℕ) (codewords₀ : List ℕ) (cleared : codewords₀ ≡ replicate places 0) where
+  pub promised-short : length codewords₀ < length ls → Promised ls places TooShort codewords₀
   promised-short l =
-      let n = all-places places words₀ cleared in
+      let n = all-places places codewords₀ cleared in
       ((too-short ls places (omega arith), cleared), (λ z. absurd (short-accepted z)))
 
-  module _ (r : Assigned) (l : length ls ≤ length words₀) (e : r ≡ verdict ls) where
+  module _ (r : Assigned) (l : length ls ≤ length codewords₀) (e : r ≡ verdict ls) where
     fits : length ls ≤ places
-    fits = let n = all-places places words₀ cleared in omega arith
+    fits = let n = all-places places codewords₀ cleared in omega arith
 
-    pub promised-accepted : (out : List ℕ) → (r ≡ Accepted → out ≡ pad (length words₀) (codewords ls)) → r ≡ Accepted → Promised ls places r out
+    pub promised-accepted : (out : List ℕ) → (r ≡ Accepted → out ≡ pad (length codewords₀) (ledgerCodewords ls)) → r ≡ Accepted → Promised ls places r out
     promised-accepted out w q =
-        let o : out ≡ pad places (codewords ls) = w q ∙ ap (λ (n : ℕ). pad n (codewords ls)) (all-places places words₀ cleared) in
+        let o : out ≡ pad places (ledgerCodewords ls) = w q ∙ ap (λ (n : ℕ). pad n (ledgerCodewords ls)) (all-places places codewords₀ cleared) in
         let n = codewords-length ls in
         let m = fits in
-        let t : take (length ls) out ≡ codewords ls = rw (o, ← n) (pad-front places (codewords ls) (omega arith)) in (
+        let t : take (length ls) out ≡ ledgerCodewords ls = rw (o, ← n) (pad-front places (ledgerCodewords ls) (omega arith)) in (
           (assigned-is ls places r fits e, rw q o),
           (λ z. rw t (accepted-decodable ls (sym e ∙ q))),
         )
 
-    pub promised-refused : (a : Assigned) (words out : List ℕ) → (r ≡ Accepted → ⊥) → length words ≡ length words₀ → a ≡ r
-        → out ≡ replicate (length words) 0 → Promised ls places a out
-    promised-refused a words out m long q w =
+    pub promised-refused : (a : Assigned) (codewords out : List ℕ) → (r ≡ Accepted → ⊥) → length codewords ≡ length codewords₀ → a ≡ r
+        → out ≡ replicate (length codewords) 0 → Promised ls places a out
+    promised-refused a codewords out m long q w =
         let x : a ≡ Accepted → ⊥ = λ z. m (sym q ∙ z) in (
           (
             assigned-is ls places a fits (q ∙ e),
-            w ∙ ap (λ (k : ℕ). replicate k 0) (long ∙ all-places places words₀ cleared) ∙ sym (written-refused a ls places x),
+            w ∙ ap (λ (k : ℕ). replicate k 0) (long ∙ all-places places codewords₀ cleared) ∙ sym (written-refused a ls places x),
           ),
           (λ z. absurd (x z)),
         )

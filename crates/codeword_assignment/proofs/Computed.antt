@@ -17,7 +17,7 @@ use Rattle.codespace.specs.Ledger.{isLength, answer, after, answers, freeString
 use Rattle.codespace.specs.Claims.{accepted}
 use Rattle.codespace.specs.Blocks.{smallest, blockAbove, blockFor, enterAnswer, enterBlocks, runAnswers, emptyBlocks}
 use Rattle.codespace.specs.Answers.{isNone}
-use Rattle.codeword_assignment.specs.Book.{used, isUsed, entryAnswer, orZero, isRefused, firstRefused, codewordOf, codewords, freeAfter, isLone, refusedOr, verdict, refusal}
+use Rattle.codeword_assignment.specs.Book.{used, isUsed, entryAnswer, orZero, isRefused, firstRefused, codewordOf, ledgerCodewords, freeAfter, isLone, refusedOr, verdict, refusal}
 use Rattle.codeword_assignment.specs.declared.book.Assigned.{Assigned}
 use Rattle.codeword_assignment.specs.declared.book.Assigned.the-variants.{Accepted, Underspecified}
 use Rattle.codespace.proofs.Whole.{answers-are, balance}
@@ -44,9 +44,9 @@ module _ (ls : List ℕ) where
       (true-or-false (eqb (getD ls e 0) 0))
 
   -- THE CODEWORDS ARE THE ANSWERS, in their places
-  pub codewords-are : codewords ls ≡ map orZero (answers [] ls)
+  pub codewords-are : ledgerCodewords ls ≡ map orZero (answers [] ls)
   codewords-are =
-      ext-getD 0 (codewords ls) (map orZero (answers [] ls))
+      ext-getD 0 (ledgerCodewords ls) (map orZero (answers [] ls))
       (codewords-length ls ∙ sym (length-map (answers [] ls) orZero ∙ answers-length ls []))
       (λ e h.
       let l : e < length ls = rw (codewords-length ls) at h in

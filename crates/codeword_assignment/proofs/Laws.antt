@@ -27,7 +27,7 @@ use Rattle.reading.proofs.Tabulate.{tabulate-length, tabulate-at}
 use Rattle.codespace.specs.Ledger.{Codeword, codeword, share, begins, taken, freeStrings, isLength, IsLength, answer, enlist, after}
 use Rattle.codespace.specs.Blocks.{runBlocks, enterAnswer, blockFor, blockAbove, smallest, emptyBlocks}
 use Rattle.codespace.specs.Answers.{isNone}
-use Rattle.codeword_assignment.specs.Book.{used, isUsed, handedOutBefore, entryAnswer, orZero, isRefused, firstRefused, codewordOf, codewords, freeAfter, isLone, refusedOr, verdict, Begins, PrefixCode, Complete, Decodable}
+use Rattle.codeword_assignment.specs.Book.{used, isUsed, handedOutBefore, entryAnswer, orZero, isRefused, firstRefused, codewordOf, ledgerCodewords, freeAfter, isLone, refusedOr, verdict, Begins, PrefixCode, Complete, Decodable}
 use Rattle.codeword_assignment.specs.declared.book.Assigned.the-variants.{Accepted, Overspecified, Underspecified}
 use Rattle.codespace.proofs.Whole.{some-says, was-free, all-taken, answer-are}
 use Rattle.codespace.proofs.Claimed.{after-snoc}
@@ -64,12 +64,12 @@ used-entry ls e h =
     (λ (l : length ls ≤ e). let z = List·getD-eq-default ls 0 l in absurd (omega arith))
     (lt-or-le e (length ls))
 
-pub codewords-length : (ls : List ℕ) → length (codewords ls) ≡ length ls
-unfolding codewords
+pub codewords-length : (ls : List ℕ) → length (ledgerCodewords ls) ≡ length ls
+unfolding ledgerCodewords
 codewords-length ls = tabulate-length (codewordOf ls) (length ls)
 
-pub codewords-at : (ls : List ℕ) (e : ℕ) → e < length ls → getD (codewords ls) e 0 ≡ codewordOf ls e
-unfolding codewords
+pub codewords-at : (ls : List ℕ) (e : ℕ) → e < length ls → getD (ledgerCodewords ls) e 0 ≡ codewordOf ls e
+unfolding ledgerCodewords
 codewords-at ls e h = tabulate-at (codewordOf ls) (length ls) e h
 
 -- the codewords handed out before the next entry
@@ -96,42 +96,42 @@ some-of false o v a b e = let z : _≡_ {A = ℕ} 0 1 = cc in absurd (omega arit
 
 module _ (ls : List ℕ) (accepted : firstRefused ls ≡ none) where
   -- the ledger's answer for a used entry is its codeword
-  pub entry-answer : (e : ℕ) → 0 < getD ls e 0 → entryAnswer ls e ≡ some (getD (codewords ls) e 0)
+  pub entry-answer : (e : ℕ) → 0 < getD ls e 0 → entryAnswer ls e ≡ some (getD (ledgerCodewords ls) e 0)
   entry-answer e h =
       let l = used-entry ls e h in
-      some-of (isUsed ls e) (entryAnswer ls e) (getD (codewords ls) e 0) (used-is ls e h) (not-refused ls e accepted l)
+      some-of (isUsed ls e) (entryAnswer ls e) (getD (ledgerCodewords ls) e 0) (used-is ls e h) (not-refused ls e accepted l)
       (codewords-at ls e l ∙ codeword-of ls e)
 
-  handed-used : (e : ℕ) → 0 < getD ls e 0 → handedOutBefore ls (suc e) ≡ codeword (getD ls e 0) (getD (codewords ls) e 0) ∷ handedOutBefore ls e
+  handed-used : (e : ℕ) → 0 < getD ls e 0 → handedOutBefore ls (suc e) ≡ codeword (getD ls e 0) (getD (ledgerCodewords ls) e 0) ∷ handedOutBefore ls e
   handed-used e h = handed-next ls e (used-entry ls e h) ∙ rw (entry-answer e h)
 
   module _ (e : ℕ) (h : 0 < getD ls e 0) where
-    says : answer (handedOutBefore ls e) (getD ls e 0) ≡ some (getD (codewords ls) e 0)
+    says : answer (handedOutBefore ls e) (getD ls e 0) ≡ some (getD (ledgerCodewords ls) e 0)
     unfolding entryAnswer
     says = entry-answer e h
 
     pub used-length : IsLength (getD ls e 0)
-    used-length = some-says (handedOutBefore ls e) (getD ls e 0) (getD (codewords ls) e 0) says .0
+    used-length = some-says (handedOutBefore ls e) (getD ls e 0) (getD (ledgerCodewords ls) e 0) says .0
 
-    pub codeword-below : getD (codewords ls) e 0 < 2 ^ getD ls e 0
-    codeword-below = some-says (handedOutBefore ls e) (getD ls e 0) (getD (codewords ls) e 0) says .1 .below
+    pub codeword-below : getD (ledgerCodewords ls) e 0 < 2 ^ getD ls e 0
+    codeword-below = some-says (handedOutBefore ls e) (getD ls e 0) (getD (ledgerCodewords ls) e 0) says .1 .below
 
-    not-before : (s : ℕ) → begins s (codeword (getD ls e 0) (getD (codewords ls) e 0)) ≡ true → taken (handedOutBefore ls e) s ≡ false
+    not-before : (s : ℕ) → begins s (codeword (getD ls e 0) (getD (ledgerCodewords ls) e 0)) ≡ true → taken (handedOutBefore ls e) s ≡ false
     not-before s b =
-        let p = some-says (handedOutBefore ls e) (getD ls e 0) (getD (codewords ls) e 0) says in
-        was-free (handedOutBefore ls e) (getD ls e 0) (getD (codewords ls) e 0) (p .0 .high) (p .1 .below) (p .1 .passes) s b
+        let p = some-says (handedOutBefore ls e) (getD ls e 0) (getD (ledgerCodewords ls) e 0) says in
+        was-free (handedOutBefore ls e) (getD ls e 0) (getD (ledgerCodewords ls) e 0) (p .0 .high) (p .1 .below) (p .1 .passes) s b
 
   module _ (s : ℕ) where
-    begins-test : (e : ℕ) → Begins ls (codewords ls) s e → begins s (codeword (getD ls e 0) (getD (codewords ls) e 0)) ≡ true
+    begins-test : (e : ℕ) → Begins ls (ledgerCodewords ls) s e → begins s (codeword (getD ls e 0) (getD (ledgerCodewords ls) e 0)) ≡ true
     unfolding begins
-    begins-test e b = eq-eqb (s / share (getD ls e 0)) (getD (codewords ls) e 0) (b .starts)
+    begins-test e b = eq-eqb (s / share (getD ls e 0)) (getD (ledgerCodewords ls) e 0) (b .starts)
 
     -- what is taken stays taken
     stays : (e : ℕ) → e < length ls → taken (handedOutBefore ls e) s ≡ true → taken (handedOutBefore ls (suc e)) s ≡ true
     stays e l t =
         ⊎-elim
         (λ (z : getD ls e 0 < 1). rw (handed-unused ls e l (omega arith)) t)
-        (λ (h : 1 ≤ getD ls e 0). rw (handed-used e h) (unfold taken in or-true (begins s (codeword (getD ls e 0) (getD (codewords ls) e 0))) (taken (handedOutBefore ls e) s) t))
+        (λ (h : 1 ≤ getD ls e 0). rw (handed-used e h) (unfold taken in or-true (begins s (codeword (getD ls e 0) (getD (ledgerCodewords ls) e 0))) (taken (handedOutBefore ls e) s) t))
         (lt-or-le (getD ls e 0) 1)
       where
         or-true : (a b : Bool) → b ≡ true → (a || b) ≡ true
@@ -146,10 +146,10 @@ module _ (ls : List ℕ) (accepted : firstRefused ls ≡ none) where
         (λ (k : suc n ≤ e). let z : e ≡ suc n = omega arith in rw z at t)
         (lt-or-le e (suc n))
 
-    taken-after : (e : ℕ) → Begins ls (codewords ls) s e → taken (handedOutBefore ls (suc e)) s ≡ true
+    taken-after : (e : ℕ) → Begins ls (ledgerCodewords ls) s e → taken (handedOutBefore ls (suc e)) s ≡ true
     taken-after e b = rw (handed-used e (b .used)) (unfold taken in rw (begins-test e b))
 
-    not-two : (e f : ℕ) → e < f → Begins ls (codewords ls) s e → Begins ls (codewords ls) s f → ⊥
+    not-two : (e f : ℕ) → e < f → Begins ls (ledgerCodewords ls) s e → Begins ls (ledgerCodewords ls) s f → ⊥
     not-two e f l a b =
         let m = b .entry in
         true-not-false (taken (handedOutBefore ls f) s)
@@ -157,7 +157,7 @@ module _ (ls : List ℕ) (accepted : firstRefused ls ≡ none) where
         (not-before f (b .used) s (begins-test f b))
 
     -- NO STRING BEGINS WITH TWO
-    pub at-most-one : (e f : ℕ) → Begins ls (codewords ls) s e → Begins ls (codewords ls) s f → e ≡ f
+    pub at-most-one : (e f : ℕ) → Begins ls (ledgerCodewords ls) s e → Begins ls (ledgerCodewords ls) s f → e ≡ f
     at-most-one e f a b =
         ⊎-elim
         (λ (l : e < f). absurd (not-two e f l a b))
@@ -177,17 +177,17 @@ module _ (ls : List ℕ) (accepted : firstRefused ls ≡ none) where
     unfolding taken
     taken-split w ws t = or-split (begins s w) (taken ws s) t
 
-    test-begins : (e : ℕ) → 0 < getD ls e 0 → begins s (codeword (getD ls e 0) (getD (codewords ls) e 0)) ≡ true → Begins ls (codewords ls) s e
+    test-begins : (e : ℕ) → 0 < getD ls e 0 → begins s (codeword (getD ls e 0) (getD (ledgerCodewords ls) e 0)) ≡ true → Begins ls (ledgerCodewords ls) s e
     unfolding begins
     test-begins e h t =
         record {
           entry = used-entry ls e h;
           used = h;
-          starts = eqb-true (s / share (getD ls e 0)) (getD (codewords ls) e 0) t;
+          starts = eqb-true (s / share (getD ls e 0)) (getD (ledgerCodewords ls) e 0) t;
         }
 
     -- a string that is taken begins with an entry's codeword
-    taken-entry : (n : ℕ) → n ≤ length ls → taken (handedOutBefore ls n) s ≡ true → (e : ℕ) × Begins ls (codewords ls) s e
+    taken-entry : (n : ℕ) → n ≤ length ls → taken (handedOutBefore ls n) s ≡ true → (e : ℕ) × Begins ls (ledgerCodewords ls) s e
     taken-entry zero l t = absurd (true-not-false (taken (handedOutBefore ls 0) s) t none-before)
     taken-entry (suc n) l t =
         ⊎-elim
@@ -196,27 +196,27 @@ module _ (ls : List ℕ) (accepted : firstRefused ls ≡ none) where
         ⊎-elim
         (λ b. (n, test-begins n h b))
         (λ b. taken-entry n (omega arith) b)
-        (taken-split (codeword (getD ls n 0) (getD (codewords ls) n 0)) (handedOutBefore ls n) (rw (handed-used n h) at t)))
+        (taken-split (codeword (getD ls n 0) (getD (ledgerCodewords ls) n 0)) (handedOutBefore ls n) (rw (handed-used n h) at t)))
         (lt-or-le (getD ls n 0) 1)
 
     -- WITH NOTHING LEFT EVERY STRING BEGINS WITH ONE
-    pub some-entry : freeAfter ls ≡ 0 → s < 4294967296 → (e : ℕ) × Begins ls (codewords ls) s e
+    pub some-entry : freeAfter ls ≡ 0 → s < 4294967296 → (e : ℕ) × Begins ls (ledgerCodewords ls) s e
     some-entry z h =
         let w : handedOutBefore ls (length ls) ≡ after [] (used ls) = unfold handedOutBefore in ap (λ (k : List ℕ). after [] (used k)) (take-length ls) in
         taken-entry (length ls) (omega arith) (rw w (all-taken (after [] (used ls)) (unfold freeAfter in z) s h))
 
     -- and with no other
     pub exactly-one-entry : freeAfter ls ≡ 0 → s < 4294967296
-        → (e : ℕ) × (Begins ls (codewords ls) s e × ((f : ℕ) → Begins ls (codewords ls) s f → f ≡ e))
+        → (e : ℕ) × (Begins ls (ledgerCodewords ls) s e × ((f : ℕ) → Begins ls (ledgerCodewords ls) s f → f ≡ e))
     exactly-one-entry z h = let p = some-entry z h in (p .0, (p .1, λ f b. at-most-one f (p .0) b (p .1)))
 
   -- NO CODEWORD IS THE BEGINNING OF ANOTHER
   pub not-a-prefix : (e f : ℕ) → 0 < getD ls e 0 → 0 < getD ls f 0 → getD ls e 0 ≤ getD ls f 0
-      → getD (codewords ls) f 0 / 2 ^ (getD ls f 0 - getD ls e 0) ≡ getD (codewords ls) e 0 → e ≡ f
+      → getD (ledgerCodewords ls) f 0 / 2 ^ (getD ls f 0 - getD ls e 0) ≡ getD (ledgerCodewords ls) e 0 → e ≡ f
   not-a-prefix e f h k l q =
       let a = getD ls e 0 in
       let b = getD ls f 0 in
-      let v = getD (codewords ls) f 0 in
+      let v = getD (ledgerCodewords ls) f 0 in
       let s = v * share b in
       let u = used-length f k .high in
       let n : 32 - b + (b - a) ≡ 32 - a = omega arith in
@@ -226,7 +226,7 @@ module _ (ls : List ℕ) (accepted : firstRefused ls ≡ none) where
       (record { entry = used-entry ls e h; used = h; starts = sym x ∙ ap (λ (y : ℕ). y / 2 ^ (b - a)) w ∙ q })
       (record { entry = used-entry ls f k; used = k; starts = w })
 
-  pub prefix-code : PrefixCode ls (codewords ls)
+  pub prefix-code : PrefixCode ls (ledgerCodewords ls)
   prefix-code =
       record {
         places = codewords-length ls;
@@ -235,7 +235,7 @@ module _ (ls : List ℕ) (accepted : firstRefused ls ≡ none) where
         atMostOne = λ s e f a b. at-most-one s e f a b;
       }
 
-  pub complete : freeAfter ls ≡ 0 → Complete ls (codewords ls)
+  pub complete : freeAfter ls ≡ 0 → Complete ls (ledgerCodewords ls)
   complete z s h = some-entry s z h
 
 -- A LONE ENTRY of length 1
@@ -281,13 +281,13 @@ module _ (ls : List ℕ) (lone : isLone (used ls) ≡ true) (e : ℕ) (h : 0 < g
   pub lone-length : getD ls e 0 ≡ 1
   lone-length = lone-at .1
 
-  pub lone-codeword : firstRefused ls ≡ none → getD (codewords ls) e 0 ≡ 0
+  pub lone-codeword : firstRefused ls ≡ none → getD (ledgerCodewords ls) e 0 ≡ 0
   lone-codeword ok =
       let a : entryAnswer ls e ≡ some 0 = unfold entryAnswer handedOutBefore in rw (lone-at .0, lone-at .1) first-one in
       some-same (sym (entry-answer ls ok e h) ∙ a)
 
 -- what an accepted book's codewords are
-pub decodable : (ls : List ℕ) → firstRefused ls ≡ none → (freeAfter ls ≡ 0) ⊎ (isLone (used ls) ≡ true) → Decodable ls (codewords ls)
+pub decodable : (ls : List ℕ) → firstRefused ls ≡ none → (freeAfter ls ≡ 0) ⊎ (isLone (used ls) ≡ true) → Decodable ls (ledgerCodewords ls)
 decodable ls ok z =
     record {
       prefixCode = prefix-code ls ok;
@@ -302,11 +302,11 @@ either ls false true x y t = inr y
 either ls false false x y t = let z : _≡_ {A = ℕ} 0 1 = cc in absurd (omega arith)
 
 accepted-by : (ls : List ℕ) (o : Option ℕ) → firstRefused ls ≡ o
-    → refusedOr o (cond (eqb (freeAfter ls) 0 || isLone (used ls)) Accepted Underspecified) ≡ Accepted → Decodable ls (codewords ls)
+    → refusedOr o (cond (eqb (freeAfter ls) 0 || isLone (used ls)) Accepted Underspecified) ≡ Accepted → Decodable ls (ledgerCodewords ls)
 accepted-by ls (some i) q t = let z : _≡_ {A = ℕ} 0 1 = cc in absurd (omega arith)
 accepted-by ls none q t = decodable ls q (either ls (eqb (freeAfter ls) 0) (isLone (used ls)) refl refl t)
 
 -- AN ACCEPTED BOOK
-pub accepted-decodable : (ls : List ℕ) → verdict ls ≡ Accepted → Decodable ls (codewords ls)
+pub accepted-decodable : (ls : List ℕ) → verdict ls ≡ Accepted → Decodable ls (ledgerCodewords ls)
 unfolding verdict
 accepted-decodable ls e = accepted-by ls (firstRefused ls) refl e

@@ -49,8 +49,8 @@ unfoldable pub codewordOf : List ℕ → ℕ → ℕ
 codewordOf lengths e = cond (isUsed lengths e) (orZero (entryAnswer lengths e)) 0
 
 -- THE CODEWORDS of all entries, in entry order
-unfoldable pub codewords : List ℕ → List ℕ
-codewords lengths = tabulate (codewordOf lengths) (length lengths)
+unfoldable pub ledgerCodewords : List ℕ → List ℕ
+ledgerCodewords lengths = tabulate (codewordOf lengths) (length lengths)
 
 -- what is free once all are entered
 unfoldable pub freeAfter : List ℕ → ℕ
@@ -85,7 +85,7 @@ assigned lengths places = cond (ltb places (length lengths)) TooShort (verdict l
 
 -- what all places of the lent list hold: each entry's codeword, and zeros behind them; on any refusal all zeros
 abbrev pub written : Assigned → List ℕ → ℕ → List ℕ
-written Accepted lengths places = pad places (codewords lengths)
+written Accepted lengths places = pad places (ledgerCodewords lengths)
 written (Overspecified e) lengths places = replicate places 0
 written Underspecified lengths places = replicate places 0
 written TooShort lengths places = replicate places 0
@@ -98,28 +98,28 @@ refusal Underspecified = 8
 refusal TooShort = 17
 
 -- the string s begins with the codeword of the used entry e
-pub record Begins (lengths words : List ℕ) (s e : ℕ) : Type 0 where
+pub record Begins (lengths codewords : List ℕ) (s e : ℕ) : Type 0 where
   pub entry : e < length lengths
   pub used : 0 < getD lengths e 0
-  pub starts : s / share (getD lengths e 0) ≡ getD words e 0
+  pub starts : s / share (getD lengths e 0) ≡ getD codewords e 0
 
 -- these words are a prefix code: none is the beginning of another, and so no string begins with two of them
-pub record PrefixCode (lengths words : List ℕ) : Type 0 where
-  pub places : length words ≡ length lengths
-  pub below : (e : ℕ) → 0 < getD lengths e 0 → getD words e 0 < 2 ^ getD lengths e 0
+pub record PrefixCode (lengths codewords : List ℕ) : Type 0 where
+  pub places : length codewords ≡ length lengths
+  pub below : (e : ℕ) → 0 < getD lengths e 0 → getD codewords e 0 < 2 ^ getD lengths e 0
   pub notPrefix : (e f : ℕ) → 0 < getD lengths e 0 → 0 < getD lengths f 0 → getD lengths e 0 ≤ getD lengths f 0
-      → getD words f 0 / 2 ^ (getD lengths f 0 - getD lengths e 0) ≡ getD words e 0 → e ≡ f
-  pub atMostOne : (s e f : ℕ) → Begins lengths words s e → Begins lengths words s f → e ≡ f
+      → getD codewords f 0 / 2 ^ (getD lengths f 0 - getD lengths e 0) ≡ getD codewords e 0 → e ≡ f
+  pub atMostOne : (s e f : ℕ) → Begins lengths codewords s e → Begins lengths codewords s f → e ≡ f
 
 -- and a complete one: every string begins with one of them
 abbrev pub Complete : List ℕ → List ℕ → Type 0
-Complete lengths words = (s : ℕ) → s < 4294967296 → (e : ℕ) × Begins lengths words s e
+Complete lengths codewords = (s : ℕ) → s < 4294967296 → (e : ℕ) × Begins lengths codewords s e
 
 -- what an accepted book's codewords are: a prefix code, and a complete one but for a lone entry of length 1, whose codeword is 0
-pub record Decodable (lengths words : List ℕ) : Type 0 where
-  pub prefixCode : PrefixCode lengths words
-  pub complete : isLone (used lengths) ≡ false → Complete lengths words
-  pub lone : isLone (used lengths) ≡ true → (e : ℕ) → 0 < getD lengths e 0 → (getD lengths e 0 ≡ 1) × (getD words e 0 ≡ 0)
+pub record Decodable (lengths codewords : List ℕ) : Type 0 where
+  pub prefixCode : PrefixCode lengths codewords
+  pub complete : isLone (used lengths) ≡ false → Complete lengths codewords
+  pub lone : isLone (used lengths) ≡ true → (e : ℕ) → 0 < getD lengths e 0 → (getD lengths e 0 ≡ 1) × (getD codewords e 0 ≡ 0)
 
 -- what `next_used` finds: r is the first used entry from a place on, or the number of entries; the used entries from there on are the same
 pub record NextUsed (lengths : List ℕ) (from r : ℕ) : Type 0 where
@@ -128,6 +128,6 @@ pub record NextUsed (lengths : List ℕ) (from r : ℕ) : Type 0 where
   pub isUsed : r < length lengths → 0 < getD lengths r 0
 
 -- lengths that are accepted, and their codewords
-pub record Coded (lengths words : List ℕ) : Type 0 where
+pub record Coded (lengths codewords : List ℕ) : Type 0 where
   pub accepted : verdict lengths ≡ Accepted
-  pub assigned : words ≡ codewords lengths
+  pub assigned : codewords ≡ ledgerCodewords lengths

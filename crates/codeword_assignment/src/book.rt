@@ -14,7 +14,7 @@ ghost use lib.ListN.{length, take, replicate};
 ghost use Rattle.reading.specs.Pad.{pad};
 ghost use Rattle.codespace.specs.Blocks.{enterAnswer, enterBlocks};
 ghost use Rattle.codespace.specs.Answers.{number};
-ghost use Rattle.codeword_assignment.specs.Book.{used, isLone, verdict, assigned, written, codewords, Decodable, NextUsed, Coded};
+ghost use Rattle.codeword_assignment.specs.Book.{used, isLone, verdict, assigned, written, ledgerCodewords, Decodable, NextUsed, Coded};
 
 pub enum Assigned {
     // Each used entry has its codeword, and no space is left over; or the only used entry has length 1.
@@ -28,35 +28,35 @@ pub enum Assigned {
 }
 
 // Assigns each used entry its codeword, and 0 to the unused ones; places behind them are 0. On any refusal the lent list is all zeros.
-pub fn assign_codewords(lengths: &[u8], words: &mut [u32]) -> Assigned
-    ensures { λ r. ⌜ (r ≡ assigned (now (lengths .entry)) (length (now (words .entry)))) × (now (words .exit) ≡ written r (now (lengths .entry)) (length (now (words .entry)))) ⌝ }
-    ensures { λ r. ⌜ (r ≡ Assigned.Accepted → Decodable (now (lengths .entry)) (take (length (now (lengths .entry))) (now (words .exit)))) ⌝ }
+pub fn assign_codewords(lengths: &[u8], codewords: &mut [u32]) -> Assigned
+    ensures { λ r. ⌜ (r ≡ assigned (now (lengths .entry)) (length (now (codewords .entry)))) × (now (codewords .exit) ≡ written r (now (lengths .entry)) (length (now (codewords .entry)))) ⌝ }
+    ensures { λ r. ⌜ (r ≡ Assigned.Accepted → Decodable (now (lengths .entry)) (take (length (now (lengths .entry))) (now (codewords .exit)))) ⌝ }
 {
-    clear_u32(words);
-    if words.len() < lengths.len() {
+    clear_u32(codewords);
+    if codewords.len() < lengths.len() {
         return Assigned::TooShort;
     }
-    let answer = hand_out(lengths, words);
+    let answer = hand_out(lengths, codewords);
     match answer {
         Assigned::Accepted => answer,
-        Assigned::Overspecified(_) => refuse(words, answer),
-        Assigned::Underspecified => refuse(words, answer),
-        Assigned::TooShort => refuse(words, answer),
+        Assigned::Overspecified(_) => refuse(codewords, answer),
+        Assigned::Underspecified => refuse(codewords, answer),
+        Assigned::TooShort => refuse(codewords, answer),
     }
 }
 
 // A refusal leaves all zeros.
-fn refuse(lent: &mut [u32], answer: Assigned) -> Assigned
-    ensures { λ r. ⌜ (r ≡ answer) × (now (lent .exit) ≡ replicate (length (now (lent .entry))) 0) ⌝ }
+fn refuse(buffers: &mut [u32], answer: Assigned) -> Assigned
+    ensures { λ r. ⌜ (r ≡ answer) × (now (buffers .exit) ≡ replicate (length (now (buffers .entry))) 0) ⌝ }
 {
-    clear_u32(lent);
+    clear_u32(buffers);
     answer
 }
 
 // The verdict, and the codewords where it accepts, in a cleared list that has a place for each entry.
-fn hand_out(lengths: &[u8], words: &mut [u32]) -> Assigned
-    requires { ⌜ (length (now lengths) ≤ length (now words)) × (now words ≡ replicate (length (now words)) 0) ⌝ }
-    ensures { λ r. ⌜ (r ≡ verdict (now (lengths .entry))) × (r ≡ Assigned.Accepted → now (words .exit) ≡ pad (length (now (words .entry))) (codewords (now (lengths .entry)))) ⌝ }
+fn hand_out(lengths: &[u8], codewords: &mut [u32]) -> Assigned
+    requires { ⌜ (length (now lengths) ≤ length (now codewords)) × (now codewords ≡ replicate (length (now codewords)) 0) ⌝ }
+    ensures { λ r. ⌜ (r ≡ verdict (now (lengths .entry))) × (r ≡ Assigned.Accepted → now (codewords .exit) ≡ pad (length (now (codewords .entry))) (ledgerCodewords (now (lengths .entry)))) ⌝ }
 {
     let mut blocks = empty_space();
     let mut entry = 0;
@@ -65,7 +65,7 @@ fn hand_out(lengths: &[u8], words: &mut [u32]) -> Assigned
         if VACANT <= value {
             return Assigned::Overspecified(entry);
         }
-        words[entry] = value as u32;
+        codewords[entry] = value as u32;
         entry += 1;
     }
     if is_full(&blocks) {
@@ -78,17 +78,17 @@ fn hand_out(lengths: &[u8], words: &mut [u32]) -> Assigned
 }
 
 // The lengths are accepted and these are their codewords: what `assign_codewords` would write into as many places, compared instead of stored.
-pub fn are_codewords(lengths: &[u8], words: &[u32]) -> bool
-    ensures { λ r. ⌜ (r ≡ true) ↔ Coded (now (lengths .entry)) (now (words .entry)) ⌝ }
+pub fn are_codewords(lengths: &[u8], codewords: &[u32]) -> bool
+    ensures { λ r. ⌜ (r ≡ true) ↔ Coded (now (lengths .entry)) (now (codewords .entry)) ⌝ }
 {
-    if lengths.len() != words.len() {
+    if lengths.len() != codewords.len() {
         return false;
     }
     let mut blocks = empty_space();
     let mut entry = 0;
     while entry < lengths.len() {
         let value = entry_codeword(&mut blocks, lengths[entry]);
-        if value != wide(words[entry]) {
+        if value != wide(codewords[entry]) {
             return false;
         }
         entry += 1;

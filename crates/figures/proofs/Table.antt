@@ -52,15 +52,15 @@ number-is (negsuc n) y t = let z : _≡_ {A = ℕ} 0 1 = cc in absurd (omega ari
 
 -- lengths, by the answers to them
 lengthsTest : List ℕ → List (Option ℕ) → ℕ → List ℕ → ℕ → Bool
-lengthsTest ls os number words free =
-    eqb (refusal (verdictBy ls os)) number && (same (map orZero os) words && eqb (4294967296 - accepted ls os) free)
+lengthsTest ls os number codewords free =
+    eqb (refusal (verdictBy ls os)) number && (same (map orZero os) codewords && eqb (4294967296 - accepted ls os) free)
 
-lengths-hold : (ls : List ℕ) (number : ℕ) (words : List ℕ) (free : ℕ) → lengthsTest ls (answers [] ls) number words free ≡ true → Holds (lengths ls number words free)
+lengths-hold : (ls : List ℕ) (number : ℕ) (codewords : List ℕ) (free : ℕ) → lengthsTest ls (answers [] ls) number codewords free ≡ true → Holds (lengths ls number codewords free)
 unfolding lengthsTest
-lengths-hold ls number words free t =
+lengths-hold ls number codewords free t =
     let os = answers [] ls in
     let a = eqb (refusal (verdictBy ls os)) number in
-    let b = same (map orZero os) words in
+    let b = same (map orZero os) codewords in
     let c = eqb (4294967296 - accepted ls os) free in
     let p = and-split a (b && c) t in
     let q = and-split b c (p .1) in
@@ -68,7 +68,7 @@ lengths-hold ls number words free t =
 
 -- a line's test
 test : Figure → Bool
-test (lengths ls number words free) = lengthsTest ls (runAnswers emptyBlocks ls) number words free
+test (lengths ls number codewords free) = lengthsTest ls (runAnswers emptyBlocks ls) number codewords free
 test (room range predicted value y) = isNumber (F.unwrapped range (pos predicted) value) y
 test (final xs vals m ys flags) = same (F.finalYs xs vals m (length xs) (length xs) .finalY) ys && same (F.finalYs xs vals m (length xs) (length xs) .flags) flags
 test (point x0 y0 x1 y1 x y) = isNumber (line x0 (pos y0) x1 (pos y1) x) y
@@ -76,7 +76,7 @@ test (onCurve xs ys flags m x y) = eqb (curveAt xs ys flags m x) y
 
 test-holds : (f : Figure) → test f ≡ true → Holds f
 unfolding test
-test-holds (lengths ls number words free) t = lengths-hold ls number words free (rw (answers-are ls) at t)
+test-holds (lengths ls number codewords free) t = lengths-hold ls number codewords free (rw (answers-are ls) at t)
 test-holds (room range predicted value y) t = number-is _ y t
 test-holds (final xs vals m ys flags) t =
     let e = F.finalYs xs vals m (length xs) (length xs) in

@@ -5,14 +5,14 @@ use mathlib.Core.List.{List, [], _∷_, _++_, map}
 use mathlib.Core.Path.{_≡_}
 use lib.IntN.{pos}
 use lib.ListN.{length}
-use Rattle.codeword_assignment.specs.Book.{verdict, refusal, codewords, freeAfter}
+use Rattle.codeword_assignment.specs.Book.{verdict, refusal, ledgerCodewords, freeAfter}
 use Rattle.floor_line.specs.Line.{line}
 use Rattle.floor_points.specs.FinalY.{unwrapped, finalYs}
 use Rattle.floor_curve.specs.Curve.{curveAt}
 
 pub data Figure : Type 0 where
   -- a book's lengths have this number of a refusal, 0 where they are taken, these codewords, and so many strings are free
-  lengths : (ls : List ℕ) (number : ℕ) (words : List ℕ) (free : ℕ) → Figure
+  lengths : (ls : List ℕ) (number : ℕ) (codewords : List ℕ) (free : ℕ) → Figure
   -- a range, a predicted Y value and the value read give a Y value
   room : (range predicted value y : ℕ) → Figure
   -- an X list, the values read and a multiplier give final Y values and flags
@@ -24,7 +24,7 @@ pub data Figure : Type 0 where
 
 -- the definitions say what the figure says
 abbrev pub Holds : Figure → Type 0
-Holds (lengths ls number words free) = (refusal (verdict ls) ≡ number) × (codewords ls ≡ words) × (freeAfter ls ≡ free)
+Holds (lengths ls number codewords free) = (refusal (verdict ls) ≡ number) × (ledgerCodewords ls ≡ codewords) × (freeAfter ls ≡ free)
 Holds (room range predicted value y) = unwrapped range (pos predicted) value ≡ pos y
 Holds (final xs vals m ys flags) =
     (finalYs xs vals m (length xs) (length xs) .finalY ≡ ys) × (finalYs xs vals m (length xs) (length xs) .flags ≡ flags)
@@ -40,18 +40,18 @@ upTo (suc n) ls = upTo n (suc n ∷ ls)
 abbrev pub seven : List ℕ
 seven = 2 ∷ 4 ∷ 4 ∷ 4 ∷ 4 ∷ 2 ∷ 3 ∷ []
 
-abbrev pub sevenWords : List ℕ
-sevenWords = 0b00 ∷ 0b0100 ∷ 0b0101 ∷ 0b0110 ∷ 0b0111 ∷ 0b10 ∷ 0b110 ∷ []
+abbrev pub sevenCodewords : List ℕ
+sevenCodewords = 0b00 ∷ 0b0100 ∷ 0b0101 ∷ 0b0110 ∷ 0b0111 ∷ 0b10 ∷ 0b110 ∷ []
 
 abbrev pub eight : List ℕ
 eight = seven ++ (3 ∷ [])
 
-abbrev pub eightWords : List ℕ
-eightWords = sevenWords ++ (0b111 ∷ [])
+abbrev pub eightCodewords : List ℕ
+eightCodewords = sevenCodewords ++ (0b111 ∷ [])
 
 -- those and one more of a length, which has no codeword
 abbrev pub oneMore : ℕ → Figure
-oneMore len = lengths (eight ++ (len ∷ [])) 7 (eightWords ++ (0 ∷ [])) 0
+oneMore len = lengths (eight ++ (len ∷ [])) 7 (eightCodewords ++ (0 ∷ [])) 0
 
 -- the floor of 004: X, the values read, final Y. The point at 96 was read as 0, and is flagged as a neighbour of those at 80 and 112
 abbrev pub xs004 : List ℕ
@@ -69,8 +69,8 @@ flags004 = 1 ∷ 1 ∷ 1 ∷ 1 ∷ 1 ∷ 1 ∷ 1 ∷ 1 ∷ 1 ∷ []
 -- THE TABLE, line by line as 01 has them. (The line about samples, 576 after a block of 256 and one of 2048, joins it once audio packets are read.)
 abbrev pub table : List Figure
 table =
-    lengths eight 0 eightWords 0
-    ∷ lengths seven 8 sevenWords 536_870_912
+    lengths eight 0 eightCodewords 0
+    ∷ lengths seven 8 sevenCodewords 536_870_912
     ∷ map oneMore (upTo 32 [])
     ++ (lengths (2 ∷ 1 ∷ 2 ∷ []) 0 (0b00 ∷ 0b1 ∷ 0b01 ∷ []) 0
     ∷ lengths (1 ∷ 2 ∷ []) 8 (0b0 ∷ 0b10 ∷ []) 1_073_741_824

@@ -17,26 +17,26 @@ use Rattle.bits.specs.Cursors.{position, refusalOf, Wrote}
 use Rattle.bits.proofs.Steps.{wrote-refused, wrote-next}
 
 -- what is done, and then what is read
-unfoldable pub behind : List ℕ → Outcome (List ℕ × ℕ) → Outcome (List ℕ × ℕ)
-behind done o = then o (λ y. ok (done ++ y .0, y .1))
+unfoldable pub after : List ℕ → Outcome (List ℕ × ℕ) → Outcome (List ℕ × ℕ)
+after done o = then o (λ y. ok (done ++ y .0, y .1))
 
-pub behind-nil : (o : Outcome (List ℕ × ℕ)) → behind [] o ≡ o
-unfolding behind
-behind-nil (ok y) = refl
-behind-nil (bad z) = refl
+pub after-nil : (o : Outcome (List ℕ × ℕ)) → after [] o ≡ o
+unfolding after
+after-nil (ok y) = refl
+after-nil (bad z) = refl
 
-pub behind-append : (a b : List ℕ) (o : Outcome (List ℕ × ℕ)) → behind a (behind b o) ≡ behind (a ++ b) o
-unfolding behind
-behind-append a b (ok y) = ap (λ (l : List ℕ). ok (l, y .1)) (sym (append-assoc a b (y .0)))
-behind-append a b (bad z) = refl
+pub after-append : (a b : List ℕ) (o : Outcome (List ℕ × ℕ)) → after a (after b o) ≡ after (a ++ b) o
+unfolding after
+after-append a b (ok y) = ap (λ (l : List ℕ). ok (l, y .1)) (sym (append-assoc a b (y .0)))
+after-append a b (bad z) = refl
 
-pub behind-bad : (a : List ℕ) {o : Outcome (List ℕ × ℕ)} {z : _} → o ≡ bad z → behind a o ≡ bad z
-unfolding behind
-behind-bad a e = rw e
+pub after-bad : (a : List ℕ) {o : Outcome (List ℕ × ℕ)} {z : _} → o ≡ bad z → after a o ≡ bad z
+unfolding after
+after-bad a e = rw e
 
-pub behind-none : (a : List ℕ) {o : Outcome (List ℕ × ℕ)} {k : ℕ} → o ≡ ok ([], k) → behind a o ≡ ok (a, k)
-unfolding behind
-behind-none a {o} {k} e = rw (e, append-nil)
+pub after-none : (a : List ℕ) {o : Outcome (List ℕ × ℕ)} {k : ℕ} → o ≡ ok ([], k) → after a o ≡ ok (a, k)
+unfolding after
+after-none a {o} {k} e = rw (e, append-nil)
 
 module _ (r : Reader ℕ) (s : List ℕ) where
   pub many-none : (n k : ℕ) → n ≡ 0 → many r n s k ≡ ok ([], k)
@@ -48,8 +48,8 @@ module _ (r : Reader ℕ) (s : List ℕ) where
   many-refused zero h e = absurd (omega arith)
   many-refused (suc n) h e = rw e
 
-  pub many-more : (n m : ℕ) {k v j : ℕ} → n ≡ suc m → r s k ≡ ok (v, j) → many r n s k ≡ behind (v ∷ []) (many r m s j)
-  unfolding many behind
+  pub many-more : (n m : ℕ) {k v j : ℕ} → n ≡ suc m → r s k ≡ ok (v, j) → many r n s k ≡ after (v ∷ []) (many r m s j)
+  unfolding many after
   many-more n m q e = rw (q, e)
 
 -- the front of a list after a run of stores behind it
@@ -64,7 +64,7 @@ module _ (r : Reader ℕ) (s : List ℕ) (k : ℕ) (entry : List ℕ) where
   pub record Filling (c : Cursor) (part : List ℕ) (i : ℕ) : Type 0 where
     pub within : i ≤ length entry
     pub long : length part ≡ length entry
-    pub rest : behind (take i part) (many r (length entry - i) s (position c)) ≡ many r (length entry) s k
+    pub rest : after (take i part) (many r (length entry - i) s (position c)) ≡ many r (length entry) s k
 
   module _ {c : Cursor} {part : List ℕ} {i : ℕ} (w : Filling c part i) where
     pub filling-done : length entry ≤ i → Wrote (many r (length entry) s k) (Next c) part
@@ -72,12 +72,12 @@ module _ (r : Reader ℕ) (s : List ℕ) (k : ℕ) (entry : List ℕ) where
         let e = w .long in
         wrote-next
         (sym (w .rest)
-        ∙ behind-none (take i part) (many-none r s (length entry - i) (position c) (omega arith))
+        ∙ after-none (take i part) (many-none r s (length entry - i) (position c) (omega arith))
         ∙ ap (λ (l : List ℕ). ok (l, position c)) (take-all i part (omega arith)))
 
     module _ (h : i < length entry) where
       pub filling-refused : {z : Refusal} → r s (position c) ≡ bad (refusalOf z) → (u : List ℕ) → Wrote (many r (length entry) s k) (Refused z) u
-      filling-refused e u = wrote-refused u (sym (w .rest) ∙ behind-bad (take i part) (many-refused r s (length entry - i) (omega arith) e))
+      filling-refused e u = wrote-refused u (sym (w .rest) ∙ after-bad (take i part) (many-refused r s (length entry - i) (omega arith) e))
 
       pub filling-next : {v : ℕ} {c′ : Cursor} → r s (position c) ≡ ok (v, position c′) → Filling c′ (set part i v) (i + 1)
       filling-next {v} {c′} e =
@@ -87,10 +87,10 @@ module _ (r : Reader ℕ) (s : List ℕ) (k : ℕ) (entry : List ℕ) where
             long = simp length-set (w .long);
             rest =
                 rw (add-one, take-suc-set part i v (omega arith))
-                (sym (behind-append (take i part) (v ∷ []) (many r (length entry - suc i) s (position c′)))
-                ∙ ap (behind (take i part)) (sym (many-more r s (length entry - i) (length entry - suc i) (omega arith) e))
+                (sym (after-append (take i part) (v ∷ []) (many r (length entry - suc i) s (position c′)))
+                ∙ ap (after (take i part)) (sym (many-more r s (length entry - i) (length entry - suc i) (omega arith) e))
                 ∙ w .rest);
           }
 
 pub filling-start : (r : Reader ℕ) (s : List ℕ) (c : Cursor) (entry : List ℕ) → Filling r s (position c) entry c entry 0
-filling-start r s c entry = record { within = omega arith; long = refl; rest = behind-nil _ ∙ ap (λ (n : ℕ). many r n s (position c)) (sub-zero (length entry)) }
+filling-start r s c entry = record { within = omega arith; long = refl; rest = after-nil _ ∙ ap (λ (n : ℕ). many r n s (position c)) (sub-zero (length entry)) }

@@ -10,8 +10,8 @@ use lib.Seq.{slice}
 use Rattle.reading.specs.Lists.{rows}
 use Rattle.reading.specs.Pad.{pad}
 use Rattle.reading.proofs.Pads.{length-pad}
-use Rattle.reading.proofs.Lies.{Lies, lies-at, lies-left, lies-right, lies-first, lies-rest, lies-slice}
-use Rattle.reading.proofs.Stands.{pad-append}
+use Rattle.reading.proofs.Stored.{Stored, stored-at, stored-left, stored-right, stored-first, stored-rest, stored-slice}
+use Rattle.reading.proofs.Encodes.{pad-append}
 use Rattle.floor_class.specs.Content.{Class}
 use Rattle.floor_class.specs.Layout.{classRow}
 use Rattle.floor_class.specs.Valid.{ValidClasses}
@@ -23,48 +23,48 @@ unfolding classRow
 class-long c = let e = length-pad 8 (c .books) in omega arith
 
 -- the numbers of a class that lies in a table
-pub record ClassLies (t : List ℕ) (at : ℕ) (c : Class) : Type 0 where
+pub record ClassStored (t : List ℕ) (at : ℕ) (c : Class) : Type 0 where
   pub dimensions : getD t at 0 ≡ c .dimensions
   pub subclasses : getD t (at + 1) 0 ≡ c .subclasses
   pub master : getD t (at + 2) 0 ≡ c .master
-  pub books : Lies t (at + 3) (pad 8 (c .books))
+  pub books : Stored t (at + 3) (pad 8 (c .books))
 
-pub class-lies : {t : List ℕ} {at : ℕ} (c : Class) → Lies t at (classRow c) → ClassLies t at c
+pub class-stored : {t : List ℕ} {at : ℕ} (c : Class) → Stored t at (classRow c) → ClassStored t at c
 unfolding classRow
-class-lies {t} {at} c l =
-    let l₁ = lies-rest l in
-    let l₂ : Lies t (at + 2) (c .master ∷ pad 8 (c .books)) = lies-at (omega arith) (lies-rest l₁) in
+class-stored {t} {at} c l =
+    let l₁ = stored-rest l in
+    let l₂ : Stored t (at + 2) (c .master ∷ pad 8 (c .books)) = stored-at (omega arith) (stored-rest l₁) in
     record {
-      dimensions = lies-first l;
-      subclasses = lies-first l₁;
-      master = lies-first l₂;
-      books = lies-at (omega arith) (lies-rest l₂);
+      dimensions = stored-first l;
+      subclasses = stored-first l₁;
+      master = stored-first l₂;
+      books = stored-at (omega arith) (stored-rest l₂);
     }
 
-pub class-decoded : {t : List ℕ} {at : ℕ} (c : Class) → length (c .books) ≡ 2 ^ c .subclasses → c .subclasses ≤ 3 → ClassLies t at c → classAt t at ≡ c
+pub class-decoded : {t : List ℕ} {at : ℕ} (c : Class) → length (c .books) ≡ 2 ^ c .subclasses → c .subclasses ≤ 3 → ClassStored t at c → classAt t at ≡ c
 unfolding classAt
 class-decoded {t} {at} c n h l =
     let few : 2 ^ c .subclasses ≤ 8 = pow-mono h in
     let b : slice (at + 3) (at + 3 + 2 ^ getD t (at + 1) 0) t ≡ c .books =
-    ap (λ (e : ℕ). slice (at + 3) (at + 3 + 2 ^ e) t) (l .subclasses) ∙ lies-slice 8 (2 ^ c .subclasses) (c .books) (l .books) n few in
+    ap (λ (e : ℕ). slice (at + 3) (at + 3 + 2 ^ e) t) (l .subclasses) ∙ stored-slice 8 (2 ^ c .subclasses) (c .books) (l .books) n few in
     λ j. record { dimensions = l .dimensions j; subclasses = l .subclasses j; master = l .master j; books = b j }
 
 -- the class in front of the others
-pub classes-lie : {t : List ℕ} {at : ℕ} (m : ℕ) (c : Class) (cs : List Class) → Lies t at (pad (11 * suc m) (rows classRow (c ∷ cs))) → Lies t at (classRow c) × Lies t (at + 11) (pad (11 * m) (rows classRow cs))
+pub classes-stored : {t : List ℕ} {at : ℕ} (m : ℕ) (c : Class) (cs : List Class) → Stored t at (pad (11 * suc m) (rows classRow (c ∷ cs))) → Stored t at (classRow c) × Stored t (at + 11) (pad (11 * m) (rows classRow cs))
 unfolding rows
-classes-lie {t} {at} m c cs l =
+classes-stored {t} {at} m c cs l =
     let e : 11 * suc m ≡ length (classRow c) + 11 * m = mul-suc 11 m ∙ add-comm (11 * m) 11 ∙ ap (λ (x : ℕ). x + 11 * m) (sym (class-long c)) in
     let p : pad (11 * suc m) (classRow c ++ rows classRow cs) ≡ classRow c ++ pad (11 * m) (rows classRow cs) =
     ap (λ (x : ℕ). pad x (classRow c ++ rows classRow cs)) e ∙ pad-append (classRow c) (rows classRow cs) (11 * m) in
-    let k : Lies t at (classRow c ++ pad (11 * m) (rows classRow cs)) = rw p at l in
-    (lies-left (classRow c) (pad (11 * m) (rows classRow cs)) k, rw (class-long c) at (lies-right (classRow c) (pad (11 * m) (rows classRow cs)) k))
+    let k : Stored t at (classRow c ++ pad (11 * m) (rows classRow cs)) = rw p at l in
+    (stored-left (classRow c) (pad (11 * m) (rows classRow cs)) k, rw (class-long c) at (stored-right (classRow c) (pad (11 * m) (rows classRow cs)) k))
 
-pub classes-decoded : {t : List ℕ} (at books m : ℕ) (cs : List Class) → length cs ≤ m → ValidClasses books cs → Lies t at (pad (11 * m) (rows classRow cs)) → classesAt t at (length cs) ≡ cs
+pub classes-decoded : {t : List ℕ} (at books m : ℕ) (cs : List Class) → length cs ≤ m → ValidClasses books cs → Stored t at (pad (11 * m) (rows classRow cs)) → classesAt t at (length cs) ≡ cs
 unfolding classesAt ValidClasses
 classes-decoded at books m [] h v l = refl
 classes-decoded at books zero (c ∷ cs) h v l = absurd (omega arith)
 classes-decoded {t} at books (suc m) (c ∷ cs) h v l =
-    let k = classes-lie m c cs l in
-    let here = class-decoded c (v .0 .count) (v .0 .subclasses) (class-lies c (k .0)) in
+    let k = classes-stored m c cs l in
+    let here = class-decoded c (v .0 .count) (v .0 .subclasses) (class-stored c (k .0)) in
     let later = classes-decoded (at + 11) books m cs (omega arith) (v .1) (k .1) in
     λ j. here j ∷ later j

@@ -26,39 +26,39 @@ past [] j a h = refl
 past (x ∷ l) zero a h = absurd (omega arith)
 past (x ∷ l) (suc j) a h = past l j a (omega arith)
 
-module _ (xs fs : List ℕ) (x j held : ℕ) where
-  pub left-unset : getD fs j 0 ≡ 0 → held ≡ cond (takesLeft xs fs x j held) j held
+module _ (xs fs : List ℕ) (x j best : ℕ) where
+  pub left-unset : getD fs j 0 ≡ 0 → best ≡ cond (takesLeft xs fs x j best) j best
   unfolding takesLeft
   left-unset h = rw (eq-eqb (getD fs j 0) 0 h)
 
-  pub left-right : (getD fs j 0 ≡ 0 → ⊥) → x < getD xs j 0 → held ≡ cond (takesLeft xs fs x j held) j held
+  pub left-right : (getD fs j 0 ≡ 0 → ⊥) → x < getD xs j 0 → best ≡ cond (takesLeft xs fs x j best) j best
   unfolding takesLeft
   left-right h k = rw (ne-eqb (getD fs j 0) 0 h, lt-leb (getD xs j 0) x k)
 
-  pub left-held : (getD fs j 0 ≡ 0 → ⊥) → getD xs j 0 ≤ x → getD xs j 0 ≤ getD xs held 0 → held ≡ cond (takesLeft xs fs x j held) j held
+  pub left-best : (getD fs j 0 ≡ 0 → ⊥) → getD xs j 0 ≤ x → getD xs j 0 ≤ getD xs best 0 → best ≡ cond (takesLeft xs fs x j best) j best
   unfolding takesLeft
-  left-held h k l = rw (ne-eqb (getD fs j 0) 0 h, le-leb (getD xs j 0) x k, le-ltb (getD xs held 0) (getD xs j 0) l)
+  left-best h k l = rw (ne-eqb (getD fs j 0) 0 h, le-leb (getD xs j 0) x k, le-ltb (getD xs best 0) (getD xs j 0) l)
 
-  pub left-takes : (getD fs j 0 ≡ 0 → ⊥) → getD xs j 0 ≤ x → getD xs held 0 < getD xs j 0 → j ≡ cond (takesLeft xs fs x j held) j held
+  pub left-takes : (getD fs j 0 ≡ 0 → ⊥) → getD xs j 0 ≤ x → getD xs best 0 < getD xs j 0 → j ≡ cond (takesLeft xs fs x j best) j best
   unfolding takesLeft
-  left-takes h k l = rw (ne-eqb (getD fs j 0) 0 h, le-leb (getD xs j 0) x k, lt-ltb (getD xs held 0) (getD xs j 0) l)
+  left-takes h k l = rw (ne-eqb (getD fs j 0) 0 h, le-leb (getD xs j 0) x k, lt-ltb (getD xs best 0) (getD xs j 0) l)
 
-  pub right-unset : getD fs j 0 ≡ 0 → held ≡ cond (takesRight xs fs x j held) j held
+  pub right-unset : getD fs j 0 ≡ 0 → best ≡ cond (takesRight xs fs x j best) j best
   unfolding takesRight
   right-unset h = rw (eq-eqb (getD fs j 0) 0 h)
 
   -- the program reads X at j, which lies in the list
-  pub right-left : j < length xs → (getD fs j 0 ≡ 0 → ⊥) → getD xs j 0 ≤ x → held ≡ cond (takesRight xs fs x j held) j held
+  pub right-left : j < length xs → (getD fs j 0 ≡ 0 → ⊥) → getD xs j 0 ≤ x → best ≡ cond (takesRight xs fs x j best) j best
   unfolding takesRight
   right-left i h k = rw (← within xs j 0 65536 i, ne-eqb (getD fs j 0) 0 h, le-ltb x (getD xs j 0) k)
 
-  pub right-held : j < length xs → (getD fs j 0 ≡ 0 → ⊥) → x < getD xs j 0 → xOr xs held ≤ getD xs j 0 → held ≡ cond (takesRight xs fs x j held) j held
+  pub right-best : j < length xs → (getD fs j 0 ≡ 0 → ⊥) → x < getD xs j 0 → xOr xs best ≤ getD xs j 0 → best ≡ cond (takesRight xs fs x j best) j best
   unfolding takesRight
-  right-held i h k l = rw (← within xs j 0 65536 i, ne-eqb (getD fs j 0) 0 h, lt-ltb x (getD xs j 0) k, le-ltb (getD xs j 0) (xOr xs held) l)
+  right-best i h k l = rw (← within xs j 0 65536 i, ne-eqb (getD fs j 0) 0 h, lt-ltb x (getD xs j 0) k, le-ltb (getD xs j 0) (xOr xs best) l)
 
-  pub right-takes : j < length xs → (getD fs j 0 ≡ 0 → ⊥) → x < getD xs j 0 → getD xs j 0 < xOr xs held → j ≡ cond (takesRight xs fs x j held) j held
+  pub right-takes : j < length xs → (getD fs j 0 ≡ 0 → ⊥) → x < getD xs j 0 → getD xs j 0 < xOr xs best → j ≡ cond (takesRight xs fs x j best) j best
   unfolding takesRight
-  right-takes i h k l = rw (← within xs j 0 65536 i, ne-eqb (getD fs j 0) 0 h, lt-ltb x (getD xs j 0) k, lt-ltb (getD xs j 0) (xOr xs held) l)
+  right-takes i h k l = rw (← within xs j 0 65536 i, ne-eqb (getD fs j 0) 0 h, lt-ltb x (getD xs j 0) k, lt-ltb (getD xs j 0) (xOr xs best) l)
 
 pub x-within : (xs : List ℕ) (j w : ℕ) → j < length xs → w ≡ getD xs j 0 → w ≡ xOr xs j
 x-within xs j w h e = e ∙ within xs j 0 65536 h
@@ -97,48 +97,48 @@ negated true e = absurd (unequal (sym e))
 negated false e = refl
 
 module _ (xs fs : List ℕ) (x : ℕ) where
-  left-inv : (j held : ℕ) → takesLeft xs fs x j held ≡ true → Lefter xs fs x j × (getD xs held 0 < getD xs j 0)
+  left-inv : (j best : ℕ) → takesLeft xs fs x j best ≡ true → Lefter xs fs x j × (getD xs best 0 < getD xs j 0)
   unfolding takesLeft
-  left-inv j held e =
+  left-inv j best e =
       let p = both (isSet fs j) _ e in
       let q = both (leb (getD xs j 0) x) _ (p .1) in
-      (record { flag = eqb-false (getD fs j 0) 0 (negated _ (p .0)); at = leb-true (getD xs j 0) x (q .0) }, ltb-true (getD xs held 0) (getD xs j 0) (q .1))
+      (record { flag = eqb-false (getD fs j 0) 0 (negated _ (p .0)); at = leb-true (getD xs j 0) x (q .0) }, ltb-true (getD xs best 0) (getD xs j 0) (q .1))
 
-  right-inv : (j held : ℕ) → takesRight xs fs x j held ≡ true → Righter xs fs x j × (xOr xs j < xOr xs held)
+  right-inv : (j best : ℕ) → takesRight xs fs x j best ≡ true → Righter xs fs x j × (xOr xs j < xOr xs best)
   unfolding takesRight
-  right-inv j held e =
+  right-inv j best e =
       let p = both (isSet fs j) _ e in
       let q = both (ltb x (xOr xs j)) _ (p .1) in
-      (record { flag = eqb-false (getD fs j 0) 0 (negated _ (p .0)); at = ltb-true x (xOr xs j) (q .0) }, ltb-true (xOr xs j) (xOr xs held) (q .1))
+      (record { flag = eqb-false (getD fs j 0) 0 (negated _ (p .0)); at = ltb-true x (xOr xs j) (q .0) }, ltb-true (xOr xs j) (xOr xs best) (q .1))
 
-  left-false : (j held : ℕ) → Lefter xs fs x j → takesLeft xs fs x j held ≡ false → getD xs j 0 ≤ getD xs held 0
+  left-false : (j best : ℕ) → Lefter xs fs x j → takesLeft xs fs x j best ≡ false → getD xs j 0 ≤ getD xs best 0
   unfolding takesLeft
-  left-false j held w e =
+  left-false j best w e =
       ⊎-elim
-      (λ (h : getD xs held 0 < getD xs j 0).
-      absurd (unequal (sym (rw (ne-eqb (getD fs j 0) 0 (w .flag), le-leb (getD xs j 0) x (w .at), lt-ltb (getD xs held 0) (getD xs j 0) h) at (sym e)))))
-      (λ (h : getD xs j 0 ≤ getD xs held 0). h)
-      (lt-or-le (getD xs held 0) (getD xs j 0))
+      (λ (h : getD xs best 0 < getD xs j 0).
+      absurd (unequal (sym (rw (ne-eqb (getD fs j 0) 0 (w .flag), le-leb (getD xs j 0) x (w .at), lt-ltb (getD xs best 0) (getD xs j 0) h) at (sym e)))))
+      (λ (h : getD xs j 0 ≤ getD xs best 0). h)
+      (lt-or-le (getD xs best 0) (getD xs j 0))
 
-  right-false : (j held : ℕ) → Righter xs fs x j → takesRight xs fs x j held ≡ false → xOr xs held ≤ xOr xs j
+  right-false : (j best : ℕ) → Righter xs fs x j → takesRight xs fs x j best ≡ false → xOr xs best ≤ xOr xs j
   unfolding takesRight
-  right-false j held w e =
+  right-false j best w e =
       ⊎-elim
-      (λ (h : xOr xs j < xOr xs held).
-      absurd (unequal (sym (rw (ne-eqb (getD fs j 0) 0 (w .flag), lt-ltb x (xOr xs j) (w .at), lt-ltb (xOr xs j) (xOr xs held) h) at (sym e)))))
-      (λ (h : xOr xs held ≤ xOr xs j). h)
-      (lt-or-le (xOr xs j) (xOr xs held))
+      (λ (h : xOr xs j < xOr xs best).
+      absurd (unequal (sym (rw (ne-eqb (getD fs j 0) 0 (w .flag), lt-ltb x (xOr xs j) (w .at), lt-ltb (xOr xs j) (xOr xs best) h) at (sym e)))))
+      (λ (h : xOr xs best ≤ xOr xs j). h)
+      (lt-or-le (xOr xs j) (xOr xs best))
 
   -- the last point at or left of x is at or left of x, and no flagged one lies between
   pub last-le : getD xs 0 0 ≤ x → getD xs (lastAt xs fs x) 0 ≤ x
   unfolding lastAt
-  last-le h = search-keeps (takesLeft xs fs x) (λ (k : ℕ). getD xs k 0 ≤ x) (length xs) 0 0 h (λ k held a b q t. left-inv k held t .0 .at)
+  last-le h = search-keeps (takesLeft xs fs x) (λ (k : ℕ). getD xs k 0 ≤ x) (length xs) 0 0 h (λ k best a b q t. left-inv k best t .0 .at)
 
   pub last-ge : (k : ℕ) → k < length xs → (getD fs k 0 ≡ 0 → ⊥) → getD xs k 0 ≤ x → getD xs k 0 ≤ getD xs (lastAt xs fs x) 0
   unfolding lastAt
   last-ge k h f l =
       search-best (takesLeft xs fs x) (λ (a b : ℕ). getD xs a 0 ≤ getD xs b 0) (λ a. omega arith) (λ a b c p q. omega arith)
-      (λ i held t. omega (arith, left-inv i held t .1)) (λ (i : ℕ). Lefter xs fs x i) (λ i held w t. left-false i held w t) (length xs) 0 0
+      (λ i best t. omega (arith, left-inv i best t .1)) (λ (i : ℕ). Lefter xs fs x i) (λ i best w t. left-false i best w t) (length xs) 0 0
       .1 k (omega arith) (omega arith) (record { flag = f; at = l })
 
   -- the next point right of x is flagged and right of x, and no flagged one lies between
@@ -146,14 +146,14 @@ module _ (xs fs : List ℕ) (x : ℕ) where
   unfolding nextAfter
   next-is =
       search-keeps (takesRight xs fs x) (λ (k : ℕ). k < length xs → (getD fs k 0 ≡ 0 → ⊥) × (x < xOr xs k)) (length xs) (length xs) 0
-      (λ h. absurd (omega arith)) (λ k held a b q t h. (right-inv k held t .0 .flag, right-inv k held t .0 .at))
+      (λ h. absurd (omega arith)) (λ k best a b q t h. (right-inv k best t .0 .flag, right-inv k best t .0 .at))
 
   pub next-le : (k : ℕ) → k < length xs → (getD fs k 0 ≡ 0 → ⊥) → x < getD xs k 0 → xOr xs (nextAfter xs fs x) ≤ getD xs k 0
   unfolding nextAfter
   next-le k h f l =
       rw (within xs k 0 65536 h)
       (search-best (takesRight xs fs x) (λ (a b : ℕ). xOr xs b ≤ xOr xs a) (λ a. omega arith) (λ a b c p q. omega arith)
-      (λ i held t. omega (arith, right-inv i held t .1)) (λ (i : ℕ). Righter xs fs x i) (λ i held w t. right-false i held w t) (length xs) (length xs) 0
+      (λ i best t. omega (arith, right-inv i best t .1)) (λ (i : ℕ). Righter xs fs x i) (λ i best w t. right-false i best w t) (length xs) (length xs) 0
       .1 k (omega arith) (omega arith) (record { flag = f; at = rw (within xs k 0 65536 h) at l }))
 
 pub is-last : (xs fs : List ℕ) (x r : ℕ) → r ≡ lastAt xs fs x → getD xs 0 0 ≤ x → IsLast xs fs x r
@@ -169,12 +169,12 @@ pub record Clear (xs fs : List ℕ) (a x : ℕ) : Type 0 where
   pub free : (k : ℕ) → k < length xs → (getD fs k 0 ≡ 0 → ⊥) → a < getD xs k 0 → x < getD xs k 0
 
 module _ (xs fs : List ℕ) (a x : ℕ) where
-  left-same : Clear xs fs a x → (k held : ℕ) → 0 ≤ k → k < 0 + length xs → takesLeft xs fs x k held ≡ takesLeft xs fs a k held
+  left-same : Clear xs fs a x → (k best : ℕ) → 0 ≤ k → k < 0 + length xs → takesLeft xs fs x k best ≡ takesLeft xs fs a k best
   unfolding takesLeft
-  left-same w k held i h = go (eqb (getD fs k 0) 0) refl
+  left-same w k best i h = go (eqb (getD fs k 0) 0) refl
     where
       go : (t : Bool) → eqb (getD fs k 0) 0 ≡ t
-          → (not (eqb (getD fs k 0) 0) && (leb (getD xs k 0) x && ltb (getD xs held 0) (getD xs k 0))) ≡ (not (eqb (getD fs k 0) 0) && (leb (getD xs k 0) a && ltb (getD xs held 0) (getD xs k 0)))
+          → (not (eqb (getD fs k 0) 0) && (leb (getD xs k 0) x && ltb (getD xs best 0) (getD xs k 0))) ≡ (not (eqb (getD fs k 0) 0) && (leb (getD xs k 0) a && ltb (getD xs best 0) (getD xs k 0)))
       go true e = rw e
       go false e =
           rw (
@@ -184,12 +184,12 @@ module _ (xs fs : List ℕ) (a x : ℕ) where
                 (λ p. omega (arith, w .from)),
           )
 
-  right-same : Clear xs fs a x → (k held : ℕ) → 0 ≤ k → k < 0 + length xs → takesRight xs fs x k held ≡ takesRight xs fs a k held
+  right-same : Clear xs fs a x → (k best : ℕ) → 0 ≤ k → k < 0 + length xs → takesRight xs fs x k best ≡ takesRight xs fs a k best
   unfolding takesRight
-  right-same w k held i h = go (eqb (getD fs k 0) 0) refl
+  right-same w k best i h = go (eqb (getD fs k 0) 0) refl
     where
       go : (t : Bool) → eqb (getD fs k 0) 0 ≡ t
-          → (not (eqb (getD fs k 0) 0) && (ltb x (xOr xs k) && ltb (xOr xs k) (xOr xs held))) ≡ (not (eqb (getD fs k 0) 0) && (ltb a (xOr xs k) && ltb (xOr xs k) (xOr xs held)))
+          → (not (eqb (getD fs k 0) 0) && (ltb x (xOr xs k) && ltb (xOr xs k) (xOr xs best))) ≡ (not (eqb (getD fs k 0) 0) && (ltb a (xOr xs k) && ltb (xOr xs k) (xOr xs best)))
       go true e = rw e
       go false e =
           let s : getD xs k 0 ≡ xOr xs k = within xs k 0 65536 (omega arith) in

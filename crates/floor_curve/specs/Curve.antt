@@ -21,11 +21,11 @@ xOr xs j = getD xs j 65536
 
 -- place j is flagged, lies at or left of x, and right of the place held
 unfoldable pub takesLeft : List ℕ → List ℕ → ℕ → ℕ → ℕ → Bool
-takesLeft xs flags x j held = isSet flags j && (leb (getD xs j 0) x && ltb (getD xs held 0) (getD xs j 0))
+takesLeft xs flags x j best = isSet flags j && (leb (getD xs j 0) x && ltb (getD xs best 0) (getD xs j 0))
 
 -- place j is flagged, lies right of x, and left of the place held
 unfoldable pub takesRight : List ℕ → List ℕ → ℕ → ℕ → ℕ → Bool
-takesRight xs flags x j held = isSet flags j && (ltb x (xOr xs j) && ltb (xOr xs j) (xOr xs held))
+takesRight xs flags x j best = isSet flags j && (ltb x (xOr xs j) && ltb (xOr xs j) (xOr xs best))
 
 -- the last flagged point at or left of x. Place 0 lies at X 0, where the curve begins, whether flagged or not (004, step 3)
 unfoldable pub lastAt : List ℕ → List ℕ → ℕ → ℕ

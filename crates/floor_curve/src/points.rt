@@ -22,35 +22,35 @@ fn x_or(x: &[u16], j: usize) -> usize
 }
 
 // Place j, where it is flagged, at or left of `at`, and right of the place held; else the place held.
-fn later(x: &[u16], flags: &[u8], at: usize, j: usize, held: usize) -> usize
-    requires { ⌜ (j < length (now x)) × (held < length (now x)) × (j < length (now flags)) ⌝ }
-    ensures { λ r. ⌜ r ≡ cond (takesLeft (now (x .entry)) (now (flags .entry)) at j held) j held ⌝ }
+fn later(x: &[u16], flags: &[u8], at: usize, j: usize, best: usize) -> usize
+    requires { ⌜ (j < length (now x)) × (best < length (now x)) × (j < length (now flags)) ⌝ }
+    ensures { λ r. ⌜ r ≡ cond (takesLeft (now (x .entry)) (now (flags .entry)) at j best) j best ⌝ }
 {
     if flags[j] == 0 {
-        return held;
+        return best;
     }
     if at < wide(x[j]) {
-        return held;
+        return best;
     }
-    if x[held] >= x[j] {
-        return held;
+    if x[best] >= x[j] {
+        return best;
     }
     j
 }
 
 // Place j, where it is flagged, right of `at`, and left of the place held; else the place held.
-fn earlier(x: &[u16], flags: &[u8], at: usize, j: usize, held: usize) -> usize
+fn earlier(x: &[u16], flags: &[u8], at: usize, j: usize, best: usize) -> usize
     requires { ⌜ (j < length (now x)) × (j < length (now flags)) ⌝ }
-    ensures { λ r. ⌜ r ≡ cond (takesRight (now (x .entry)) (now (flags .entry)) at j held) j held ⌝ }
+    ensures { λ r. ⌜ r ≡ cond (takesRight (now (x .entry)) (now (flags .entry)) at j best) j best ⌝ }
 {
     if flags[j] == 0 {
-        return held;
+        return best;
     }
     if wide(x[j]) <= at {
-        return held;
+        return best;
     }
-    if x_or(x, held) <= wide(x[j]) {
-        return held;
+    if x_or(x, best) <= wide(x[j]) {
+        return best;
     }
     j
 }
@@ -59,26 +59,26 @@ pub fn last_at(x: &[u16], flags: &[u8], at: usize) -> usize
     requires { ⌜ (0 < length (now x)) × (length (now flags) ≡ length (now x)) ⌝ }
     ensures { λ r. ⌜ (r ≡ lastAt (now (x .entry)) (now (flags .entry)) at) × (r < length (now (x .entry))) × (getD (now (x .entry)) 0 0 ≤ at → IsLast (now (x .entry)) (now (flags .entry)) at r) ⌝ }
 {
-    let mut held: usize = 0;
+    let mut best: usize = 0;
     let mut j: usize = 0;
     while j < x.len() {
-        held = later(x, flags, at, j, held);
+        best = later(x, flags, at, j, best);
         j = j + 1;
     }
-    held
+    best
 }
 
 pub fn next_after(x: &[u16], flags: &[u8], at: usize) -> usize
     requires { ⌜ length (now flags) ≡ length (now x) ⌝ }
     ensures { λ r. ⌜ (r ≡ nextAfter (now (x .entry)) (now (flags .entry)) at) × (r ≤ length (now (x .entry))) × IsNext (now (x .entry)) (now (flags .entry)) at r ⌝ }
 {
-    let mut held = x.len();
+    let mut best = x.len();
     let mut j: usize = 0;
     while j < x.len() {
-        held = earlier(x, flags, at, j, held);
+        best = earlier(x, flags, at, j, best);
         j = j + 1;
     }
-    held
+    best
 }
 
 // Y times the multiplier, at most 255.

@@ -14,30 +14,30 @@ use Rattle.floor_line.specs.Neighbours.{takesLow, takesHigh, lowNeighbou
 use Rattle.floor_line.proofs.Searching.{search-keeps, search-best}
 use Rattle.floor_line.proofs.Integers.{lt-or-le}
 
-module _ (xs : List ℕ) (x j held : ℕ) where
-  pub low-not-below : x ≤ getD xs j 0 → held ≡ cond (takesLow xs x j held) j held
+module _ (xs : List ℕ) (x j best : ℕ) where
+  pub low-not-below : x ≤ getD xs j 0 → best ≡ cond (takesLow xs x j best) j best
   unfolding takesLow
   low-not-below h = rw (le-ltb (getD xs j 0) x h)
 
-  pub low-not-greater : getD xs j 0 < x → getD xs j 0 ≤ getD xs held 0 → held ≡ cond (takesLow xs x j held) j held
+  pub low-not-greater : getD xs j 0 < x → getD xs j 0 ≤ getD xs best 0 → best ≡ cond (takesLow xs x j best) j best
   unfolding takesLow
-  low-not-greater h k = rw (lt-ltb (getD xs j 0) x h, le-ltb (getD xs held 0) (getD xs j 0) k)
+  low-not-greater h k = rw (lt-ltb (getD xs j 0) x h, le-ltb (getD xs best 0) (getD xs j 0) k)
 
-  pub low-takes : getD xs j 0 < x → getD xs held 0 < getD xs j 0 → j ≡ cond (takesLow xs x j held) j held
+  pub low-takes : getD xs j 0 < x → getD xs best 0 < getD xs j 0 → j ≡ cond (takesLow xs x j best) j best
   unfolding takesLow
-  low-takes h k = rw (lt-ltb (getD xs j 0) x h, lt-ltb (getD xs held 0) (getD xs j 0) k)
+  low-takes h k = rw (lt-ltb (getD xs j 0) x h, lt-ltb (getD xs best 0) (getD xs j 0) k)
 
-  pub high-not-above : getD xs j 0 ≤ x → held ≡ cond (takesHigh xs x j held) j held
+  pub high-not-above : getD xs j 0 ≤ x → best ≡ cond (takesHigh xs x j best) j best
   unfolding takesHigh
   high-not-above h = rw (le-ltb x (getD xs j 0) h)
 
-  pub high-not-less : x < getD xs j 0 → getD xs held 0 ≤ getD xs j 0 → held ≡ cond (takesHigh xs x j held) j held
+  pub high-not-less : x < getD xs j 0 → getD xs best 0 ≤ getD xs j 0 → best ≡ cond (takesHigh xs x j best) j best
   unfolding takesHigh
-  high-not-less h k = rw (lt-ltb x (getD xs j 0) h, le-ltb (getD xs j 0) (getD xs held 0) k)
+  high-not-less h k = rw (lt-ltb x (getD xs j 0) h, le-ltb (getD xs j 0) (getD xs best 0) k)
 
-  pub high-takes : x < getD xs j 0 → getD xs j 0 < getD xs held 0 → j ≡ cond (takesHigh xs x j held) j held
+  pub high-takes : x < getD xs j 0 → getD xs j 0 < getD xs best 0 → j ≡ cond (takesHigh xs x j best) j best
   unfolding takesHigh
-  high-takes h k = rw (lt-ltb x (getD xs j 0) h, lt-ltb (getD xs j 0) (getD xs held 0) k)
+  high-takes h k = rw (lt-ltb x (getD xs j 0) h, lt-ltb (getD xs j 0) (getD xs best 0) k)
 
 module _ (xs : List ℕ) (i : ℕ) where
   pub low-begun : searched (takesLow xs (getD xs i 0)) 0 0 (i - 0) ≡ lowNeighbour xs i
@@ -56,26 +56,26 @@ both : (a b : Bool) → (a && b) ≡ true → (a ≡ true) × (b ≡ true)
 both true b e = (refl, e)
 both false b e = absurd (unequal (sym e))
 
-module _ (xs : List ℕ) (x j held : ℕ) where
-  low-inv : takesLow xs x j held ≡ true → (getD xs j 0 < x) × (getD xs held 0 < getD xs j 0)
+module _ (xs : List ℕ) (x j best : ℕ) where
+  low-inv : takesLow xs x j best ≡ true → (getD xs j 0 < x) × (getD xs best 0 < getD xs j 0)
   unfolding takesLow
-  low-inv e = let p = both (ltb (getD xs j 0) x) _ e in (ltb-true (getD xs j 0) x (p .0), ltb-true (getD xs held 0) (getD xs j 0) (p .1))
+  low-inv e = let p = both (ltb (getD xs j 0) x) _ e in (ltb-true (getD xs j 0) x (p .0), ltb-true (getD xs best 0) (getD xs j 0) (p .1))
 
-  low-false : getD xs j 0 < x → takesLow xs x j held ≡ false → getD xs j 0 ≤ getD xs held 0
+  low-false : getD xs j 0 < x → takesLow xs x j best ≡ false → getD xs j 0 ≤ getD xs best 0
   unfolding takesLow
   low-false h e =
-      ⊎-elim (λ (l : getD xs held 0 < getD xs j 0). absurd (unequal (sym (rw (lt-ltb (getD xs j 0) x h, lt-ltb (getD xs held 0) (getD xs j 0) l) at (sym e)))))
-      (λ (l : getD xs j 0 ≤ getD xs held 0). l) (lt-or-le (getD xs held 0) (getD xs j 0))
+      ⊎-elim (λ (l : getD xs best 0 < getD xs j 0). absurd (unequal (sym (rw (lt-ltb (getD xs j 0) x h, lt-ltb (getD xs best 0) (getD xs j 0) l) at (sym e)))))
+      (λ (l : getD xs j 0 ≤ getD xs best 0). l) (lt-or-le (getD xs best 0) (getD xs j 0))
 
-  high-inv : takesHigh xs x j held ≡ true → (x < getD xs j 0) × (getD xs j 0 < getD xs held 0)
+  high-inv : takesHigh xs x j best ≡ true → (x < getD xs j 0) × (getD xs j 0 < getD xs best 0)
   unfolding takesHigh
-  high-inv e = let p = both (ltb x (getD xs j 0)) _ e in (ltb-true x (getD xs j 0) (p .0), ltb-true (getD xs j 0) (getD xs held 0) (p .1))
+  high-inv e = let p = both (ltb x (getD xs j 0)) _ e in (ltb-true x (getD xs j 0) (p .0), ltb-true (getD xs j 0) (getD xs best 0) (p .1))
 
-  high-false : x < getD xs j 0 → takesHigh xs x j held ≡ false → getD xs held 0 ≤ getD xs j 0
+  high-false : x < getD xs j 0 → takesHigh xs x j best ≡ false → getD xs best 0 ≤ getD xs j 0
   unfolding takesHigh
   high-false h e =
-      ⊎-elim (λ (l : getD xs j 0 < getD xs held 0). absurd (unequal (sym (rw (lt-ltb x (getD xs j 0) h, lt-ltb (getD xs j 0) (getD xs held 0) l) at (sym e)))))
-      (λ (l : getD xs held 0 ≤ getD xs j 0). l) (lt-or-le (getD xs j 0) (getD xs held 0))
+      ⊎-elim (λ (l : getD xs j 0 < getD xs best 0). absurd (unequal (sym (rw (lt-ltb x (getD xs j 0) h, lt-ltb (getD xs j 0) (getD xs best 0) l) at (sym e)))))
+      (λ (l : getD xs best 0 ≤ getD xs j 0). l) (lt-or-le (getD xs j 0) (getD xs best 0))
 
 pub is-low : (xs : List ℕ) (i r : ℕ) → 0 < i → r ≡ lowNeighbour xs i → getD xs 0 0 < getD xs i 0 → IsLow xs i r
 unfolding lowNeighbour
@@ -83,11 +83,11 @@ is-low xs i r z e h =
     let t = takesLow xs (getD xs i 0) in
     rw e
     (record {
-      earlier = search-keeps t (λ (k : ℕ). k < i) i 0 0 z (λ k held a b q s. omega arith);
-      below = search-keeps t (λ (k : ℕ). getD xs k 0 < getD xs i 0) i 0 0 h (λ k held a b q s. low-inv xs (getD xs i 0) k held s .0);
+      earlier = search-keeps t (λ (k : ℕ). k < i) i 0 0 z (λ k best a b q s. omega arith);
+      below = search-keeps t (λ (k : ℕ). getD xs k 0 < getD xs i 0) i 0 0 h (λ k best a b q s. low-inv xs (getD xs i 0) k best s .0);
       greatest = λ j l f.
           search-best t (λ (a b : ℕ). getD xs a 0 ≤ getD xs b 0) (λ a. omega arith) (λ a b c p q. omega arith)
-          (λ k held s. omega (arith, low-inv xs (getD xs i 0) k held s .1)) (λ (k : ℕ). getD xs k 0 < getD xs i 0) (λ k held w s. low-false xs (getD xs i 0) k held w s) i 0 0
+          (λ k best s. omega (arith, low-inv xs (getD xs i 0) k best s .1)) (λ (k : ℕ). getD xs k 0 < getD xs i 0) (λ k best w s. low-false xs (getD xs i 0) k best w s) i 0 0
           .1 j (omega arith) (omega arith) f;
     })
 
@@ -97,10 +97,10 @@ is-high xs i r z e h =
     let t = takesHigh xs (getD xs i 0) in
     rw e
     (record {
-      earlier = search-keeps t (λ (k : ℕ). k < i) i 1 0 z (λ k held a b q s. omega arith);
-      above = search-keeps t (λ (k : ℕ). getD xs i 0 < getD xs k 0) i 1 0 h (λ k held a b q s. high-inv xs (getD xs i 0) k held s .0);
+      earlier = search-keeps t (λ (k : ℕ). k < i) i 1 0 z (λ k best a b q s. omega arith);
+      above = search-keeps t (λ (k : ℕ). getD xs i 0 < getD xs k 0) i 1 0 h (λ k best a b q s. high-inv xs (getD xs i 0) k best s .0);
       least = λ j l f.
           search-best t (λ (a b : ℕ). getD xs b 0 ≤ getD xs a 0) (λ a. omega arith) (λ a b c p q. omega arith)
-          (λ k held s. omega (arith, high-inv xs (getD xs i 0) k held s .1)) (λ (k : ℕ). getD xs i 0 < getD xs k 0) (λ k held w s. high-false xs (getD xs i 0) k held w s) i 1 0
+          (λ k best s. omega (arith, high-inv xs (getD xs i 0) k best s .1)) (λ (k : ℕ). getD xs i 0 < getD xs k 0) (λ k best w s. high-false xs (getD xs i 0) k best w s) i 1 0
           .1 j (omega arith) (omega arith) f;
     })

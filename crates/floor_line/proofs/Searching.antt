@@ -9,63 +9,63 @@ use mathlib.Core.Path.{_≡_, refl, sym, ap, _∙_}
 use Rattle.floor_line.specs.Search.{searched}
 
 module _ (takes : ℕ → ℕ → Bool) where
-  pub search-end : (held j n : ℕ) → n ≤ j → searched takes held j (n - j) ≡ held
+  pub search-end : (best j n : ℕ) → n ≤ j → searched takes best j (n - j) ≡ best
   unfolding searched
-  search-end held j n h = let e : n - j ≡ 0 = omega arith in rw e
+  search-end best j n h = let e : n - j ≡ 0 = omega arith in rw e
 
-  pub search-turn : (held j n : ℕ) → j < n → searched takes (cond (takes j held) j held) (j + 1) (n - (j + 1)) ≡ searched takes held j (n - j)
+  pub search-turn : (best j n : ℕ) → j < n → searched takes (cond (takes j best) j best) (j + 1) (n - (j + 1)) ≡ searched takes best j (n - j)
   unfolding searched
-  search-turn held j n h = let e : n - j ≡ suc (n - (j + 1)) = omega arith in rw (e, add-one j)
+  search-turn best j n h = let e : n - j ≡ suc (n - (j + 1)) = omega arith in rw (e, add-one j)
 
   -- a turn and the end as the code asks them: r is the place held next, R what the whole search gives
-  pub turned : (r held j n R : ℕ) → r ≡ cond (takes j held) j held → j < n → searched takes held j (n - j) ≡ R → searched takes r (j + 1) (n - (j + 1)) ≡ R
-  turned r held j n R e h w = rw e (search-turn held j n h ∙ w)
+  pub turned : (r best j n R : ℕ) → r ≡ cond (takes j best) j best → j < n → searched takes best j (n - j) ≡ R → searched takes r (j + 1) (n - (j + 1)) ≡ R
+  turned r best j n R e h w = rw e (search-turn best j n h ∙ w)
 
-  pub ended : (held j n R : ℕ) → n ≤ j → searched takes held j (n - j) ≡ R → held ≡ R
-  ended held j n R h w = sym (search-end held j n h) ∙ w
+  pub ended : (best j n R : ℕ) → n ≤ j → searched takes best j (n - j) ≡ R → best ≡ R
+  ended best j n R h w = sym (search-end best j n h) ∙ w
 
-  pub turned-below : (r held j n : ℕ) → r ≡ cond (takes j held) j held → j < n → held < n → r < n
-  turned-below r held j n e p q = rw e (either (takes j held))
+  pub turned-below : (r best j n : ℕ) → r ≡ cond (takes j best) j best → j < n → best < n → r < n
+  turned-below r best j n e p q = rw e (either (takes j best))
     where
-      either : (t : Bool) → cond t j held < n
+      either : (t : Bool) → cond t j best < n
       either true = p
       either false = q
 
   -- what holds of the place held at first, and of each place that can take its place, holds of the place held at last
-  pub search-keeps : (Q : ℕ → Type 0) (n held j : ℕ) → Q held → ((k h : ℕ) → j ≤ k → k < j + n → Q h → takes k h ≡ true → Q k) → Q (searched takes held j n)
+  pub search-keeps : (Q : ℕ → Type 0) (n best j : ℕ) → Q best → ((k h : ℕ) → j ≤ k → k < j + n → Q h → takes k h ≡ true → Q k) → Q (searched takes best j n)
   unfolding searched
-  search-keeps Q zero held j q f = q
-  search-keeps Q (suc n) held j q f =
-      search-keeps Q n (cond (takes j held) j held) (suc j) (either (takes j held) refl) (λ k h a b. f k h (omega arith) (omega arith))
+  search-keeps Q zero best j q f = q
+  search-keeps Q (suc n) best j q f =
+      search-keeps Q n (cond (takes j best) j best) (suc j) (either (takes j best) refl) (λ k h a b. f k h (omega arith) (omega arith))
     where
-      either : (t : Bool) → takes j held ≡ t → Q (cond t j held)
-      either true e = f j held (omega arith) (omega arith) q e
+      either : (t : Bool) → takes j best ≡ t → Q (cond t j best)
+      either true e = f j best (omega arith) (omega arith) q e
       either false e = q
 
   -- a search by another test that gives the same for each place is the same
-  pub search-same : (takes′ : ℕ → ℕ → Bool) (n held j : ℕ) → ((k h : ℕ) → j ≤ k → k < j + n → takes k h ≡ takes′ k h) → searched takes held j n ≡ searched takes′ held j n
+  pub search-same : (takes′ : ℕ → ℕ → Bool) (n best j : ℕ) → ((k h : ℕ) → j ≤ k → k < j + n → takes k h ≡ takes′ k h) → searched takes best j n ≡ searched takes′ best j n
   unfolding searched
-  search-same takes′ zero held j f = refl
-  search-same takes′ (suc n) held j f =
-      rw (f j held (omega arith) (omega arith)) (search-same takes′ n (cond (takes′ j held) j held) (suc j) (λ k h a b. f k h (omega arith) (omega arith)))
+  search-same takes′ zero best j f = refl
+  search-same takes′ (suc n) best j f =
+      rw (f j best (omega arith) (omega arith)) (search-same takes′ n (cond (takes′ j best) j best) (suc j) (λ k h a b. f k h (omega arith) (omega arith)))
 
 -- R a b: place b is as good as a. Where what takes a place is as good as what it takes it from, and a candidate that does not take the place is no
 -- better than what is held, the place held at last is as good as every candidate.
 module _ (takes : ℕ → ℕ → Bool) (R : ℕ → ℕ → Type 0) (same : (a : ℕ) → R a a) (chain : (a b c : ℕ) → R a b → R b c → R a c)
     (better : (k h : ℕ) → takes k h ≡ true → R h k) (C : ℕ → Type 0) (kept : (k h : ℕ) → C k → takes k h ≡ false → R k h) where
-  pub search-best : (n held j : ℕ) → R held (searched takes held j n) × ((k : ℕ) → j ≤ k → k < j + n → C k → R k (searched takes held j n))
+  pub search-best : (n best j : ℕ) → R best (searched takes best j n) × ((k : ℕ) → j ≤ k → k < j + n → C k → R k (searched takes best j n))
   unfolding searched
-  search-best zero held j = (same held, λ k a b q. absurd (omega arith))
-  search-best (suc n) held j = go (takes j held) refl (λ h. search-best n h (suc j))
+  search-best zero best j = (same best, λ k a b q. absurd (omega arith))
+  search-best (suc n) best j = go (takes j best) refl (λ h. search-best n h (suc j))
     where
-      go : (t : Bool) → takes j held ≡ t
+      go : (t : Bool) → takes j best ≡ t
           → ((h : ℕ) → R h (searched takes h (suc j) n) × ((k : ℕ) → suc j ≤ k → k < suc j + n → C k → R k (searched takes h (suc j) n)))
-          → R held (searched takes (cond t j held) (suc j) n) × ((k : ℕ) → j ≤ k → k < j + suc n → C k → R k (searched takes (cond t j held) (suc j) n))
+          → R best (searched takes (cond t j best) (suc j) n) × ((k : ℕ) → j ≤ k → k < j + suc n → C k → R k (searched takes (cond t j best) (suc j) n))
       go true e f = (
-        chain held j _ (better j held e) (f j .0),
+        chain best j _ (better j best e) (f j .0),
         λ k a b q. ⊎-elim (λ (p : j ≡ k). chain k j _ (rw (← p) (same j)) (f j .0)) (λ (p : j < k). f j .1 k (omega arith) (omega arith) q) (eq-or-lt-of-le a),
       )
       go false e f = (
-        f held .0,
-        λ k a b q. ⊎-elim (λ (p : j ≡ k). chain k held _ (kept k held q (rw p at e)) (f held .0)) (λ (p : j < k). f held .1 k (omega arith) (omega arith) q) (eq-or-lt-of-le a),
+        f best .0,
+        λ k a b q. ⊎-elim (λ (p : j ≡ k). chain k best _ (kept k best q (rw p at e)) (f best .0)) (λ (p : j < k). f best .1 k (omega arith) (omega arith) q) (eq-or-lt-of-le a),
       )

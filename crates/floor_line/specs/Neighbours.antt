@@ -13,10 +13,10 @@ xAt xs j = getD xs j 0
 
 -- X at j is below x, and greater than that at the place held; or above x, and less
 unfoldable pub takesLow : List ℕ → ℕ → ℕ → ℕ → Bool
-takesLow xs x j held = ltb (xAt xs j) x && ltb (xAt xs held) (xAt xs j)
+takesLow xs x j best = ltb (xAt xs j) x && ltb (xAt xs best) (xAt xs j)
 
 unfoldable pub takesHigh : List ℕ → ℕ → ℕ → ℕ → Bool
-takesHigh xs x j held = ltb x (xAt xs j) && ltb (xAt xs j) (xAt xs held)
+takesHigh xs x j best = ltb x (xAt xs j) && ltb (xAt xs j) (xAt xs best)
 
 -- 7, low_neighbor: of the places before i, that of the greatest X below the X of i. The search begins at place 0, which holds the least X of a floor
 unfoldable pub lowNeighbour : List ℕ → ℕ → ℕ

@@ -4,5 +4,5 @@ use mathlib.Core.Bool.{Bool, cond}
 
 -- the place that is held after the n places from j on, where a place k takes the place of the one held, h, when `takes k h`
 unfoldable pub searched : (ℕ → ℕ → Bool) → ℕ → ℕ → ℕ → ℕ
-searched takes held j zero = held
-searched takes held j (suc n) = searched takes (cond (takes j held) j held) (suc j) n
+searched takes best j zero = best
+searched takes best j (suc n) = searched takes (cond (takes j best) j best) (suc j) n

@@ -7,29 +7,29 @@ ghost use lib.ListN.{length};
 ghost use Rattle.floor_line.specs.Neighbours.{xAt, takesLow, takesHigh, lowNeighbour, highNeighbour, IsLow, IsHigh};
 
 // Place j, where its X is below `top` and greater than that of the place held; else the place held.
-fn higher(x: &[u16], top: u16, j: usize, held: usize) -> usize
-    requires { ⌜ (j < length (now x)) × (held < length (now x)) ⌝ }
-    ensures { λ r. ⌜ r ≡ cond (takesLow (now (x .entry)) top j held) j held ⌝ }
+fn higher(x: &[u16], top: u16, j: usize, best: usize) -> usize
+    requires { ⌜ (j < length (now x)) × (best < length (now x)) ⌝ }
+    ensures { λ r. ⌜ r ≡ cond (takesLow (now (x .entry)) top j best) j best ⌝ }
 {
     if x[j] >= top {
-        return held;
+        return best;
     }
-    if x[held] >= x[j] {
-        return held;
+    if x[best] >= x[j] {
+        return best;
     }
     j
 }
 
 // Place j, where its X is above `bottom` and less than that of the place held; else the place held.
-fn lower(x: &[u16], bottom: u16, j: usize, held: usize) -> usize
-    requires { ⌜ (j < length (now x)) × (held < length (now x)) ⌝ }
-    ensures { λ r. ⌜ r ≡ cond (takesHigh (now (x .entry)) bottom j held) j held ⌝ }
+fn lower(x: &[u16], bottom: u16, j: usize, best: usize) -> usize
+    requires { ⌜ (j < length (now x)) × (best < length (now x)) ⌝ }
+    ensures { λ r. ⌜ r ≡ cond (takesHigh (now (x .entry)) bottom j best) j best ⌝ }
 {
     if x[j] <= bottom {
-        return held;
+        return best;
     }
-    if x[held] <= x[j] {
-        return held;
+    if x[best] <= x[j] {
+        return best;
     }
     j
 }
@@ -39,13 +39,13 @@ pub fn low_neighbour(x: &[u16], i: usize) -> usize
     ensures { λ r. ⌜ (r ≡ lowNeighbour (now (x .entry)) i) × (r < i) × (xAt (now (x .entry)) 0 < xAt (now (x .entry)) i → IsLow (now (x .entry)) i r) ⌝ }
 {
     let top = x[i];
-    let mut held: usize = 0;
+    let mut best: usize = 0;
     let mut j: usize = 0;
     while j < i {
-        held = higher(x, top, j, held);
+        best = higher(x, top, j, best);
         j = j + 1;
     }
-    held
+    best
 }
 
 pub fn high_neighbour(x: &[u16], i: usize) -> usize
@@ -53,11 +53,11 @@ pub fn high_neighbour(x: &[u16], i: usize) -> usize
     ensures { λ r. ⌜ (r ≡ highNeighbour (now (x .entry)) i) × (r < i) × (xAt (now (x .entry)) i < xAt (now (x .entry)) 1 → IsHigh (now (x .entry)) i r) ⌝ }
 {
     let bottom = x[i];
-    let mut held: usize = 1;
+    let mut best: usize = 1;
     let mut k: usize = 0;
     while k < i {
-        held = lower(x, bottom, k, held);
+        best = lower(x, bottom, k, best);
         k = k + 1;
     }
-    held
+    best
 }

@@ -28,7 +28,7 @@ use Rattle.numbers.specs.Cell.{cell}
 use Rattle.floor_class.specs.Content.{Class}
 use Rattle.floor_class.specs.Decode.{classAt}
 use Rattle.floor_partition.specs.Partition.{chosen, value}
-use Rattle.floor_partition.specs.Lying.{lengthsIn, classIn, PlaceLies, ClassLies}
+use Rattle.floor_partition.specs.Stored.{lengthsIn, classIn, PlaceStored, ClassStored}
 
 pub all-get : (f : ℕ → Bool) (l : List ℕ) (i : ℕ) → all f l ≡ true → i < length l → f (getD l i 0) ≡ true
 unfolding all
@@ -54,7 +54,7 @@ unfolding chosen
 no-turn lengthsOf c s left k t = each-done 0 (putRow cell) (value lengthsOf) [] 0 s k t (omega arith)
 
 -- the books of a class, as they lie in the table
-module _ {floors books lengths words : List ℕ} {n c : ℕ} (l : ClassLies floors books lengths words n c) where
+module _ {floors books lengths codewords : List ℕ} {n c : ℕ} (l : ClassStored floors books lengths codewords n c) where
   pub subclasses-few : {sub : ℕ} → sub ≡ getD floors (277 * n + 36 + 11 * c + 1) 0 → sub ≤ 3
   unfolding classIn classAt
   subclasses-few e = rw e (l .valid .subclasses)
@@ -63,8 +63,8 @@ module _ {floors books lengths words : List ℕ} {n c : ℕ} (l : ClassLies floo
   unfolding classIn classAt
   book-is j h = let at = 277 * n + 36 + 11 * c + 3 in getD-drop at (take (at + 2 ^ getD floors (277 * n + 36 + 11 * c + 1) 0) floors) j 0 ∙ getD-take (at + 2 ^ getD floors (277 * n + 36 + 11 * c + 1) 0) floors (at + j) 0 (omega arith)
 
-  book-lies : (j : ℕ) → j < 2 ^ classIn floors n c .subclasses → PlaceLies books lengths words (getD (classIn floors n c .books) j 0)
-  book-lies j h =
+  book-stored : (j : ℕ) → j < 2 ^ classIn floors n c .subclasses → PlaceStored books lengths codewords (getD (classIn floors n c .books) j 0)
+  book-stored j h =
       let long = l .valid .count in
       let most = leb-true _ _ (all-get (λ b. leb b (l .count)) (classIn floors n c .books) j (l .valid .set-up) (omega arith)) in
       record { readable = λ some. l .readable (getD (classIn floors n c .books) j 0 - 1) (below (getD (classIn floors n c .books) j 0) some most) }
@@ -74,9 +74,9 @@ module _ {floors books lengths words : List ℕ} {n c : ℕ} (l : ClassLies floo
       below (suc p) some h = omega arith
 
 -- i of the values are read, and `left` is what is left of the class value
-pub record Choosing (s floors books lengths words : List ℕ) (n c v : ℕ) (entry : List ℕ) (at : ℕ) (from : Cursor) (count base : ℕ) (now : List ℕ) (next : Cursor) (left i : ℕ) : Type 0 where
+pub record Choosing (s floors books lengths codewords : List ℕ) (n c v : ℕ) (entry : List ℕ) (at : ℕ) (from : Cursor) (count base : ℕ) (now : List ℕ) (next : Cursor) (left i : ℕ) : Type 0 where
   pub place-few : at ≤ 65535
-  pub lies : ClassLies floors books lengths words n c
+  pub stored : ClassStored floors books lengths codewords n c
   pub counted : count ≡ classIn floors n c .dimensions
   pub based : base ≡ 2 ^ classIn floors n c .subclasses
   pub within : i ≤ count
@@ -84,15 +84,15 @@ pub record Choosing (s floors books lengths words : List ℕ) (n c v : ℕ) (ent
   pub rest : into (putRow cell) (each (value (lengthsIn books lengths)) (chosen (classIn floors n c) left (count - i)) s (position next)) (table now (at + i))
       ≡ into (putRow cell) (each (value (lengthsIn books lengths)) (chosen (classIn floors n c) v (classIn floors n c .dimensions)) s (position from)) (table entry at)
 
-module _ {s floors books lengths words : List ℕ} {n c v : ℕ} {entry : List ℕ} {at : ℕ} {from : Cursor} {count base : ℕ} where
-  pub choose-start : at ≤ 65535 → ClassLies floors books lengths words n c → {d sub : ℕ} → d ≡ getD floors (277 * n + 36 + 11 * c) 0 → count ≡ d
-      → sub ≡ getD floors (277 * n + 36 + 11 * c + 1) 0 → base ≡ 2 ^ sub → Choosing s floors books lengths words n c v entry at from count base entry from v 0
+module _ {s floors books lengths codewords : List ℕ} {n c v : ℕ} {entry : List ℕ} {at : ℕ} {from : Cursor} {count base : ℕ} where
+  pub choose-start : at ≤ 65535 → ClassStored floors books lengths codewords n c → {d sub : ℕ} → d ≡ getD floors (277 * n + 36 + 11 * c) 0 → count ≡ d
+      → sub ≡ getD floors (277 * n + 36 + 11 * c + 1) 0 → base ≡ 2 ^ sub → Choosing s floors books lengths codewords n c v entry at from count base entry from v 0
   choose-start h l {d} {sub} e₁ e₂ e₃ e₄ =
       let f : count ≡ classIn floors n c .dimensions = unfold classIn classAt in (e₂ ∙ e₁) in
       let g : base ≡ 2 ^ classIn floors n c .subclasses = unfold classIn classAt in (e₄ ∙ ap (λ (x : ℕ). 2 ^ x) e₃) in
-      record { place-few = h; lies = l; counted = f; based = g; within = omega arith; long = refl; rest = rw (sub-zero, add-zero, f) }
+      record { place-few = h; stored = l; counted = f; based = g; within = omega arith; long = refl; rest = rw (sub-zero, add-zero, f) }
 
-  module _ {now : List ℕ} {next : Cursor} {left i : ℕ} (w : Choosing s floors books lengths words n c v entry at from count base now next left i) where
+  module _ {now : List ℕ} {next : Cursor} {left i : ℕ} (w : Choosing s floors books lengths codewords n c v entry at from count base now next left i) where
     pub base-low : 0 < base
     base-low = rw (w .based) (pow-pos (classIn floors n c .subclasses))
 
@@ -102,7 +102,7 @@ module _ {s floors books lengths words : List ℕ} {n c v : ℕ} {entry : List �
     module _ {j : ℕ} (digit : j ≡ left % base) where
       pub digit-few : j < 8
       digit-few =
-          let h : 2 ^ classIn floors n c .subclasses ≤ 8 = pow-mono (w .lies .valid .subclasses) in
+          let h : 2 ^ classIn floors n c .subclasses ≤ 8 = pow-mono (w .stored .valid .subclasses) in
           let b = w .based in
           let d = digit-low in
           omega arith
@@ -112,10 +112,10 @@ module _ {s floors books lengths words : List ℕ} {n c v : ℕ} {entry : List �
 
       module _ {p : ℕ} (place : p ≡ getD floors (277 * n + 36 + 11 * c + 3 + j) 0) where
         place-is : p ≡ getD (classIn floors n c .books) (left % 2 ^ classIn floors n c .subclasses) 0
-        place-is = place ∙ sym (book-is (w .lies) j j-low) ∙ ap (λ (x : ℕ). getD (classIn floors n c .books) x 0) (digit ∙ ap (λ (x : ℕ). left % x) (w .based))
+        place-is = place ∙ sym (book-is (w .stored) j j-low) ∙ ap (λ (x : ℕ). getD (classIn floors n c .books) x 0) (digit ∙ ap (λ (x : ℕ). left % x) (w .based))
 
-        pub place-lies : PlaceLies books lengths words p
-        place-lies = rw (place, ← book-is (w .lies) j j-low) (book-lies (w .lies) j j-low)
+        pub place-stored : PlaceStored books lengths codewords p
+        place-stored = rw (place, ← book-is (w .stored) j j-low) (book-stored (w .stored) j j-low)
 
         module _ (h : i < count) {st : Step} {now′ : List ℕ} (one : Wrote (into1 (putRow cell) (value (lengthsIn books lengths) p s (position next)) (table now (at + i))) st (table now′ (at + i + 1))) where
           more : count - i ≡ suc (count - (i + 1))
@@ -129,7 +129,7 @@ module _ {s floors books lengths words : List ℕ} {n c v : ℕ} {entry : List �
               wrote-refused u (sym (w .rest) ∙ rw more (turn-bad (lengthsIn books lengths) (classIn floors n c) s left (count - (i + 1)) (position next) (table now (at + i)) (refusalOf z) (rw (← place-is) b)))
 
           pub choose-next : {after : Cursor} → st ≡ Next after → length now′ ≡ length now
-              → Choosing s floors books lengths words n c v entry at from count base now′ after (left / base) (i + 1)
+              → Choosing s floors books lengths codewords n c v entry at from count base now′ after (left / base) (i + 1)
           unfolding into1
           choose-next {after} q e =
               let m = mapped-ok (λ a. putRow cell a (table now (at + i))) (value (lengthsIn books lengths) p s (position next)) (wrote-ok one q) in
@@ -137,7 +137,7 @@ module _ {s floors books lengths words : List ℕ} {n c v : ℕ} {entry : List �
               let f : at + (i + 1) ≡ at + i + 1 = omega arith in
               record {
                 place-few = w .place-few;
-                lies = w .lies;
+                stored = w .stored;
                 counted = w .counted;
                 based = w .based;
                 within = omega arith;

@@ -21,27 +21,27 @@ use Rattle.bits.proofs.Steps.{wrote-refused, wrote-next}
 use Rattle.codebook.specs.Codeword.{codeword}
 use Rattle.codebook.proofs.Laws.{read-used}
 use Rattle.book.specs.Layout.{entriesAt, firstEntryAt}
-use Rattle.book_codeword.specs.Lying.{entriesOf, BookLies}
+use Rattle.book_codeword.specs.Stored.{entriesOf, BookStored}
 use Rattle.numbers.specs.Cell.{cell}
 use Rattle.floor_class.specs.Decode.{classAt}
 use Rattle.floor_partition.specs.Partition.{classValue, value}
-use Rattle.floor_partition.specs.Lying.{lengthsIn, classIn, Readable, PlaceLies, ClassLies}
+use Rattle.floor_partition.specs.Stored.{lengthsIn, classIn, Readable, PlaceStored, ClassStored}
 
 -- 1 << e, as the machine computes it
 pub one-shifted : (e : ℕ) → e ≤ 3 → (1 * 2 ^ e) % 2 ^ 32 ≡ 2 ^ e
 one-shifted e h = shl-exact {a = 1} 1 e 32 (omega arith) (omega arith) ∙ one-mul (2 ^ e)
 
 -- an entry that is read of a readable book fits 16 bits
-pub entry-small : {books lengths words : List ℕ} {b : ℕ} → Readable books lengths words b → (s : List ℕ) (k v n : ℕ)
+pub entry-small : {books lengths codewords : List ℕ} {b : ℕ} → Readable books lengths codewords b → (s : List ℕ) (k v n : ℕ)
     → codeword (entriesOf books b lengths) s k ≡ ok (v, n) → v < 65536
-entry-small {books} {lengths} {words} {b} l s k v n e =
+entry-small {books} {lengths} {codewords} {b} l s k v n e =
     let u = read-used (entriesOf books b lengths) s k v n e .0 in
     let t = length-take (entriesAt books b) (drop (firstEntryAt books b) lengths) in
     let f = l .few in
     omega arith
 
 -- one value, at place `at` of the list
-module _ {books lengths words : List ℕ} {place : ℕ} (l : PlaceLies books lengths words place) (s : List ℕ) (k : Cursor) where
+module _ {books lengths codewords : List ℕ} {place : ℕ} (l : PlaceStored books lengths codewords place) (s : List ℕ) (k : Cursor) where
   pub value-none : (list : List ℕ) (at : ℕ) → place ≡ 0 → (list′ : List ℕ) → list′ ≡ set list at 0
       → Wrote (into1 (putRow cell) (value (lengthsIn books lengths) place s (position k)) (table list at)) (S.Next k) (table list′ (at + 1))
   unfolding into1 mapped putRow cell value
@@ -55,8 +55,8 @@ module _ {books lengths words : List ℕ} {place : ℕ} (l : PlaceLies books len
         low zero h = absurd (h refl)
         low (suc m) h = omega arith
 
-    pub value-lies : BookLies books lengths words (n - 1)
-    value-lies = rw long (l .readable some .lies)
+    pub value-stored : BookStored books lengths codewords (n - 1)
+    value-stored = rw long (l .readable some .stored)
 
     module _ (r : Field) (p : outcome r ≡ codeword (entriesOf books (n - 1) lengths) s (position k)) where
       pub value-cut : {z : Refusal} → r ≡ Refused z → (list : List ℕ) (at : ℕ) (u : Table)
@@ -74,7 +74,7 @@ module _ {books lengths words : List ℕ} {place : ℕ} (l : PlaceLies books len
         value-read f list at list′ g = let e = value-is p q in wrote-next (rw (ne-eqb _ _ some, ← long, e, g, f))
 
 -- the class value
-module _ {floors books lengths words : List ℕ} {n c : ℕ} (l : ClassLies floors books lengths words n c) {sub : ℕ} (e : sub ≡ getD floors (277 * n + 36 + 11 * c + 1) 0) where
+module _ {floors books lengths codewords : List ℕ} {n c : ℕ} (l : ClassStored floors books lengths codewords n c) {sub : ℕ} (e : sub ≡ getD floors (277 * n + 36 + 11 * c + 1) 0) where
   pub class-none : (s : List ℕ) (k : Cursor) → sub ≡ 0 → outcome (Value 0 k) ≡ classValue (lengthsIn books lengths) (classIn floors n c) s (position k)
   unfolding outcome classValue classIn classAt
   class-none s k z = rw (eq-eqb _ _ (sym e ∙ z))
@@ -88,8 +88,8 @@ module _ {floors books lengths words : List ℕ} {n c : ℕ} (l : ClassLies floo
     unfolding classIn classAt
     master-high = rw (e₃, e₂) (l .valid .master)
 
-    pub master-lies : BookLies books lengths words (m′ - 1)
-    master-lies = let a = master-low in let b = master-high in l .readable (m′ - 1) (omega arith) .lies
+    pub master-stored : BookStored books lengths codewords (m′ - 1)
+    master-stored = let a = master-low in let b = master-high in l .readable (m′ - 1) (omega arith) .stored
 
     pub class-read : (s : List ℕ) (k : Cursor) (r : Field) → outcome r ≡ codeword (entriesOf books (m′ - 1) lengths) s (position k)
         → outcome r ≡ classValue (lengthsIn books lengths) (classIn floors n c) s (position k)

@@ -1,2 +1,2 @@
 pub mod Partition
-pub mod Lying
+pub mod Stored

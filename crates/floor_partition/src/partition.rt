@@ -10,7 +10,7 @@ ghost use Rattle.reading.specs.Table.{table, putRow};
 ghost use Rattle.bits.specs.Cursors.{position, outcome, Wrote};
 ghost use Rattle.numbers.specs.Cell.{cell};
 ghost use Rattle.floor_partition.specs.Partition.{classValue, chosen, value, partition, whole};
-ghost use Rattle.floor_partition.specs.Lying.{lengthsIn, classIn, PlaceLies, ClassLies};
+ghost use Rattle.floor_partition.specs.Stored.{lengthsIn, classIn, PlaceStored, ClassStored};
 
 pub fn wide(x: u16) -> usize
     ensures { λ r. ⌜ r ≡ x ⌝ }
@@ -52,18 +52,18 @@ fn read_value(
     place: u16,
     books: &[u32],
     lengths: &[u8],
-    words: &[u32],
+    codewords: &[u32],
     values: &mut [u16],
     at: usize,
 ) -> Step
-    requires { ⌜ PlaceLies (now books) (now lengths) (now words) place ⌝ }
+    requires { ⌜ PlaceStored (now books) (now lengths) (now codewords) place ⌝ }
     ensures { λ r. ⌜ Wrote (into1 (putRow cell) (value (lengthsIn (now (books .entry)) (now (lengths .entry))) place (now (packet .entry)) (position from)) (table (now (values .entry)) at)) r (table (now (values .exit)) (at + 1)) ⌝ }
 {
     if place == 0 {
         buffers::put_u16(values, at, 0);
         return Step::Next(from);
     }
-    match book_codeword::read_entry(packet, from, long(place) - 1, books, lengths, words) {
+    match book_codeword::read_entry(packet, from, long(place) - 1, books, lengths, codewords) {
         Field::Refused(z) => Step::Refused(z),
         Field::Value(entry, next) => {
             buffers::put_u16(values, at, narrow(entry));
@@ -81,16 +81,16 @@ fn read_class_value(
     class: usize,
     books: &[u32],
     lengths: &[u8],
-    words: &[u32],
+    codewords: &[u32],
 ) -> Field
-    requires { ⌜ ClassLies (now floors) (now books) (now lengths) (now words) floor class ⌝ }
+    requires { ⌜ ClassStored (now floors) (now books) (now lengths) (now codewords) floor class ⌝ }
     ensures { λ r. ⌜ outcome r ≡ classValue (lengthsIn (now (books .entry)) (now (lengths .entry))) (classIn (now (floors .entry)) floor class) (now (packet .entry)) (position from) ⌝ }
 {
     if floor_row::class_subclasses(floors, floor, class) == 0 {
         return Field::Value(0, from);
     }
     let master = long(floor_row::class_master(floors, floor, class));
-    book_codeword::read_entry(packet, from, master - 1, books, lengths, words)
+    book_codeword::read_entry(packet, from, master - 1, books, lengths, codewords)
 }
 
 // A value for each dimension, into the list from place `at` on. The digits of the class value choose the books.
@@ -103,11 +103,11 @@ fn read_chosen(
     class_value: u32,
     books: &[u32],
     lengths: &[u8],
-    words: &[u32],
+    codewords: &[u32],
     values: &mut [u16],
     at: usize,
 ) -> Step
-    requires { ⌜ (at ≤ 65535) × ClassLies (now floors) (now books) (now lengths) (now words) floor class ⌝ }
+    requires { ⌜ (at ≤ 65535) × ClassStored (now floors) (now books) (now lengths) (now codewords) floor class ⌝ }
     ensures { λ r. ⌜ Wrote (into (putRow cell) (each (value (lengthsIn (now (books .entry)) (now (lengths .entry)))) (chosen (classIn (now (floors .entry)) floor class) «class_value» (classIn (now (floors .entry)) floor class .dimensions)) (now (packet .entry)) (position from)) (table (now (values .entry)) at)) r (table (now (values .exit)) (at + classIn (now (floors .entry)) floor class .dimensions)) ⌝ }
 {
     let count = wide(floor_row::class_dimensions(floors, floor, class));
@@ -117,7 +117,7 @@ fn read_chosen(
     let mut i: usize = 0;
     while i < count {
         let place = floor_row::subclass_book(floors, floor, class, index(left % base));
-        match read_value(packet, next, place, books, lengths, words, values, at + i) {
+        match read_value(packet, next, place, books, lengths, codewords, values, at + i) {
             Step::Refused(z) => {
                 return Step::Refused(z);
             }
@@ -140,14 +140,14 @@ pub fn read_partition(
     class: usize,
     books: &[u32],
     lengths: &[u8],
-    words: &[u32],
+    codewords: &[u32],
     values: &mut [u16],
     at: usize,
 ) -> Step
-    requires { ⌜ (at ≤ 65535) × ClassLies (now floors) (now books) (now lengths) (now words) floor class ⌝ }
+    requires { ⌜ (at ≤ 65535) × ClassStored (now floors) (now books) (now lengths) (now codewords) floor class ⌝ }
     ensures { λ r. ⌜ Wrote (into1 (putRow whole) (partition (lengthsIn (now (books .entry)) (now (lengths .entry))) (classIn (now (floors .entry)) floor class) (now (packet .entry)) (position from)) (table (now (values .entry)) at)) r (table (now (values .exit)) (at + classIn (now (floors .entry)) floor class .dimensions)) ⌝ }
 {
-    match read_class_value(packet, from, floors, floor, class, books, lengths, words) {
+    match read_class_value(packet, from, floors, floor, class, books, lengths, codewords) {
         Field::Refused(z) => Step::Refused(z),
         Field::Value(class_value, next) => read_chosen(
             packet,
@@ -158,7 +158,7 @@ pub fn read_partition(
             class_value,
             books,
             lengths,
-            words,
+            codewords,
             values,
             at,
         ),

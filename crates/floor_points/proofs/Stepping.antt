@@ -76,7 +76,7 @@ module _ (range : ℕ) (xs vals : List ℕ) where
   steps-turn i n s h = let e : n - i ≡ suc (n - (i + 1)) = omega arith in rw (e, add-one i)
 
 -- where a turn begins: the places before i are done, and what is left is the whole
-pub record Going (xs vals : List ℕ) (range : ℕ) (hs₀ fs₀ hs fs : List ℕ) (i : ℕ) : Type 0 where
+pub record Progress (xs vals : List ℕ) (range : ℕ) (hs₀ fs₀ hs fs : List ℕ) (i : ℕ) : Type 0 where
   pub ready : Ready xs vals range hs fs
   pub bounded : Bounded hs
   pub from : 2 ≤ i
@@ -84,13 +84,13 @@ pub record Going (xs vals : List ℕ) (range : ℕ) (hs₀ fs₀ hs fs : List �
   pub rest : steps range xs vals i (length xs - i) (pointsOf hs fs) ≡ steps range xs vals 2 (length xs - 2) (pointsOf hs₀ fs₀)
 
 module _ (xs vals : List ℕ) (range : ℕ) (hs₀ fs₀ : List ℕ) where
-  pub going-begin : Ready xs vals range hs₀ fs₀ → Bounded hs₀ → Going xs vals range hs₀ fs₀ hs₀ fs₀ 2
-  going-begin r b = record { ready = r; bounded = b; from = omega arith; within = omega (arith, r .places); rest = refl }
+  pub progress-begin : Ready xs vals range hs₀ fs₀ → Bounded hs₀ → Progress xs vals range hs₀ fs₀ hs₀ fs₀ 2
+  progress-begin r b = record { ready = r; bounded = b; from = omega arith; within = omega (arith, r .places); rest = refl }
 
   module _ (hs fs : List ℕ) where
-    pub going-turn : (hs′ fs′ : List ℕ) (i : ℕ) → Going xs vals range hs₀ fs₀ hs fs i → i < length xs → pointsOf hs′ fs′ ≡ step range xs vals i (pointsOf hs fs)
-        → Bounded hs′ → length hs′ ≡ length hs → length fs′ ≡ length fs → Going xs vals range hs₀ fs₀ hs′ fs′ (i + 1)
-    going-turn hs′ fs′ i g h e b lh lf =
+    pub progress-turn : (hs′ fs′ : List ℕ) (i : ℕ) → Progress xs vals range hs₀ fs₀ hs fs i → i < length xs → pointsOf hs′ fs′ ≡ step range xs vals i (pointsOf hs fs)
+        → Bounded hs′ → length hs′ ≡ length hs → length fs′ ≡ length fs → Progress xs vals range hs₀ fs₀ hs′ fs′ (i + 1)
+    progress-turn hs′ fs′ i g h e b lh lf =
         record {
           ready = ready-kept (g .ready) lh lf;
           bounded = b;
@@ -99,8 +99,8 @@ module _ (xs vals : List ℕ) (range : ℕ) (hs₀ fs₀ : List ℕ) where
           rest = rw e (steps-turn range xs vals i (length xs) (pointsOf hs fs) h ∙ g .rest);
         }
 
-    pub going-end : (i : ℕ) → Going xs vals range hs₀ fs₀ hs fs i → length xs ≤ i → pointsOf hs fs ≡ steps range xs vals 2 (length xs - 2) (pointsOf hs₀ fs₀)
-    going-end i g h = sym (steps-end range xs vals i (length xs) (pointsOf hs fs) h) ∙ g .rest
+    pub progress-end : (i : ℕ) → Progress xs vals range hs₀ fs₀ hs fs i → length xs ≤ i → pointsOf hs fs ≡ steps range xs vals 2 (length xs - 2) (pointsOf hs₀ fs₀)
+    progress-end i g h = sym (steps-end range xs vals i (length xs) (pointsOf hs fs) h) ∙ g .rest
 
 -- ---- all of it
 pub begun-points : (vals fs : List ℕ) → fs ≡ set (set (replicate (length vals) 0) 0 1) 1 1 → pointsOf (map heightOf vals) fs ≡ begun vals

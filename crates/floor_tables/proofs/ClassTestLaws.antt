@@ -10,7 +10,7 @@ use mathlib.Core.Path.{_≡_, refl, _∙_}
 use lib.ListN.{getD}
 use lib.Pow.{pow-mono}
 use Rattle.reading.proofs.Least.{below-suc}
-use Rattle.reading.proofs.Stands.{iff-false, iff-true, refuted, shown}
+use Rattle.reading.proofs.Encodes.{iff-false, iff-true, refuted, shown}
 use Rattle.floor_class.specs.Valid.{MasterFits}
 use Rattle.floor_tables.specs.ClassRules.{Below, BookRules, ClassRules, ClassesRules}
 

@@ -13,26 +13,26 @@ use Rattle.floor_class.specs.Content.{Class}
 use Rattle.floor_class.specs.Layout.{classRow}
 use Rattle.floor_class.specs.Valid.{ValidClass, ValidClasses}
 use Rattle.floor_class.specs.Decode.{classAt, classesAt, noClass}
-use Rattle.reading.proofs.Lies.{Lies, lies-at, lies-both}
+use Rattle.reading.proofs.Stored.{Stored, stored-at, stored-both}
 use Rattle.floor_class.proofs.Decoded.{class-long}
-use Rattle.floor_class.proofs.Decoded.{ClassLies, class-lies}
+use Rattle.floor_class.proofs.Decoded.{ClassStored, class-stored}
 use Rattle.floor_row.proofs.Laws.{class-row}
 use Rattle.floor_tables.specs.ClassRules.{ClassRules, ClassesRules}
-use Rattle.floor_tables.proofs.Runs.{slice-long, lies-cons, slice-lies, lies-padded, padded-zeros, padded-below, slice-below, same-limit, other-limit}
+use Rattle.floor_tables.proofs.Runs.{slice-long, stored-cons, slice-stored, stored-padded, padded-zeros, padded-below, slice-below, same-limit, other-limit}
 
 -- ---- a class
 
 module _ (books : ℕ) (t : List ℕ) where
-  pub class-stands : (at : ℕ) → at + 11 ≤ length t → ClassRules books t at → ValidClass books (classAt t at) × Lies t at (classRow (classAt t at))
+  pub class-encodes : (at : ℕ) → at + 11 ≤ length t → ClassRules books t at → ValidClass books (classAt t at) × Stored t at (classRow (classAt t at))
   unfolding classAt classRow
-  class-stands at room r =
+  class-encodes at room r =
       let n = 2 ^ getD t (at + 1) 0 in
       let few : n ≤ 8 = pow-mono (r .few) in
       let s = slice (at + 3) (at + 3 + n) t in
       let long : length s ≡ n = slice-long t (at + 3) n (omega arith) in
       let m = r .master in
-      let lie : Lies t (at + 3) (pad 8 s) =
-      lies-padded (at + 3) 8 s (slice-lies (at + 3) n (omega arith)) (omega arith) (omega arith) (rw long (r .list .zeros)) in (
+      let stored : Stored t (at + 3) (pad 8 s) =
+      stored-padded (at + 3) 8 s (slice-stored (at + 3) n (omega arith)) (omega arith) (omega arith) (rw long (r .list .zeros)) in (
         record {
           dimensions-low = r .low;
           dimensions-high = r .high;
@@ -44,10 +44,10 @@ module _ (books : ℕ) (t : List ℕ) where
           set-up = same-limit books s (slice-below (at + 3) n (books + 1) (omega arith) (r .list .set-up));
           carried = same-limit 255 s (slice-below (at + 3) n 256 (omega arith) (r .list .carried));
         },
-        lies-cons at refl (lies-cons (at + 1) refl (lies-at (omega arith) (lies-cons (at + 2) refl (lies-at (omega arith) lie)))),
+        stored-cons at refl (stored-cons (at + 1) refl (stored-at (omega arith) (stored-cons (at + 2) refl (stored-at (omega arith) stored)))),
       )
 
-  pub class-tested : (at : ℕ) (c : Class) → ValidClass books c → ClassLies t at c → ClassRules books t at
+  pub class-tested : (at : ℕ) (c : Class) → ValidClass books c → ClassStored t at c → ClassRules books t at
   class-tested at c v l =
       let few : 2 ^ c .subclasses ≤ 8 = pow-mono (v .subclasses) in
       record {
@@ -71,21 +71,21 @@ module _ (books : ℕ) (t : List ℕ) where
   classes-rest : (at n : ℕ) → ClassesRules books t at (suc n) → ClassesRules books t (at + 11) n
   classes-rest at n r = record { each = λ c h. let e : at + 11 * suc c ≡ at + 11 + 11 * c = omega arith in rw e at (r .each (suc c) (omega arith)) }
 
-  pub record ClassesHeld (at n : ℕ) : Type 0 where
+  pub record ClassesEncoded (at n : ℕ) : Type 0 where
     pub long : length (classesAt t at n) ≡ n
     pub valid : ValidClasses books (classesAt t at n)
-    pub lie : Lies t at (rows classRow (classesAt t at n))
+    pub stored : Stored t at (rows classRow (classesAt t at n))
 
-  pub classes-stand : (at n : ℕ) → at + 11 * n ≤ length t → ClassesRules books t at n → ClassesHeld at n
+  pub classes-recognised : (at n : ℕ) → at + 11 * n ≤ length t → ClassesRules books t at n → ClassesEncoded at n
   unfolding classesAt ValidClasses rows
-  classes-stand at zero room r = record { long = refl; valid = tt; lie = record { room = omega arith; same = λ i h. absurd (omega arith) } }
-  classes-stand at (suc n) room r =
-      let here = class-stands at (omega arith) (classes-first at n r) in
-      let later = classes-stand (at + 11) n (omega arith) (classes-rest at n r) in
+  classes-recognised at zero room r = record { long = refl; valid = tt; stored = record { room = omega arith; same = λ i h. absurd (omega arith) } }
+  classes-recognised at (suc n) room r =
+      let here = class-encodes at (omega arith) (classes-first at n r) in
+      let later = classes-recognised (at + 11) n (omega arith) (classes-rest at n r) in
       record {
         long = ap suc (later .long);
         valid = (here .0, later .valid);
-        lie = lies-both (classRow (classAt t at)) (rows classRow (classesAt t (at + 11) n)) (here .1) (rw (class-long (classAt t at)) (later .lie));
+        stored = stored-both (classRow (classAt t at)) (rows classRow (classesAt t (at + 11) n)) (here .1) (rw (class-long (classAt t at)) (later .stored));
       }
 
   valid-at : (cs : List Class) → ValidClasses books cs → (c : ℕ) → c < length cs → ValidClass books (getD cs c noClass)
@@ -94,6 +94,6 @@ module _ (books : ℕ) (t : List ℕ) where
   valid-at (x ∷ cs) v zero h = v .0
   valid-at (x ∷ cs) v (suc c) h = valid-at cs (v .1) c (omega arith)
 
-  pub classes-tested : (at : ℕ) (cs : List Class) → length cs ≤ 16 → ValidClasses books cs → Lies t at (pad 176 (rows classRow cs)) → ClassesRules books t at (length cs)
+  pub classes-tested : (at : ℕ) (cs : List Class) → length cs ≤ 16 → ValidClasses books cs → Stored t at (pad 176 (rows classRow cs)) → ClassesRules books t at (length cs)
   classes-tested at cs h v l =
-      record { each = λ c k. class-tested (at + 11 * c) (getD cs c noClass) (valid-at cs v c k) (class-lies (getD cs c noClass) (class-row at 16 cs c k h l)) }
+      record { each = λ c k. class-tested (at + 11 * c) (getD cs c noClass) (valid-at cs v c k) (class-stored (getD cs c noClass) (class-row at 16 cs c k h l)) }

@@ -14,7 +14,7 @@ use Rattle.reading.specs.Lists.{all}
 use Rattle.reading.specs.Pad.{pad}
 use Rattle.reading.proofs.Least.{and-split}
 use Rattle.reading.proofs.Pads.{pad-get, length-pad}
-use Rattle.reading.proofs.Lies.{Lies, lies-both}
+use Rattle.reading.proofs.Stored.{Stored, stored-both}
 use Rattle.floor_tables.specs.ClassRules.{Below}
 
 -- ---- tests of every number, place by place
@@ -43,23 +43,23 @@ module _ (t : List ℕ) where
   slice-long from n h = length-slice from (from + n) t h ∙ omega arith
 
 module _ {t : List ℕ} where
-  pub lies-cons : (at : ℕ) {x : ℕ} {run : List ℕ} → getD t at 0 ≡ x → Lies t (at + 1) run → Lies t at (x ∷ run)
-  lies-cons at {x} {run} e l =
+  pub stored-cons : (at : ℕ) {x : ℕ} {run : List ℕ} → getD t at 0 ≡ x → Stored t (at + 1) run → Stored t at (x ∷ run)
+  stored-cons at {x} {run} e l =
       let r = l .room in
-      lies-both (x ∷ []) run (record { room = omega arith; same = λ i h. one i h }) l
+      stored-both (x ∷ []) run (record { room = omega arith; same = λ i h. one i h }) l
     where
       one : (i : ℕ) → i < 1 → getD t (at + i) 0 ≡ getD (x ∷ []) i 0
       one zero h = ap (λ (j : ℕ). getD t j 0) (add-zero at) ∙ e
       one (suc i) h = absurd (omega arith)
 
-  pub slice-lies : (from n : ℕ) → from + n ≤ length t → Lies t from (slice from (from + n) t)
-  slice-lies from n h =
+  pub slice-stored : (from n : ℕ) → from + n ≤ length t → Stored t from (slice from (from + n) t)
+  slice-stored from n h =
       let e = slice-long t from n h in
       record { room = omega arith; same = λ i k. sym (slice-at t from (from + n) i (omega arith)) }
 
   -- with zeros behind it
-  pub lies-padded : (at m : ℕ) (xs : List ℕ) → Lies t at xs → length xs ≤ m → at + m ≤ length t → Below t (at + length xs) (at + m) 1 → Lies t at (pad m xs)
-  lies-padded at m xs l h r z =
+  pub stored-padded : (at m : ℕ) (xs : List ℕ) → Stored t at xs → length xs ≤ m → at + m ≤ length t → Below t (at + length xs) (at + m) 1 → Stored t at (pad m xs)
+  stored-padded at m xs l h r z =
       let p = length-pad m xs in
       record { room = omega arith; same = λ i k. go i (omega arith) (decLt i (length xs)) }
     where
@@ -70,7 +70,7 @@ module _ {t : List ℕ} where
           below-one v ∙ sym (pad-get m xs i k ∙ List·getD-eq-default xs 0 (omega arith))
 
   -- a padded list has zeros behind it
-  pub padded-zeros : (at m n : ℕ) (xs : List ℕ) → length xs ≡ n → Lies t at (pad m xs) → Below t (at + n) (at + m) 1
+  pub padded-zeros : (at m n : ℕ) (xs : List ℕ) → length xs ≡ n → Stored t at (pad m xs) → Below t (at + n) (at + m) 1
   padded-zeros at m n xs e l =
       let p = length-pad m xs in
       record {
@@ -81,7 +81,7 @@ module _ {t : List ℕ} where
             omega arith;
       }
 
-  pub padded-below : (at m n limit : ℕ) (xs : List ℕ) → length xs ≡ n → n ≤ m → Lies t at (pad m xs) → all (λ x. ltb x limit) xs ≡ true → Below t at (at + n) limit
+  pub padded-below : (at m n limit : ℕ) (xs : List ℕ) → length xs ≡ n → n ≤ m → Stored t at (pad m xs) → all (λ x. ltb x limit) xs ≡ true → Below t at (at + n) limit
   padded-below at m n limit xs e h l a =
       let p = length-pad m xs in
       record {
@@ -102,8 +102,8 @@ module _ {t : List ℕ} where
       lt-ltb (getD (slice from (from + n) t) i 0) limit (rw v w))
 
   -- the whole run
-  pub lies-whole : (at m : ℕ) (xs : List ℕ) (to : ℕ) → to ≡ at + m → Lies t at (pad m xs) → slice at to t ≡ pad m xs
-  lies-whole at m xs to e l =
+  pub stored-whole : (at m : ℕ) (xs : List ℕ) (to : ℕ) → to ≡ at + m → Stored t at (pad m xs) → slice at to t ≡ pad m xs
+  stored-whole at m xs to e l =
       let p = length-pad m xs in
       let r = l .room in
       rw e

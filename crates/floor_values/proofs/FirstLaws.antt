@@ -15,7 +15,7 @@ use Rattle.numbers.specs.Cell.{cell}
 use Rattle.floors.specs.Decode.{floorAt}
 use Rattle.floor_points.specs.FinalY.{rangeOf}
 use Rattle.floor_values.specs.Values.{firstBits}
-use Rattle.floor_values.specs.Lying.{floorIn, FloorLies}
+use Rattle.floor_values.specs.Stored.{floorIn, FloorStored}
 
 -- the four multipliers: 8, 7, 7 and 6 bits
 pub record Bits (m : ℕ) : Type 0 where
@@ -31,7 +31,7 @@ bits-known (suc (suc (suc zero))) h k = record { some = omega arith; few = omega
 bits-known (suc (suc (suc (suc zero)))) h k = record { some = omega arith; few = omega arith }
 bits-known (suc (suc (suc (suc (suc m))))) h k = absurd (omega arith)
 
-module _ {floors books lengths words : List ℕ} {n : ℕ} (l : FloorLies floors books lengths words n) {m : ℕ} (e : m ≡ getD floors (277 * n + 2) 0) where
+module _ {floors books lengths codewords : List ℕ} {n : ℕ} (l : FloorStored floors books lengths codewords n) {m : ℕ} (e : m ≡ getD floors (277 * n + 2) 0) where
   multiplier-is : m ≡ floorIn floors n .multiplier
   unfolding floorIn floorAt
   multiplier-is = e

@@ -10,7 +10,7 @@ use lib.Dec.{eqb, leb}
 use lib.ListN.{length, getD, length-append, List·getD-append}
 use lib.Pow.{pow-mono}
 use Rattle.reading.specs.Lists.{rows, all}
-use Rattle.reading.specs.Stand.{Each}
+use Rattle.reading.specs.Encoding.{Each}
 use Rattle.reading.specs.Outcome.{ok, then}
 use Rattle.reading.specs.Reader.{many, each, mapped}
 use Rattle.reading.proofs.Least.{and-split}
@@ -28,8 +28,8 @@ use Rattle.floor_class.specs.Valid.{ValidClasses}
 use Rattle.floors.specs.Valid.{ValidFloor}
 use Rattle.floor_partition.specs.Partition.{classValue, chosen, value, partition, whole}
 use Rattle.floor_values.specs.Values.{firstBits, partitionOf, usedValues, floorValues}
-use Rattle.floor_partition.specs.Lying.{lengthsIn}
-use Rattle.floor_values.specs.Lying.{floorIn, FloorLies}
+use Rattle.floor_partition.specs.Stored.{lengthsIn}
+use Rattle.floor_values.specs.Stored.{floorIn, FloorStored}
 use Rattle.floor_values.specs.Claims.{FloorValues}
 use Rattle.floor_partition.proofs.ClassLaws.{entry-small}
 use Rattle.floor_values.proofs.FirstLaws.{bits-known}
@@ -207,8 +207,8 @@ module _ (lengthsOf : ℕ → List ℕ) (count : ℕ) (entries : (b : ℕ) → b
             subst Known i (used-known (x .1) (m .0) n (m .1))
 
 -- AS THE CONTRACT SAYS IT
-pub values-known : {floors books lengths words : List ℕ} {n : ℕ} → FloorLies floors books lengths words n → FloorValues (lengthsIn books lengths) (floorIn floors n)
-values-known {floors} {books} {lengths} {words} {n} l =
+pub values-known : {floors books lengths codewords : List ℕ} {n : ℕ} → FloorStored floors books lengths codewords n → FloorValues (lengthsIn books lengths) (floorIn floors n)
+values-known {floors} {books} {lengths} {codewords} {n} l =
     let entries : (b : ℕ) → b < l .count → (s : List ℕ) (k v m : ℕ) → codeword (lengthsIn books lengths b) s k ≡ ok (v, m) → v < 65536 =
     λ b h s k v m e. entry-small (l .readable b h) s k v m (unfold lengthsIn in e) in
     record {

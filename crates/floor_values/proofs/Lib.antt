@@ -4,5 +4,5 @@ pub mod FloorLaws
 pub mod Cuts
 pub mod Refused
 pub mod Known
-pub mod Stands
+pub mod Encodes
 pub mod Front

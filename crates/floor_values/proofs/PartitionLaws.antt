@@ -25,8 +25,8 @@ use Rattle.floor_class.specs.Valid.{ValidClass, ValidClasses}
 use Rattle.floors.proofs.RowLaws.{class-count-most}
 use Rattle.floor_partition.specs.Partition.{partition, whole}
 use Rattle.floor_values.specs.Values.{partitionOf}
-use Rattle.floor_partition.specs.Lying.{lengthsIn, classIn, ClassLies}
-use Rattle.floor_values.specs.Lying.{floorIn, FloorLies}
+use Rattle.floor_partition.specs.Stored.{lengthsIn, classIn, ClassStored}
+use Rattle.floor_values.specs.Stored.{floorIn, FloorStored}
 
 -- the classes of a floor, as they lie in the table
 pub classes-long : (t : List ℕ) (at n : ℕ) → length (classesAt t at n) ≡ n
@@ -52,7 +52,7 @@ class-below [] i h = absurd (omega arith)
 class-below (p ∷ ps) zero h = omega arith
 class-below (p ∷ ps) (suc i) h = let l = class-below ps i (omega arith) in omega arith
 
-module _ {floors books lengths words : List ℕ} {n : ℕ} (l : FloorLies floors books lengths words n) where
+module _ {floors books lengths codewords : List ℕ} {n : ℕ} (l : FloorStored floors books lengths codewords n) where
   -- as many partitions as the row says
   pub partitions-long : getD floors (277 * n) 0 ≡ length (floorIn floors n .partitions)
   partitions-long =
@@ -88,8 +88,8 @@ module _ {floors books lengths words : List ℕ} {n : ℕ} (l : FloorLies floors
     unfolding floorIn floorAt classIn
     class-get = classes-get floors (277 * n + 36) (getD floors (277 * n + 1) 0) class class-few
 
-    pub class-lies : ClassLies floors books lengths words n class
-    class-lies =
+    pub class-stored : ClassStored floors books lengths codewords n class
+    class-stored =
         let low = class-low in
         let most = class-count-most (floorIn floors n .partitions) (l .valid .classes-named) in
         let c = l .valid .class-count in
@@ -106,8 +106,8 @@ module _ {floors books lengths words : List ℕ} {n : ℕ} (l : FloorLies floors
     partition-is lengthsOf = rw (class-of, class-get)
 
 -- i of the partitions are read, and their values lie before place `at`
-pub record Going (s floors books lengths words : List ℕ) (n : ℕ) (entry : List ℕ) (from : Cursor) (count : ℕ) (now : List ℕ) (next : Cursor) (at i : ℕ) : Type 0 where
-  pub lies : FloorLies floors books lengths words n
+pub record Progress (s floors books lengths codewords : List ℕ) (n : ℕ) (entry : List ℕ) (from : Cursor) (count : ℕ) (now : List ℕ) (next : Cursor) (at i : ℕ) : Type 0 where
+  pub stored : FloorStored floors books lengths codewords n
   pub counted : count ≡ length (floorIn floors n .partitions)
   pub within : i ≤ count
   pub place-few : at ≤ 2 + 8 * i
@@ -122,11 +122,11 @@ unfolding into
 written o entry w =
     wrote-through (λ l. puts (putRow whole) l (table entry 2)) (λ t. t .cells) (λ l. sets entry 2 (rows whole l)) (λ l. ap (λ (t : Table). t .cells) (puts-rows whole l entry 2)) o w
 
-module _ {s floors books lengths words : List ℕ} {n : ℕ} {entry : List ℕ} {from : Cursor} {count : ℕ} where
-  pub go-start : FloorLies floors books lengths words n → {c : ℕ} → c ≡ getD floors (277 * n) 0 → count ≡ c → Going s floors books lengths words n entry from count entry from 2 0
+module _ {s floors books lengths codewords : List ℕ} {n : ℕ} {entry : List ℕ} {from : Cursor} {count : ℕ} where
+  pub go-start : FloorStored floors books lengths codewords n → {c : ℕ} → c ≡ getD floors (277 * n) 0 → count ≡ c → Progress s floors books lengths codewords n entry from count entry from 2 0
   go-start l e f =
       record {
-        lies = l;
+        stored = l;
         counted = f ∙ e ∙ partitions-long l;
         within = omega arith;
         place-few = omega arith;
@@ -134,9 +134,9 @@ module _ {s floors books lengths words : List ℕ} {n : ℕ} {entry : List ℕ} 
         rest = each-loop-start 0 (putRow whole) (partitionOf (lengthsIn books lengths) (floorIn floors n)) s (floorIn floors n .partitions) _ from (table entry 2) refl;
       }
 
-  module _ {now : List ℕ} {next : Cursor} {at i : ℕ} (w : Going s floors books lengths words n entry from count now next at i) where
+  module _ {now : List ℕ} {next : Cursor} {at i : ℕ} (w : Progress s floors books lengths codewords n entry from count now next at i) where
     pub count-few : count ≤ 31
-    count-few = rw (w .counted) (w .lies .valid .partitions)
+    count-few = rw (w .counted) (w .stored .valid .partitions)
 
     pub place-low : at ≤ 65535
     place-low = let a = w .place-few in let b = w .within in let d = count-few in omega arith
@@ -145,13 +145,13 @@ module _ {s floors books lengths words : List ℕ} {n : ℕ} {entry : List ℕ} 
       low : i < length (floorIn floors n .partitions)
       low = let e = w .counted in omega arith
 
-      pub go-class : ClassLies floors books lengths words n class
-      go-class = class-lies (w .lies) low e₁ e₂
+      pub go-class : ClassStored floors books lengths codewords n class
+      go-class = class-stored (w .stored) low e₁ e₂
 
       module _ {st : Step} {now′ : List ℕ}
           (one : Wrote (into1 (putRow whole) (partition (lengthsIn books lengths) (classIn floors n class) s (position next)) (table now at)) st (table now′ (at + classIn floors n class .dimensions))) where
         step : Wrote (into1 (putRow whole) (partitionOf (lengthsIn books lengths) (floorIn floors n) (getD (floorIn floors n .partitions) i 0) s (position next)) (table now at)) st (table now′ (at + classIn floors n class .dimensions))
-        step = rw (partition-is (w .lies) low e₁ e₂ (lengthsIn books lengths)) one
+        step = rw (partition-is (w .stored) low e₁ e₂ (lengthsIn books lengths)) one
 
         pub go-refused : {z : Refusal} → st ≡ S.Refused z → (u : List ℕ)
             → Wrote (mapped (λ l. sets entry 2 (rows whole l)) (each (partitionOf (lengthsIn books lengths) (floorIn floors n)) (floorIn floors n .partitions) s (position from))) (S.Refused z) u
@@ -160,13 +160,13 @@ module _ {s floors books lengths words : List ℕ} {n : ℕ} {entry : List ℕ} 
             (each-loop-refused 0 (putRow whole) (partitionOf (lengthsIn books lengths) (floorIn floors n)) s (floorIn floors n .partitions) _ i next (table now at) (w .rest) low step q (table u 0))
 
         pub go-next : {after : Cursor} → st ≡ S.Next after → length now′ ≡ length now → {d at′ : ℕ} → d ≡ getD floors (277 * n + 36 + 11 * class) 0 → {d′ : ℕ} → d′ ≡ d → at′ ≡ at + d′
-            → Going s floors books lengths words n entry from count now′ after at′ (i + 1)
+            → Progress s floors books lengths codewords n entry from count now′ after at′ (i + 1)
         go-next q e {d} {at′} f {d′} g a =
             let dims : d′ ≡ classIn floors n class .dimensions = unfold classIn classAt in (g ∙ f) in
             let most = go-class .valid .dimensions-high in
             let place = w .place-few in
             record {
-              lies = w .lies;
+              stored = w .stored;
               counted = w .counted;
               within = omega arith;
               place-few = omega arith;

@@ -1,4 +1,4 @@
 pub mod Values
-pub mod Lying
+pub mod Stored
 pub mod Claims
 pub mod Vectors

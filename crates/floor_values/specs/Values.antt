@@ -40,6 +40,6 @@ floorValues lengthsOf f s k =
     cond (eqb (nonzero .0) 0) (ok (none, nonzero .1)) (mapped some (usedValues lengthsOf f s (nonzero .1))))
 
 -- as the program answers them: whether the floor is used, and the lent list with the values at its front
-unfoldable pub held : List ℕ → Option (List ℕ) → Bool × List ℕ
-held entry none = (false, entry)
-held entry (some ys) = (true, sets entry 0 ys)
+unfoldable pub answeredValues : List ℕ → Option (List ℕ) → Bool × List ℕ
+answeredValues entry none = (false, entry)
+answeredValues entry (some ys) = (true, sets entry 0 ys)

@@ -13,9 +13,9 @@ ghost use Rattle.bits.specs.Field.{field};
 ghost use Rattle.bits.specs.Cursors.{position, Wrote};
 ghost use Rattle.numbers.specs.Cell.{cell};
 ghost use Rattle.floor_partition.specs.Partition.{whole};
-ghost use Rattle.floor_partition.specs.Lying.{lengthsIn};
-ghost use Rattle.floor_values.specs.Values.{firstBits, partitionOf, usedValues, floorValues, held};
-ghost use Rattle.floor_values.specs.Lying.{floorIn, FloorLies};
+ghost use Rattle.floor_partition.specs.Stored.{lengthsIn};
+ghost use Rattle.floor_values.specs.Values.{firstBits, partitionOf, usedValues, floorValues, answeredValues};
+ghost use Rattle.floor_values.specs.Stored.{floorIn, FloorStored};
 ghost use Rattle.floor_values.specs.Claims.{FloorValues};
 
 fn byte(x: u16) -> u8
@@ -33,10 +33,10 @@ fn read_first_two(
     floor: usize,
     books: &[u32],
     lengths: &[u8],
-    words: &[u32],
+    codewords: &[u32],
     values: &mut [u16],
 ) -> Step
-    requires { ⌜ FloorLies (now floors) (now books) (now lengths) (now words) floor ⌝ }
+    requires { ⌜ FloorStored (now floors) (now books) (now lengths) (now codewords) floor ⌝ }
     ensures { λ r. ⌜ Wrote (into (putRow cell) (many (field (firstBits (floorIn (now (floors .entry)) floor .multiplier))) 2 (now (packet .entry)) (position from)) (table (now (values .entry)) 0)) r (table (now (values .exit)) 2) ⌝ }
 {
     let range = floor_points::range_of(byte(floor_row::multiplier(floors, floor)));
@@ -52,10 +52,10 @@ fn read_partitions(
     floor: usize,
     books: &[u32],
     lengths: &[u8],
-    words: &[u32],
+    codewords: &[u32],
     values: &mut [u16],
 ) -> Step
-    requires { ⌜ FloorLies (now floors) (now books) (now lengths) (now words) floor ⌝ }
+    requires { ⌜ FloorStored (now floors) (now books) (now lengths) (now codewords) floor ⌝ }
     ensures { λ r. ⌜ Wrote (mapped (λ l. sets (now (values .entry)) 2 (rows whole l)) (each (partitionOf (lengthsIn (now (books .entry)) (now (lengths .entry))) (floorIn (now (floors .entry)) floor)) (floorIn (now (floors .entry)) floor .partitions) (now (packet .entry)) (position from))) r (now (values .exit)) ⌝ }
 {
     let count = partition::wide(floor_row::partition_count(floors, floor));
@@ -72,7 +72,7 @@ fn read_partitions(
             class,
             books,
             lengths,
-            words,
+            codewords,
             values,
             at,
         ) {
@@ -97,13 +97,13 @@ fn read_used(
     floor: usize,
     books: &[u32],
     lengths: &[u8],
-    words: &[u32],
+    codewords: &[u32],
     values: &mut [u16],
 ) -> Step
-    requires { ⌜ FloorLies (now floors) (now books) (now lengths) (now words) floor ⌝ }
+    requires { ⌜ FloorStored (now floors) (now books) (now lengths) (now codewords) floor ⌝ }
     ensures { λ r. ⌜ Wrote (mapped (sets (now (values .entry)) 0) (usedValues (lengthsIn (now (books .entry)) (now (lengths .entry))) (floorIn (now (floors .entry)) floor) (now (packet .entry)) (position from))) r (now (values .exit)) ⌝ }
 {
-    match read_first_two(packet, from, floors, floor, books, lengths, words, values) {
+    match read_first_two(packet, from, floors, floor, books, lengths, codewords, values) {
         Step::Refused(z) => Step::Refused(z),
         Step::Next(next) => read_partitions(
             packet,
@@ -112,7 +112,7 @@ fn read_used(
             floor,
             books,
             lengths,
-            words,
+            codewords,
             values,
         ),
     }
@@ -132,11 +132,11 @@ pub fn read_values(
     floor: usize,
     books: &[u32],
     lengths: &[u8],
-    words: &[u32],
+    codewords: &[u32],
     values: &mut [u16],
 ) -> ValuesRead
-    requires { ⌜ FloorLies (now floors) (now books) (now lengths) (now words) floor ⌝ }
-    ensures { λ r. ⌜ Wrote (mapped (held (now (values .entry))) (floorValues (lengthsIn (now (books .entry)) (now (lengths .entry))) (floorIn (now (floors .entry)) floor) (now (packet .entry)) (position from))) (r .step) (r .used, now (values .exit)) ⌝ }
+    requires { ⌜ FloorStored (now floors) (now books) (now lengths) (now codewords) floor ⌝ }
+    ensures { λ r. ⌜ Wrote (mapped (answeredValues (now (values .entry))) (floorValues (lengthsIn (now (books .entry)) (now (lengths .entry))) (floorIn (now (floors .entry)) floor) (now (packet .entry)) (position from))) (r .step) (r .used, now (values .exit)) ⌝ }
     ensures { λ _. ⌜ FloorValues (lengthsIn (now (books .entry)) (now (lengths .entry))) (floorIn (now (floors .entry)) floor) ⌝ }
 {
     match from.bit(packet) {
@@ -152,7 +152,7 @@ pub fn read_values(
                 };
             }
             ValuesRead {
-                step: read_used(packet, next, floors, floor, books, lengths, words, values),
+                step: read_used(packet, next, floors, floor, books, lengths, codewords, values),
                 used: true,
             }
         }

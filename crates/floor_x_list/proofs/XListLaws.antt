@@ -31,7 +31,7 @@ use Rattle.numbers.specs.Cell.{cell}
 use Rattle.numbers.proofs.Collected.{Collected, gathered, many-length, rows-cell}
 use Rattle.numbers.proofs.ListLaws.{take-pad}
 use Rattle.floor_x_list.specs.Reading.{xValues, ends, endsFrom}
-use Rattle.floor_x_list.specs.Pieces.{Held, held, hold}
+use Rattle.floor_x_list.specs.Pieces.{EndsRead, endsRead, endsInBuffer}
 
 abbrev at : ℕ → Cursor → Refusal
 at n c = record { number = n; place = c }
@@ -67,19 +67,19 @@ module _ (place n m b : ℕ) (s : List ℕ) (k : ℕ) (xs : List ℕ) {l : List 
   list-plain e h g = rw g (take-pad 65 (0 ∷ 2 ^ b ∷ xs) {n = 2 + n} (omega arith) (omega arith))
 
   list-twice : (j : ℕ) → xValues place b n s k ≡ ok (xs, j) → length xs ≡ n → n ≤ 63 → l ≡ pad 65 (0 ∷ 2 ^ b ∷ xs) → distinct (slice 0 (2 + n) l) ≡ false
-      → (c : Cursor) → position c ≡ place → (u : Held) → Wrote (mapped hold (endsFrom place n m b s k)) (S.Refused (at 12 c)) u
+      → (c : Cursor) → position c ≡ place → (u : EndsRead) → Wrote (mapped endsInBuffer (endsFrom place n m b s k)) (S.Refused (at 12 c)) u
   unfolding endsFrom mapped
   list-twice j e f h g d c p u = wrote-refused u (rw (e, sym (ap distinct (list-plain f h g)) ∙ d, p))
 
   list-once : (c : Cursor) → xValues place b n s k ≡ ok (xs, position c) → length xs ≡ n → n ≤ 63 → l ≡ pad 65 (0 ∷ 2 ^ b ∷ xs) → distinct (slice 0 (2 + n) l) ≡ true
-      → Wrote (mapped hold (endsFrom place n m b s k)) (S.Next c) (held m b l)
-  unfolding endsFrom mapped hold
+      → Wrote (mapped endsInBuffer (endsFrom place n m b s k)) (S.Next c) (endsRead m b l)
+  unfolding endsFrom mapped endsInBuffer
   list-once c e f h g d = wrote-next (rw (e, sym (ap distinct (list-plain f h g)) ∙ d, g))
 
 -- the X list
 module _ (place : Cursor) (n m b : ℕ) (s : List ℕ) (k : Cursor) (entry : List ℕ) (clear : entry ≡ replicate 65 0) {x : ℕ} (power : x ≡ 2 ^ b) (l₁ : List ℕ) (put : l₁ ≡ set entry 1 x)
     {b′ : ℕ} (long : b′ ≡ b) {st : Step} {l : List ℕ} {q : ℕ} (w : Wrote (into (putRow cell) (xValues (position place) b′ n s (position k)) (table l₁ 2)) st (table l q)) where
-  pub list-cut : {z : Refusal} → st ≡ S.Refused z → (u : Held) → Wrote (mapped hold (endsFrom (position place) n m b s (position k))) (S.Refused z) u
+  pub list-cut : {z : Refusal} → st ≡ S.Refused z → (u : EndsRead) → Wrote (mapped endsInBuffer (endsFrom (position place) n m b s (position k))) (S.Refused z) u
   unfolding into mapped endsFrom
   list-cut t u = wrote-refused u (rw (← long, mapped-bad _ (xValues (position place) b′ n s (position k)) (wrote-bad w t)))
 
@@ -102,14 +102,14 @@ module _ (place : Cursor) (n m b : ℕ) (s : List ℕ) (k : Cursor) (entry : Lis
       omega arith
 
   module _ {c : Cursor} (t : st ≡ S.Next c) {d : Bool} (tested : d ≡ distinct (slice 0 (2 + n) l)) where
-    pub list-equal : not d ≡ true → (u : Held) → Wrote (mapped hold (endsFrom (position place) n m b s (position k))) (S.Refused (at 12 place)) u
+    pub list-equal : not d ≡ true → (u : EndsRead) → Wrote (mapped endsInBuffer (endsFrom (position place) n m b s (position k))) (S.Refused (at 12 place)) u
     list-equal f u =
         let g = whole t in
         list-twice (position place) n m b s (position k) (g .items) (position c)
         (ap (λ (j : ℕ). xValues (position place) j n s (position k)) (sym long) ∙ g .read) (g .long) (list-few t)
         (g .holds ∙ ap (λ (y : List ℕ). pad 65 (0 ∷ 2 ^ b ∷ y)) (rows-cell (g .items))) (sym tested ∙ not-true d f) place refl u
 
-    pub list-read : not d ≡ false → Wrote (mapped hold (endsFrom (position place) n m b s (position k))) (S.Next c) (held m b l)
+    pub list-read : not d ≡ false → Wrote (mapped endsInBuffer (endsFrom (position place) n m b s (position k))) (S.Next c) (endsRead m b l)
     list-read f =
         let g = whole t in
         list-once (position place) n m b s (position k) (g .items) c
@@ -118,12 +118,12 @@ module _ (place : Cursor) (n m b : ℕ) (s : List ℕ) (k : Cursor) (entry : Lis
 
 -- multiplier and range bits
 module _ (place : Cursor) (n : ℕ) (s : List ℕ) (k : Cursor) {r₁ : Field} (p₁ : outcome r₁ ≡ field 2 s (position k)) where
-  pub ends-cut₁ : {z : Refusal} → r₁ ≡ Refused z → (u : Held) → Wrote (mapped hold (ends (position place) n s (position k))) (S.Refused z) u
+  pub ends-cut₁ : {z : Refusal} → r₁ ≡ Refused z → (u : EndsRead) → Wrote (mapped endsInBuffer (ends (position place) n s (position k))) (S.Refused z) u
   unfolding ends mapped
   ends-cut₁ q u = wrote-refused u (rw (refused-is p₁ q))
 
   module _ {v : ℕ} {k₁ : Cursor} (q₁ : r₁ ≡ Value v k₁) {r₂ : Field} (p₂ : outcome r₂ ≡ field 4 s (position k₁)) where
-    pub ends-cut₂ : {z : Refusal} → r₂ ≡ Refused z → (u : Held) → Wrote (mapped hold (ends (position place) n s (position k))) (S.Refused z) u
+    pub ends-cut₂ : {z : Refusal} → r₂ ≡ Refused z → (u : EndsRead) → Wrote (mapped endsInBuffer (ends (position place) n s (position k))) (S.Refused z) u
     unfolding ends mapped
     ends-cut₂ q u = wrote-refused u (rw (value-is p₁ q₁, refused-is p₂ q))
 
@@ -131,7 +131,7 @@ module _ (place : Cursor) (n : ℕ) (s : List ℕ) (k : Cursor) {r₁ : Field} (
       pub rangebits-most : b ≤ 15
       rangebits-most = let h = value-below 4 s (position k₁) p₂ q₂ in omega arith
 
-      pub ends-read : {st : Step} {u : Held} → Wrote (mapped hold (endsFrom (position place) n (v + 1) b s (position k₂))) st u → Wrote (mapped hold (ends (position place) n s (position k))) st u
+      pub ends-read : {st : Step} {u : EndsRead} → Wrote (mapped endsInBuffer (endsFrom (position place) n (v + 1) b s (position k₂))) st u → Wrote (mapped endsInBuffer (ends (position place) n s (position k))) st u
       unfolding ends endsFrom
       ends-read w = rw (value-is p₁ q₁, value-is p₂ q₂) w
 

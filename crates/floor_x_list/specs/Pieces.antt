@@ -6,13 +6,13 @@ use Rattle.floor_x_list.specs.Content.{xListRoom, xList}
 use Rattle.floor_x_list.specs.Reading.{Ends}
 
 -- the ends of a floor as the program holds them: the X list in a buffer
-pub record Held : Type 0 where
+pub record EndsRead : Type 0 where
   pub multiplier : ℕ
   pub rangebits : ℕ
   pub list : List ℕ
 
-abbrev pub held : ℕ → ℕ → List ℕ → Held
-held multiplier rangebits list = record { multiplier = multiplier; rangebits = rangebits; list = list }
+abbrev pub endsRead : ℕ → ℕ → List ℕ → EndsRead
+endsRead multiplier rangebits list = record { multiplier = multiplier; rangebits = rangebits; list = list }
 
-unfoldable pub hold : Ends → Held
-hold e = held (e .multiplier) (e .rangebits) (pad xListRoom (xList (e .rangebits) (e .xs)))
+unfoldable pub endsInBuffer : Ends → EndsRead
+endsInBuffer e = endsRead (e .multiplier) (e .rangebits) (pad xListRoom (xList (e .rangebits) (e .xs)))

@@ -13,7 +13,7 @@ ghost use Rattle.reading.specs.Table.{table, putRow};
 ghost use Rattle.bits.specs.Cursors.{position, Wrote};
 ghost use Rattle.numbers.specs.Cell.{cell};
 ghost use Rattle.floor_x_list.specs.Reading.{xValues, ends, endsFrom};
-ghost use Rattle.floor_x_list.specs.Pieces.{held, hold};
+ghost use Rattle.floor_x_list.specs.Pieces.{endsRead, endsInBuffer};
 ghost use Rattle.floor_x_list.specs.Content.{xListRoom};
 
 // How many places an X list has (specs/Content.antt).
@@ -58,7 +58,7 @@ pub fn read_x_list(
     list: &mut [u16],
 ) -> Ends
     requires { ⌜ (rangebits ≤ 15) × (now list ≡ replicate xListRoom 0) ⌝ }
-    ensures { λ r. ⌜ Wrote (mapped hold (endsFrom (position place) count multiplier rangebits (now (packet .entry)) (position from))) (r .step) (held (r .multiplier) (r .rangebits) (now (list .exit))) ⌝ }
+    ensures { λ r. ⌜ Wrote (mapped endsInBuffer (endsFrom (position place) count multiplier rangebits (now (packet .entry)) (position from))) (r .step) (endsRead (r .multiplier) (r .rangebits) (now (list .exit))) ⌝ }
 {
     buffers::put_u16(list, 1, numbers::power(rangebits));
     match read_x_values(packet, from, place, numbers::long(rangebits), count, list) {
@@ -87,7 +87,7 @@ pub fn read_x_list(
 // Multiplier, range bits, X list.
 pub fn read_ends(packet: &[u8], from: Cursor, place: Cursor, count: usize, list: &mut [u16]) -> Ends
     requires { ⌜ now list ≡ replicate xListRoom 0 ⌝ }
-    ensures { λ r. ⌜ Wrote (mapped hold (ends (position place) count (now (packet .entry)) (position from))) (r .step) (held (r .multiplier) (r .rangebits) (now (list .exit))) ⌝ }
+    ensures { λ r. ⌜ Wrote (mapped endsInBuffer (ends (position place) count (now (packet .entry)) (position from))) (r .step) (endsRead (r .multiplier) (r .rangebits) (now (list .exit))) ⌝ }
 {
     match from.field(packet, 2) {
         Field::Refused(z) => Ends {

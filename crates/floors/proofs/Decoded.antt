@@ -8,7 +8,7 @@ use lib.Seq.{slice}
 use Rattle.reading.specs.Lists.{rows}
 use Rattle.reading.specs.Pad.{pad}
 use Rattle.reading.proofs.Pads.{length-pad}
-use Rattle.reading.proofs.Lies.{Lies, lies-at, lies-left, lies-right, lies-first, lies-rest, lies-slice, lies-self}
+use Rattle.reading.proofs.Stored.{Stored, stored-at, stored-left, stored-right, stored-first, stored-rest, stored-slice, stored-self}
 use Rattle.floor_class.specs.Layout.{classRow}
 use Rattle.floor_class.specs.Decode.{classesAt}
 use Rattle.floor_class.proofs.Decoded.{classes-decoded}
@@ -31,64 +31,64 @@ floor-long f =
     omega arith
 
 -- the numbers of a floor that lies in a table
-pub record FloorLies (t : List ℕ) (at : ℕ) (f : Floor) : Type 0 where
+pub record FloorStored (t : List ℕ) (at : ℕ) (f : Floor) : Type 0 where
   pub count : getD t at 0 ≡ length (f .partitions)
   pub named : getD t (at + 1) 0 ≡ length (f .classes)
   pub multiplier : getD t (at + 2) 0 ≡ f .multiplier
   pub rangebits : getD t (at + 3) 0 ≡ f .rangebits
   pub values : getD t (at + 4) 0 ≡ 2 + length (f .xs)
-  pub partitions : Lies t (at + 5) (pad 31 (f .partitions))
-  pub classes : Lies t (at + 36) (pad 176 (rows classRow (f .classes)))
-  pub list : Lies t (at + 212) (pad 65 (xList (f .rangebits) (f .xs)))
+  pub partitions : Stored t (at + 5) (pad 31 (f .partitions))
+  pub classes : Stored t (at + 36) (pad 176 (rows classRow (f .classes)))
+  pub list : Stored t (at + 212) (pad 65 (xList (f .rangebits) (f .xs)))
 
-pub floor-lies : {t : List ℕ} {at : ℕ} (f : Floor) → Lies t at (floorRow f) → FloorLies t at f
+pub floor-stored : {t : List ℕ} {at : ℕ} (f : Floor) → Stored t at (floorRow f) → FloorStored t at f
 unfolding floorRow
-floor-lies {t} {at} f l =
+floor-stored {t} {at} f l =
     let P = pad 31 (f .partitions) in
     let C = pad 176 (rows classRow (f .classes)) in
     let X = pad 65 (xList (f .rangebits) (f .xs)) in
-    let l₁ = lies-rest l in
-    let l₂ : Lies t (at + 2) (f .multiplier ∷ f .rangebits ∷ (2 + length (f .xs)) ∷ (P ++ (C ++ X))) = lies-at (omega arith) (lies-rest l₁) in
-    let l₃ : Lies t (at + 3) (f .rangebits ∷ (2 + length (f .xs)) ∷ (P ++ (C ++ X))) = lies-at (omega arith) (lies-rest l₂) in
-    let l₄ : Lies t (at + 4) ((2 + length (f .xs)) ∷ (P ++ (C ++ X))) = lies-at (omega arith) (lies-rest l₃) in
-    let l₅ : Lies t (at + 5) (P ++ (C ++ X)) = lies-at (omega arith) (lies-rest l₄) in
+    let l₁ = stored-rest l in
+    let l₂ : Stored t (at + 2) (f .multiplier ∷ f .rangebits ∷ (2 + length (f .xs)) ∷ (P ++ (C ++ X))) = stored-at (omega arith) (stored-rest l₁) in
+    let l₃ : Stored t (at + 3) (f .rangebits ∷ (2 + length (f .xs)) ∷ (P ++ (C ++ X))) = stored-at (omega arith) (stored-rest l₂) in
+    let l₄ : Stored t (at + 4) ((2 + length (f .xs)) ∷ (P ++ (C ++ X))) = stored-at (omega arith) (stored-rest l₃) in
+    let l₅ : Stored t (at + 5) (P ++ (C ++ X)) = stored-at (omega arith) (stored-rest l₄) in
     let p = length-pad 31 (f .partitions) in
     let c = length-pad 176 (rows classRow (f .classes)) in
-    let l₆ : Lies t (at + 36) (C ++ X) = lies-at (omega arith) (lies-right P (C ++ X) l₅) in
+    let l₆ : Stored t (at + 36) (C ++ X) = stored-at (omega arith) (stored-right P (C ++ X) l₅) in
     record {
-      count = lies-first l;
-      named = lies-first l₁;
-      multiplier = lies-first l₂;
-      rangebits = lies-first l₃;
-      values = lies-first l₄;
-      partitions = lies-left P (C ++ X) l₅;
-      classes = lies-left C X l₆;
-      list = lies-at (omega arith) (lies-right C X l₆);
+      count = stored-first l;
+      named = stored-first l₁;
+      multiplier = stored-first l₂;
+      rangebits = stored-first l₃;
+      values = stored-first l₄;
+      partitions = stored-left P (C ++ X) l₅;
+      classes = stored-left C X l₆;
+      list = stored-at (omega arith) (stored-right C X l₆);
     }
 
 -- the X values behind the two implied ones
-pub xs-lie : {t : List ℕ} (at b : ℕ) (xs : List ℕ) → Lies t (at + 212) (pad 65 (xList b xs)) → Lies t (at + 214) (pad 63 xs)
+pub xs-stored : {t : List ℕ} (at b : ℕ) (xs : List ℕ) → Stored t (at + 212) (pad 65 (xList b xs)) → Stored t (at + 214) (pad 63 xs)
 unfolding pad
-xs-lie {t} at b xs l = lies-at (omega arith) (lies-rest (lies-rest l))
+xs-stored {t} at b xs l = stored-at (omega arith) (stored-rest (stored-rest l))
 
 -- WHERE A FLOOR'S ROW LIES, THAT FLOOR IS READ
-pub floor-decoded-at : {t : List ℕ} (at books : ℕ) (f : Floor) → ValidFloor books f → Lies t at (floorRow f) → floorAt t at ≡ f
+pub floor-decoded-at : {t : List ℕ} (at books : ℕ) (f : Floor) → ValidFloor books f → Stored t at (floorRow f) → floorAt t at ≡ f
 unfolding floorAt
 floor-decoded-at {t} at books f v l =
-    let k = floor-lies f l in
+    let k = floor-stored f l in
     let most = class-count-most (f .partitions) (v .classes-named) in
     let few : length (f .classes) ≤ 16 = rw (v .class-count) most in
     let ps : slice (at + 5) (at + 5 + getD t at 0) t ≡ f .partitions =
-    ap (λ (n : ℕ). slice (at + 5) (at + 5 + n) t) (k .count) ∙ lies-slice 31 (length (f .partitions)) (f .partitions) (k .partitions) refl (v .partitions) in
+    ap (λ (n : ℕ). slice (at + 5) (at + 5 + n) t) (k .count) ∙ stored-slice 31 (length (f .partitions)) (f .partitions) (k .partitions) refl (v .partitions) in
     let cs : classesAt t (at + 36) (getD t (at + 1) 0) ≡ f .classes =
     ap (classesAt t (at + 36)) (k .named) ∙ classes-decoded (at + 36) books 16 (f .classes) few (v .classes) (k .classes) in
     let end : at + 212 + (2 + length (f .xs)) ≡ at + 214 + length (f .xs) = omega arith in
     let xs : slice (at + 214) (at + 212 + getD t (at + 4) 0) t ≡ f .xs =
     ap (λ (n : ℕ). slice (at + 214) (at + 212 + n) t) (k .values) ∙ ap (λ (n : ℕ). slice (at + 214) n t) end
-    ∙ lies-slice 63 (length (f .xs)) (f .xs) (xs-lie at (f .rangebits) (f .xs) (k .list)) refl (v .few) in
+    ∙ stored-slice 63 (length (f .xs)) (f .xs) (xs-stored at (f .rangebits) (f .xs) (k .list)) refl (v .few) in
     λ j. record { partitions = ps j; classes = cs j; multiplier = k .multiplier j; rangebits = k .rangebits j; xs = xs j }
 
 -- ONE ROW, ONE FLOOR
 pub floor-decoded : (books : ℕ) (f : Floor) → ValidFloor books f → decodeFloor (floorRow f) ≡ f
 unfolding decodeFloor
-floor-decoded books f v = floor-decoded-at 0 books f v (lies-self (floorRow f))
+floor-decoded books f v = floor-decoded-at 0 books f v (stored-self (floorRow f))

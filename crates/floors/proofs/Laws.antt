@@ -14,7 +14,7 @@ use Rattle.reading.proofs.Outcomes.{then-ok, ok-is}
 use Rattle.reading.proofs.Accepted.{many-cons, many-all}
 use Rattle.bits.specs.Field.{field}
 use Rattle.bits.proofs.Fields.{field-ok}
-use Rattle.reading.proofs.Lies.{Lies, rows-lie}
+use Rattle.reading.proofs.Stored.{Stored, rows-stored}
 use Rattle.numbers.proofs.Collected.{many-length}
 use Rattle.numbers.proofs.Accepted.{field-below}
 use Rattle.floor_class.specs.Reading.{class}
@@ -26,7 +26,7 @@ use Rattle.floors.specs.Layout.{floorRow}
 use Rattle.floors.specs.Decode.{noFloor}
 use Rattle.floors.specs.Reading.{floorType, floorFrom, floor1, floor}
 use Rattle.floors.specs.Valid.{ValidFloor, ValidFloors}
-use Rattle.floors.proofs.Decoded.{floor-long, FloorLies, floor-lies}
+use Rattle.floors.proofs.Decoded.{floor-long, FloorStored, floor-stored}
 
 -- AN ACCEPTED FLOOR MEETS EVERY RULE
 pub floor1-valid : (books place : ℕ) (s : List ℕ) (k : ℕ) {x : Floor × ℕ} → floor1 books place s k ≡ ok x → ValidFloor books (x .0)
@@ -71,8 +71,8 @@ pub floors-counted : (books : ℕ) (s : List ℕ) (n k : ℕ) {fs : List Floor} 
 floors-counted books s n k {fs} e = many-length (floor books) n s k fs e
 
 -- IN A TABLE THAT HOLDS FLOORS, THE ROW OF FLOOR f LIES AT 277 * f
-pub floors-row : (fs : List Floor) (t : List ℕ) → t ≡ pad (length t) (rows floorRow fs) → 277 * length fs ≤ length t → (f : ℕ) → f < length fs → Lies t (277 * f) (floorRow (getD fs f noFloor))
-floors-row = rows-lie floorRow 277 floor-long noFloor
+pub floors-row : (fs : List Floor) (t : List ℕ) → t ≡ pad (length t) (rows floorRow fs) → 277 * length fs ≤ length t → (f : ℕ) → f < length fs → Stored t (277 * f) (floorRow (getD fs f noFloor))
+floors-row = rows-stored floorRow 277 floor-long noFloor
 
-pub floors-lie : (fs : List Floor) (t : List ℕ) → t ≡ pad (length t) (rows floorRow fs) → 277 * length fs ≤ length t → (f : ℕ) → f < length fs → FloorLies t (277 * f) (getD fs f noFloor)
-floors-lie fs t e h f k = floor-lies (getD fs f noFloor) (floors-row fs t e h f k)
+pub floors-stored : (fs : List Floor) (t : List ℕ) → t ≡ pad (length t) (rows floorRow fs) → 277 * length fs ≤ length t → (f : ℕ) → f < length fs → FloorStored t (277 * f) (getD fs f noFloor)
+floors-stored fs t e h f k = floor-stored (getD fs f noFloor) (floors-row fs t e h f k)

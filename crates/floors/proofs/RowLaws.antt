@@ -39,7 +39,7 @@ use Rattle.floor_class.specs.Reading.{class}
 use Rattle.floor_class.proofs.Decoded.{class-long}
 use Rattle.floor_x_list.specs.Content.{xList}
 use Rattle.floor_x_list.specs.Reading.{Ends, ends}
-use Rattle.floor_x_list.specs.Pieces.{Held, held, hold}
+use Rattle.floor_x_list.specs.Pieces.{EndsRead, endsRead, endsInBuffer}
 use Rattle.floor_x_list.proofs.Accepted.{EndsFit, ends-fit}
 use Rattle.floors.specs.Content.{classCount, valueCount}
 use Rattle.floors.specs.Layout.{floorRow}
@@ -63,14 +63,14 @@ row-long count named ps cs e p q =
     omega arith
 
 row-written : (count named : ℕ) (ps cs : List ℕ) (e : Ends) (entry : List ℕ) (i : ℕ) → length ps ≡ 31 → length cs ≡ 176
-    → {m b : ℕ} {l : List ℕ} → hold e ≡ held m b l → {h₁ h₂ h₃ h₄ h₅ n : ℕ} → length (e .xs) ≡ n → h₁ ≡ count → h₂ ≡ named → h₃ ≡ m → h₄ ≡ b → h₅ ≡ 2 + n
+    → {m b : ℕ} {l : List ℕ} → endsInBuffer e ≡ endsRead m b l → {h₁ h₂ h₃ h₄ h₅ n : ℕ} → length (e .xs) ≡ n → h₁ ≡ count → h₂ ≡ named → h₃ ≡ m → h₄ ≡ b → h₅ ≡ 2 + n
     → {t : List ℕ} → t ≡ sets entry i (((h₁ ∷ h₂ ∷ h₃ ∷ h₄ ∷ h₅ ∷ []) ++ ps) ++ (cs ++ l))
     → putRow (rowOf count named ps cs) e (table entry i) ≡ table t (i + 277)
-unfolding putRow hold rowOf
+unfolding putRow endsInBuffer rowOf
 row-written count named ps cs e entry i p q {m} {b} {l} h {h₁} {h₂} {h₃} {h₄} {h₅} {n} g x₁ x₂ x₃ x₄ x₅ {t} w =
-    let em : e .multiplier ≡ m = ap (λ (y : Held). y .multiplier) h in
-    let eb : e .rangebits ≡ b = ap (λ (y : Held). y .rangebits) h in
-    let el : pad 65 (xList (e .rangebits) (e .xs)) ≡ l = ap (λ (y : Held). y .list) h in
+    let em : e .multiplier ≡ m = ap (λ (y : EndsRead). y .multiplier) h in
+    let eb : e .rangebits ≡ b = ap (λ (y : EndsRead). y .rangebits) h in
+    let el : pad 65 (xList (e .rangebits) (e .xs)) ≡ l = ap (λ (y : EndsRead). y .list) h in
     let heads : (h₁ ∷ h₂ ∷ h₃ ∷ h₄ ∷ h₅ ∷ []) ≡ (count ∷ named ∷ e .multiplier ∷ e .rangebits ∷ (2 + length (e .xs)) ∷ []) =
     λ j. x₁ j ∷ x₂ j ∷ (x₃ ∙ sym em) j ∷ (x₄ ∙ sym eb) j ∷ (x₅ ∙ ap (λ (y : ℕ). 2 + y) (sym g)) j ∷ [] in
     let same : t ≡ sets entry i (rowOf count named ps cs e) =
@@ -80,33 +80,33 @@ row-written count named ps cs e entry i p q {m} {b} {l} h {h₁} {h₂} {h₃} {
     λ j. table (sym same j) (i + sym (row-long count named ps cs e p q) j)
 
 module _ (place : Cursor) (count named : ℕ) (ps cs : List ℕ) (s : List ℕ) (k : Cursor) (entry : List ℕ) (i : ℕ) {n : ℕ} (values : n ≡ valuesTo cs ps count) {st : Step} {m b : ℕ} {l : List ℕ}
-    (w : Wrote (mapped hold (ends (position place) n s (position k))) st (held m b l)) where
-  pub behind-refused : {z : Refusal} → st ≡ S.Refused z → (u : Table) → Wrote (into1 (putRow (rowOf count named ps cs)) (ends (position place) (valuesTo cs ps count) s (position k)) (table entry i)) (S.Refused z) u
+    (w : Wrote (mapped endsInBuffer (ends (position place) n s (position k))) st (endsRead m b l)) where
+  pub after-refused : {z : Refusal} → st ≡ S.Refused z → (u : Table) → Wrote (into1 (putRow (rowOf count named ps cs)) (ends (position place) (valuesTo cs ps count) s (position k)) (table entry i)) (S.Refused z) u
   unfolding into1 mapped
-  behind-refused t u = wrote-refused u (rw (← values, mapped-bad hold (ends (position place) n s (position k)) (wrote-bad w t)))
+  after-refused t u = wrote-refused u (rw (← values, mapped-bad endsInBuffer (ends (position place) n s (position k)) (wrote-bad w t)))
 
   module _ {c : Cursor} (t : st ≡ S.Next c) where
-    read : (e : Ends) × (ends (position place) n s (position k) ≡ ok (e, position c)) × (hold e ≡ held m b l)
-    read = mapped-ok hold (ends (position place) n s (position k)) (wrote-ok w t)
+    read : (e : Ends) × (ends (position place) n s (position k) ≡ ok (e, position c)) × (endsInBuffer e ≡ endsRead m b l)
+    read = mapped-ok endsInBuffer (ends (position place) n s (position k)) (wrote-ok w t)
 
     fits : EndsFit n (read .0)
     fits = ends-fit (position place) n s (position k) (read .1)
 
-    pub behind-few : 2 + n < 65536
-    behind-few = let h = fits .few in omega arith
+    pub after-few : 2 + n < 65536
+    after-few = let h = fits .few in omega arith
 
-    pub behind-multiplier : m < 65536
-    unfolding hold
-    behind-multiplier = let h = fits .multiplier-high in let g : read .0 .multiplier ≡ m = ap (λ (y : Held). y .multiplier) (read .2) in omega arith
+    pub after-multiplier : m < 65536
+    unfolding endsInBuffer
+    after-multiplier = let h = fits .multiplier-high in let g : read .0 .multiplier ≡ m = ap (λ (y : EndsRead). y .multiplier) (read .2) in omega arith
 
-    pub behind-rangebits : b < 65536
-    unfolding hold
-    behind-rangebits = let h = fits .rangebits in let g : read .0 .rangebits ≡ b = ap (λ (y : Held). y .rangebits) (read .2) in omega arith
+    pub after-rangebits : b < 65536
+    unfolding endsInBuffer
+    after-rangebits = let h = fits .rangebits in let g : read .0 .rangebits ≡ b = ap (λ (y : EndsRead). y .rangebits) (read .2) in omega arith
 
-    pub behind-written : length ps ≡ 31 → length cs ≡ 176 → {h₁ h₂ h₃ h₄ h₅ : ℕ} → h₁ ≡ count → h₂ ≡ named → h₃ ≡ m → h₄ ≡ b → h₅ ≡ 2 + n
+    pub after-written : length ps ≡ 31 → length cs ≡ 176 → {h₁ h₂ h₃ h₄ h₅ : ℕ} → h₁ ≡ count → h₂ ≡ named → h₃ ≡ m → h₄ ≡ b → h₅ ≡ 2 + n
         → (x : List ℕ) → x ≡ sets entry i (((h₁ ∷ h₂ ∷ h₃ ∷ h₄ ∷ h₅ ∷ []) ++ ps) ++ (cs ++ l))
         → Wrote (into1 (putRow (rowOf count named ps cs)) (ends (position place) (valuesTo cs ps count) s (position k)) (table entry i)) (S.Next c) (table x (i + 277))
-    behind-written p q x₁ x₂ x₃ x₄ x₅ x f =
+    after-written p q x₁ x₂ x₃ x₄ x₅ x f =
         let made = row-written count named ps cs (read .0) entry i p q (read .2) (fits .long) x₁ x₂ x₃ x₄ x₅ f in
         let last : into1 (putRow (rowOf count named ps cs)) (ok (read .0, position c)) (table entry i) ≡ ok (table x (i + 277), position c) = unfold into1 mapped in λ j. ok (made j, position c) in
         wrote-next
@@ -114,7 +114,7 @@ module _ (place : Cursor) (count named : ℕ) (ps cs : List ℕ) (s : List ℕ) 
         ∙ ap (λ (o : Outcome (Ends × ℕ)). into1 (putRow (rowOf count named ps cs)) o (table entry i)) (read .1)
         ∙ last)
 
-pub ruleset behind-laws = (needs, behind-refused, behind-few, behind-multiplier, behind-rangebits, behind-written)
+pub ruleset after-laws = (needs, after-refused, after-few, after-multiplier, after-rangebits, after-written)
 
 -- counting partitions from the front
 classes-cons : (x : ℕ) (l : List ℕ) (n : ℕ) → classesTo (x ∷ l) (suc n) ≡ max (suc x) (classesTo l n)

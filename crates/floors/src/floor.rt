@@ -101,7 +101,7 @@ pub fn write_row(
 }
 
 // The rest of a floor whose partitions and classes are read, and with it the row.
-pub fn read_behind_classes(
+pub fn read_after_classes(
     packet: &[u8],
     from: Cursor,
     place: Cursor,
@@ -136,7 +136,7 @@ pub fn read_behind_classes(
 }
 
 // The rest of a floor whose partitions are read.
-pub fn read_behind_partitions(
+pub fn read_after_partitions(
     packet: &[u8],
     from: Cursor,
     place: Cursor,
@@ -153,7 +153,7 @@ pub fn read_behind_partitions(
     let mut classes = [0u16; CLASSES_ROOM];
     match floor_class::read_classes(packet, from, books, named, &mut classes) {
         Step::Refused(z) => Step::Refused(z),
-        Step::Next(next) => read_behind_classes(
+        Step::Next(next) => read_after_classes(
             packet,
             next,
             place,
@@ -186,7 +186,7 @@ pub fn read_floor1(
             let mut partitions = [0u16; PARTITIONS_ROOM];
             match numbers::read_numbers(packet, next, 4, count, &mut partitions, 0) {
                 Step::Refused(z) => Step::Refused(z),
-                Step::Next(after) => read_behind_partitions(
+                Step::Next(after) => read_after_partitions(
                     packet,
                     after,
                     place,

@@ -2,7 +2,7 @@
 use Prim.Native.Nat.{ℕ, _≤_}
 use mathlib.Core.List.{List}
 use mathlib.Core.Path.{_≡_}
-use Rattle.reading.proofs.Stands.{stands-same}
+use Rattle.reading.proofs.Encodes.{encodes-same}
 use Rattle.mappings.specs.declared.Known.{Known}
 use Rattle.mappings.specs.Decode.{decodeMapping}
 use Rattle.mappings.specs.Layout.{mappingRow}
@@ -13,4 +13,4 @@ use Rattle.mapping_tables.specs.Recognised.{MappingsRecognised}
 
 -- no other mappings share a table
 pub one-content : (known : Known) (n : ℕ) (cells : List ℕ) → known .channels ≤ 256 → (a b : MappingsRecognised known n cells) → a .items ≡ b .items
-one-content known n cells h a b = stands-same mappingRow (ValidMapping known) 804 mapping-wide decodeMapping (λ m v. decode-mapping known m h v) n cells a b
+one-content known n cells h a b = encodes-same mappingRow (ValidMapping known) 804 mapping-wide decodeMapping (λ m v. decode-mapping known m h v) n cells a b

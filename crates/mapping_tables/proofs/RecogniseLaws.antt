@@ -13,8 +13,8 @@ use lib.ListN.{length, getD, take, drop, length-drop, take-append-drop}
 use lib.Seq.{drop-cons, drop-drop, take-all, length-take-le}
 use Rattle.reading.specs.Lists.{rows}
 use Rattle.reading.specs.Pad.{pad}
-use Rattle.reading.specs.Stand.{Zeros, Each, RowOf, Stands}
-use Rattle.reading.proofs.Stands.{iff-false, not-said, stands-pad, Left, rows-start, rows-next, rows-stop, rows-end, stands-long}
+use Rattle.reading.specs.Encoding.{Zeros, Each, RowOf, Encodes}
+use Rattle.reading.proofs.Encodes.{iff-false, not-said, encodes-pad, Left, rows-start, rows-next, rows-stop, rows-end, encodes-long}
 use Rattle.reading.proofs.Pads.{length-pad}
 use Rattle.reading.proofs.PairRows.{pair-laws}
 use Rattle.mappings.specs.Content.{Coupling, Submap, Mapping}
@@ -77,8 +77,8 @@ pub record Numbers (submaps n : ℕ) (cells : List ℕ) (i : ℕ) : Type 0 where
   pub left : Left multiplexRow (ValidMultiplex submaps) 1 multiplex-wide n cells i
 
 module _ (submaps n : ℕ) (cells : List ℕ) where
-  pub numbers-short : length cells < n → (false ≡ true) ↔ Stands multiplexRow (ValidMultiplex submaps) n cells
-  numbers-short h = iff-false (λ s. let l = stands-long multiplexRow (ValidMultiplex submaps) 1 multiplex-wide n cells s in omega arith)
+  pub numbers-short : length cells < n → (false ≡ true) ↔ Encodes multiplexRow (ValidMultiplex submaps) n cells
+  numbers-short h = iff-false (λ s. let l = encodes-long multiplexRow (ValidMultiplex submaps) 1 multiplex-wide n cells s in omega arith)
 
   pub numbers-start : n ≤ length cells → Numbers submaps n cells 0
   numbers-start h = record { within = omega arith; room = h; left = rows-start multiplexRow (ValidMultiplex submaps) 1 multiplex-wide n cells }
@@ -88,7 +88,7 @@ module _ (submaps n : ℕ) (cells : List ℕ) where
       single : take 1 (drop (1 * i) cells) ≡ getD cells i 0 ∷ []
       single = let g = f .room in let l : i < length cells = omega arith in ap (λ (k : ℕ). take 1 (drop k cells)) (one-mul i) ∙ ap (take 1) (drop-cons cells i 0 l)
 
-      pub numbers-stop : not r ≡ true → (false ≡ true) ↔ Stands multiplexRow (ValidMultiplex submaps) n cells
+      pub numbers-stop : not r ≡ true → (false ≡ true) ↔ Encodes multiplexRow (ValidMultiplex submaps) n cells
       numbers-stop e = rows-stop multiplexRow (ValidMultiplex submaps) 1 multiplex-wide n cells i (f .left) h (λ x. not-said said (not-true r e) (subst (RowOf multiplexRow (ValidMultiplex submaps)) single x))
 
       pub numbers-next : not r ≡ false → Numbers submaps n cells (i + 1)
@@ -100,7 +100,7 @@ module _ (submaps n : ℕ) (cells : List ℕ) where
             left = rows-next multiplexRow (ValidMultiplex submaps) 1 multiplex-wide n cells i (f .left) h (omega arith) (subst (RowOf multiplexRow (ValidMultiplex submaps)) (sym single) (said .0 (not-false r e)));
           }
 
-    pub numbers-end : n ≤ i → {r : Bool} → (r ≡ true) ↔ Zeros (drop n cells) → (r ≡ true) ↔ Stands multiplexRow (ValidMultiplex submaps) n cells
+    pub numbers-end : n ≤ i → {r : Bool} → (r ≡ true) ↔ Zeros (drop n cells) → (r ≡ true) ↔ Encodes multiplexRow (ValidMultiplex submaps) n cells
     numbers-end h said =
         let s = rows-end multiplexRow (ValidMultiplex submaps) 1 multiplex-wide n cells i (f .left) (f .within) h in
         let e : drop (1 * n) cells ≡ drop n cells = ap (λ (k : ℕ). drop k cells) (one-mul n) in
@@ -131,9 +131,9 @@ pub record Parts (known : Known) (cells : List ℕ) (steps k : ℕ) : Type 0 whe
   pub some-submap : 1 ≤ k
   pub few-submaps : k ≤ 16
   pub zero : getD cells 3 0 ≡ 0
-  pub couplings : Stands couplingRow (ValidCoupling (known .channels)) steps (take 512 (drop 4 cells))
-  pub multiplex : Stands multiplexRow (ValidMultiplex k) (multiplexCount k (known .channels)) (take 256 (drop 516 cells))
-  pub submaps : Stands submapRow (ValidSubmap known) k (take 32 (drop 772 cells))
+  pub couplings : Encodes couplingRow (ValidCoupling (known .channels)) steps (take 512 (drop 4 cells))
+  pub multiplex : Encodes multiplexRow (ValidMultiplex k) (multiplexCount k (known .channels)) (take 256 (drop 516 cells))
+  pub submaps : Encodes submapRow (ValidSubmap known) k (take 32 (drop 772 cells))
 
 -- a mapping put together from valid parts is valid
 valid-made : (known : Known) (cs : List Coupling) (ms : List ℕ) (ss : List Submap) (steps submaps : ℕ) → length cs ≡ steps → steps ≤ 256
@@ -188,14 +188,14 @@ module _ (known : Known) (few : known .channels ≤ 255) where
         few-submaps = omega arith;
         zero = at 3;
         couplings =
-            rw e (stands-pad couplingRow (ValidCoupling (known .channels)) n 512 (m .couplings) (take 512 (drop 4 cells))
+            rw e (encodes-pad couplingRow (ValidCoupling (known .channels)) n 512 (m .couplings) (take 512 (drop 4 cells))
             (ap (λ (l : List ℕ). take 512 (drop 4 l)) w ∙ part-couplings (n % 256) (n / 256) k 0 x y z) refl (v .couplings) (omega arith));
         multiplex =
-            stands-pad multiplexRow (ValidMultiplex (getD cells 2 0)) (multiplexCount (getD cells 2 0) (known .channels)) 256 (m .multiplex) (take 256 (drop 516 cells))
+            encodes-pad multiplexRow (ValidMultiplex (getD cells 2 0)) (multiplexCount (getD cells 2 0) (known .channels)) 256 (m .multiplex) (take 256 (drop 516 cells))
             (ap (λ (l : List ℕ). take 256 (drop 516 l)) w ∙ part-multiplex (n % 256) (n / 256) k 0 x y z ∙ ap (pad 256) (sym (multiplex-rows (m .multiplex))))
             (rw e2 (multiplex-number known m v)) all-below (omega arith);
         submaps =
-            rw e2 (stands-pad submapRow (ValidSubmap known) k 32 (m .submaps) (take 32 (drop 772 cells))
+            rw e2 (encodes-pad submapRow (ValidSubmap known) k 32 (m .submaps) (take 32 (drop 772 cells))
             (ap (λ (l : List ℕ). take 32 (drop 772 l)) w ∙ ap (take 32) (part-submaps (n % 256) (n / 256) k 0 x y z) ∙ take-all 32 (pad 32 z) (let l = length-pad 32 z in omega arith))
             refl (v .submaps) (omega arith));
       }
@@ -266,20 +266,20 @@ module _ (known : Known) (cells : List ℕ) (long : length cells ≡ 804) (few :
   pub place-used : (getD cells 3 0 ≡ 0 → ⊥) → (false ≡ true) ↔ RowOf mappingRow (ValidMapping known) cells
   place-used h = iff-false (λ r. h (ps r .zero))
 
-  module _ {r₁ : Bool} (said₁ : (r₁ ≡ true) ↔ Stands couplingRow (ValidCoupling (known .channels)) steps (take 512 (drop 4 cells))) where
+  module _ {r₁ : Bool} (said₁ : (r₁ ≡ true) ↔ Encodes couplingRow (ValidCoupling (known .channels)) steps (take 512 (drop 4 cells))) where
     pub couplings-wrong : not r₁ ≡ true → (false ≡ true) ↔ RowOf mappingRow (ValidMapping known) cells
     couplings-wrong e = iff-false (λ r. not-said said₁ (not-true r₁ e) (ps r .couplings))
 
     module _ {count : ℕ} (ec : count ≡ multiplexCount (getD cells 2 0) (known .channels)) {r₂ : Bool}
-        (said₂ : (r₂ ≡ true) ↔ Stands multiplexRow (ValidMultiplex (getD cells 2 0)) count (take 256 (drop 516 cells))) where
-      numbers : (r₂ ≡ true) ↔ Stands multiplexRow (ValidMultiplex (getD cells 2 0)) (multiplexCount (getD cells 2 0) (known .channels)) (take 256 (drop 516 cells))
+        (said₂ : (r₂ ≡ true) ↔ Encodes multiplexRow (ValidMultiplex (getD cells 2 0)) count (take 256 (drop 516 cells))) where
+      numbers : (r₂ ≡ true) ↔ Encodes multiplexRow (ValidMultiplex (getD cells 2 0)) (multiplexCount (getD cells 2 0) (known .channels)) (take 256 (drop 516 cells))
       numbers = rw ec at said₂
 
       pub multiplex-wrong : not r₂ ≡ true → (false ≡ true) ↔ RowOf mappingRow (ValidMapping known) cells
       multiplex-wrong e = iff-false (λ r. not-said numbers (not-true r₂ e) (ps r .multiplex))
 
       pub row-right : steps ≤ 256 → 1 ≤ getD cells 2 0 → getD cells 2 0 ≤ 16 → getD cells 3 0 ≡ 0 → not r₁ ≡ false → not r₂ ≡ false → {r₃ : Bool}
-          → (r₃ ≡ true) ↔ Stands submapRow (ValidSubmap known) (getD cells 2 0) (take 32 (drop 772 cells)) → (r₃ ≡ true) ↔ RowOf mappingRow (ValidMapping known) cells
+          → (r₃ ≡ true) ↔ Encodes submapRow (ValidSubmap known) (getD cells 2 0) (take 32 (drop 772 cells)) → (r₃ ≡ true) ↔ RowOf mappingRow (ValidMapping known) cells
       row-right a b c z e₁ e₂ said₃ =
           let q = parts-of known few cells long (es .1) (es .0) in (
             (λ e. q .1 (record { few-steps = a; some-submap = b; few-submaps = c; zero = z; couplings = said₁ .0 (not-false r₁ e₁); multiplex = numbers .0 (not-false r₂ e₂); submaps = said₃ .0 e })),
@@ -300,7 +300,7 @@ pub record Finding (known : Known) (n : ℕ) (cells : List ℕ) (i : ℕ) : Type
 
 module _ (known : Known) (n : ℕ) (cells : List ℕ) where
   pub too-short : length cells < 804 * n → (false ≡ true) ↔ MappingsRecognised known n cells
-  too-short h = iff-false (λ s. let l = stands-long mappingRow (ValidMapping known) 804 mapping-wide n cells s in omega arith)
+  too-short h = iff-false (λ s. let l = encodes-long mappingRow (ValidMapping known) 804 mapping-wide n cells s in omega arith)
 
   pub find-start : 804 * n ≤ length cells → Finding known n cells 0
   find-start h = record { within = omega arith; room = h; left = rows-start mappingRow (ValidMapping known) 804 mapping-wide n cells }

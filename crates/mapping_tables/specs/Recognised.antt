@@ -3,7 +3,7 @@ use Prim.Native.Nat.{ℕ}
 use mathlib.Core.List.{List}
 use mathlib.Core.Bool.{cond}
 use lib.Dec.{leb}
-use Rattle.reading.specs.Stand.{Stands}
+use Rattle.reading.specs.Encoding.{Encodes}
 use Rattle.mappings.specs.declared.Known.{Known}
 use Rattle.mappings.specs.Layout.{mappingRow}
 use Rattle.mappings.specs.Valid.{ValidMapping}
@@ -14,4 +14,4 @@ multiplexCount submaps channels = cond (leb submaps 1) 0 channels
 
 -- the writing-out of so many mappings, each of which meets every rule; zeros behind the last row
 abbrev pub MappingsRecognised : Known → ℕ → List ℕ → Type 0
-MappingsRecognised known count cells = Stands mappingRow (ValidMapping known) count cells
+MappingsRecognised known count cells = Encodes mappingRow (ValidMapping known) count cells

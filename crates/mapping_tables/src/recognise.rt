@@ -10,7 +10,7 @@ ghost use mathlib.Core.List.{[], _∷_};
 ghost use mathlib.Core.Logic.{_↔_};
 ghost use mathlib.Core.Path.{_≡_};
 ghost use lib.ListN.{length};
-ghost use Rattle.reading.specs.Stand.{RowOf, Stands};
+ghost use Rattle.reading.specs.Encoding.{RowOf, Encodes};
 ghost use Rattle.mappings.specs.Decode.{couplingOf, submapOf};
 ghost use Rattle.mappings.specs.Layout.{couplingRow, multiplexRow, submapRow, mappingRow, mappingWidth};
 ghost use Rattle.mapping_tables.specs.Recognised.{MappingsRecognised, multiplexCount};
@@ -31,7 +31,7 @@ fn is_coupling(magnitude: u8, angle: u8, channels: u32) -> bool
 
 fn are_couplings(part: &[u8], count: usize, channels: u32) -> bool
     requires { ⌜ count ≤ 256 ⌝ }
-    ensures { λ r. ⌜ (r ≡ true) ↔ Stands couplingRow (ValidCoupling channels) count (now (part .entry)) ⌝ }
+    ensures { λ r. ⌜ (r ≡ true) ↔ Encodes couplingRow (ValidCoupling channels) count (now (part .entry)) ⌝ }
 {
     if part.len() < 2 * count {
         return false;
@@ -58,7 +58,7 @@ fn is_multiplex(number: u8, submaps: u8) -> bool
 
 fn are_multiplexes(part: &[u8], count: usize, submaps: u8) -> bool
     requires { ⌜ count ≤ 256 ⌝ }
-    ensures { λ r. ⌜ (r ≡ true) ↔ Stands multiplexRow (ValidMultiplex submaps) count (now (part .entry)) ⌝ }
+    ensures { λ r. ⌜ (r ≡ true) ↔ Encodes multiplexRow (ValidMultiplex submaps) count (now (part .entry)) ⌝ }
 {
     if part.len() < count {
         return false;
@@ -85,7 +85,7 @@ fn is_submap(floor: u8, residue: u8, known: Known) -> bool
 
 fn are_submaps(part: &[u8], count: usize, known: Known) -> bool
     requires { ⌜ count ≤ 16 ⌝ }
-    ensures { λ r. ⌜ (r ≡ true) ↔ Stands submapRow (ValidSubmap known) count (now (part .entry)) ⌝ }
+    ensures { λ r. ⌜ (r ≡ true) ↔ Encodes submapRow (ValidSubmap known) count (now (part .entry)) ⌝ }
 {
     if part.len() < 2 * count {
         return false;

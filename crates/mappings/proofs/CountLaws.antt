@@ -65,8 +65,8 @@ module _ (s : List ℕ) (k : Cursor) {r : Field} (p : outcome r ≡ field 1 s (p
       steps-some p₁ q₁ = rw (value-is p q, ne-eqb _ _ e, value-is p₁ q₁, add-one)
 
 -- how large a count is that stands behind a flag: d where the flag is 0, else a field of w bits plus one
-behind : (w d m : ℕ) (s : List ℕ) (flag : ℕ × ℕ) (x : ℕ × ℕ) → d ≤ m → 2 ^ w ≤ m → cond (eqb (flag .0) 0) (ok (d, flag .1)) (mapped suc (field w s (flag .1))) ≡ ok x → x .0 ≤ m
-behind w d m s flag x h g e = go (eqb (flag .0) 0) e
+after : (w d m : ℕ) (s : List ℕ) (flag : ℕ × ℕ) (x : ℕ × ℕ) → d ≤ m → 2 ^ w ≤ m → cond (eqb (flag .0) 0) (ok (d, flag .1)) (mapped suc (field w s (flag .1))) ≡ ok x → x .0 ≤ m
+after w d m s flag x h g e = go (eqb (flag .0) 0) e
   where
     go : (t : Bool) → cond t (ok (d, flag .1)) (mapped suc (field w s (flag .1))) ≡ ok x → x .0 ≤ m
     go true e = let p : (d, flag .1) ≡ x = cc in let q : d ≡ x .0 = ap (λ y. y .0) p in omega arith
@@ -78,11 +78,11 @@ behind w d m s flag x h g e = go (eqb (flag .0) 0) e
 
 pub submaps-few : (s : List ℕ) (k : ℕ) {x : ℕ × ℕ} → submapCount s k ≡ ok x → x .0 ≤ 16
 unfolding submapCount
-submaps-few s k {x} e = let f = then-ok (field 1 s k) _ e in behind 4 1 16 s (f .0) x (omega arith) (omega arith) (f .2)
+submaps-few s k {x} e = let f = then-ok (field 1 s k) _ e in after 4 1 16 s (f .0) x (omega arith) (omega arith) (f .2)
 
 pub steps-few : (s : List ℕ) (k : ℕ) {x : ℕ × ℕ} → couplingCount s k ≡ ok x → x .0 ≤ 256
 unfolding couplingCount
-steps-few s k {x} e = let f = then-ok (field 1 s k) _ e in behind 8 0 256 s (f .0) x (omega arith) (omega arith) (f .2)
+steps-few s k {x} e = let f = then-ok (field 1 s k) _ e in after 8 0 256 s (f .0) x (omega arith) (omega arith) (f .2)
 
 pub submaps-some-at-least : (s : List ℕ) (k : ℕ) {x : ℕ × ℕ} → submapCount s k ≡ ok x → 1 ≤ x .0
 unfolding submapCount

@@ -13,7 +13,7 @@ use Rattle.reading.specs.Lists.{all, rows}
 use Rattle.reading.specs.Outcome.{ok}
 use Rattle.reading.specs.Pad.{pad}
 use Rattle.reading.specs.Reader.{many, judged}
-use Rattle.reading.specs.Stand.{Each}
+use Rattle.reading.specs.Encoding.{Each}
 use Rattle.reading.proofs.Pads.{length-pad}
 use Rattle.reading.proofs.Outcomes.{then-ok, judged-ok}
 use Rattle.reading.proofs.Accepted.{many-each, many-number}

@@ -9,8 +9,8 @@ use Rattle.reading.specs.Lists.{rows}
 use Rattle.reading.specs.Pad.{pad}
 use Rattle.reading.proofs.Pads.{pad-nil, length-pad}
 use Rattle.reading.proofs.Tables.{sets-pad}
-use Rattle.reading.proofs.Runs.{sets-behind, sets-before, zeros-split}
-use Rattle.reading.proofs.Stands.{rows-length}
+use Rattle.reading.proofs.Runs.{sets-after, sets-before, zeros-split}
+use Rattle.reading.proofs.Encodes.{rows-length}
 use Rattle.mappings.specs.Content.{Coupling, Submap, Mapping}
 use Rattle.mappings.specs.Layout.{couplingRow, multiplexRow, submapRow, mappingRow, partsInto}
 
@@ -81,24 +81,24 @@ part-set n vs rest h =
 couplings-set : (a b c d : ℕ) (x : List ℕ) → length x ≤ 512 → sets (fourParts a b c d [] [] []) 4 x ≡ fourParts a b c d x [] []
 couplings-set a b c d x h =
     let rest : List ℕ = pad 256 [] ++ pad 32 [] in
-    sets-behind (a ∷ b ∷ c ∷ d ∷ []) (pad 512 [] ++ rest) 4 0 x refl
+    sets-after (a ∷ b ∷ c ∷ d ∷ []) (pad 512 [] ++ rest) 4 0 x refl
     ∙ ap (λ (l : List ℕ). (a ∷ b ∷ c ∷ d ∷ []) ++ l) (part-set 512 x rest h)
 
 multiplex-set : (a b c d : ℕ) (x y : List ℕ) → length y ≤ 256 → sets (fourParts a b c d x [] []) 516 y ≡ fourParts a b c d x y []
 multiplex-set a b c d x y h =
     let l = length-pad 512 x in
-    sets-behind (a ∷ b ∷ c ∷ d ∷ []) (pad 512 x ++ (pad 256 [] ++ pad 32 [])) 516 512 y refl
+    sets-after (a ∷ b ∷ c ∷ d ∷ []) (pad 512 x ++ (pad 256 [] ++ pad 32 [])) 516 512 y refl
     ∙ ap (λ (l : List ℕ). (a ∷ b ∷ c ∷ d ∷ []) ++ l)
-    (sets-behind (pad 512 x) (pad 256 [] ++ pad 32 []) 512 0 y (omega arith) ∙ ap (λ (l : List ℕ). pad 512 x ++ l) (part-set 256 y (pad 32 []) h))
+    (sets-after (pad 512 x) (pad 256 [] ++ pad 32 []) 512 0 y (omega arith) ∙ ap (λ (l : List ℕ). pad 512 x ++ l) (part-set 256 y (pad 32 []) h))
 
 submaps-set : (a b c d : ℕ) (x y z : List ℕ) → sets (fourParts a b c d x y []) 772 z ≡ fourParts a b c d x y z
 submaps-set a b c d x y z =
     let l = length-pad 512 x in
     let m = length-pad 256 y in
-    sets-behind (a ∷ b ∷ c ∷ d ∷ []) (pad 512 x ++ (pad 256 y ++ pad 32 [])) 772 768 z refl
+    sets-after (a ∷ b ∷ c ∷ d ∷ []) (pad 512 x ++ (pad 256 y ++ pad 32 [])) 772 768 z refl
     ∙ ap (λ (l : List ℕ). (a ∷ b ∷ c ∷ d ∷ []) ++ l)
-    (sets-behind (pad 512 x) (pad 256 y ++ pad 32 []) 768 256 z (omega arith)
-    ∙ ap (λ (l : List ℕ). pad 512 x ++ l) (sets-behind (pad 256 y) (pad 32 []) 256 0 z (omega arith) ∙ ap (λ (l : List ℕ). pad 256 y ++ l) (sets-pad 32 z [] 0 refl)))
+    (sets-after (pad 512 x) (pad 256 y ++ pad 32 []) 768 256 z (omega arith)
+    ∙ ap (λ (l : List ℕ). pad 512 x ++ l) (sets-after (pad 256 y) (pad 32 []) 256 0 z (omega arith) ∙ ap (λ (l : List ℕ). pad 256 y ++ l) (sets-pad 32 z [] 0 refl)))
 
 -- the row that reading makes is the mapping's
 pub row-made : (m : Mapping) (submaps steps : ℕ) → length (m .couplings) ≡ steps → length (m .submaps) ≡ submaps → steps ≤ 256 → length (m .multiplex) ≤ 256
@@ -122,11 +122,11 @@ module _ (a b c d : ℕ) (x y z : List ℕ) where
   pub part-couplings : take 512 (drop 4 (fourParts a b c d x y z)) ≡ pad 512 x
   part-couplings = take-at (pad 512 x) _ 512 (length-pad 512 x)
 
-  behind-couplings : drop 516 (fourParts a b c d x y z) ≡ pad 256 y ++ pad 32 z
-  behind-couplings = drop-at ((a ∷ b ∷ c ∷ d ∷ []) ++ pad 512 x) (pad 256 y ++ pad 32 z) 516 (ap (λ (n : ℕ). suc (suc (suc (suc n)))) (length-pad 512 x))
+  after-couplings : drop 516 (fourParts a b c d x y z) ≡ pad 256 y ++ pad 32 z
+  after-couplings = drop-at ((a ∷ b ∷ c ∷ d ∷ []) ++ pad 512 x) (pad 256 y ++ pad 32 z) 516 (ap (λ (n : ℕ). suc (suc (suc (suc n)))) (length-pad 512 x))
 
   pub part-multiplex : take 256 (drop 516 (fourParts a b c d x y z)) ≡ pad 256 y
-  part-multiplex = ap (take 256) behind-couplings ∙ take-at (pad 256 y) _ 256 (length-pad 256 y)
+  part-multiplex = ap (take 256) after-couplings ∙ take-at (pad 256 y) _ 256 (length-pad 256 y)
 
   pub part-submaps : drop 772 (fourParts a b c d x y z) ≡ pad 32 z
   part-submaps =

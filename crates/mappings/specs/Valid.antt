@@ -6,7 +6,7 @@ use mathlib.Core.Path.{_≡_}
 use lib.Dec.{ltb}
 use lib.ListN.{length}
 use Rattle.reading.specs.Lists.{all}
-use Rattle.reading.specs.Stand.{Each}
+use Rattle.reading.specs.Encoding.{Each}
 use Rattle.mappings.specs.Content.{Coupling, Submap, Mapping}
 use Rattle.mappings.specs.declared.Known.{Known}
 

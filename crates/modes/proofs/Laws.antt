@@ -11,11 +11,11 @@ use Rattle.reading.specs.Outcome.{ok}
 use Rattle.reading.specs.Reader.{many, judged}
 use Rattle.reading.specs.Lists.{rows}
 use Rattle.reading.specs.Pad.{pad}
-use Rattle.reading.specs.Stand.{Each}
+use Rattle.reading.specs.Encoding.{Each}
 use Rattle.reading.proofs.Outcomes.{then-ok, judged-ok}
 use Rattle.reading.proofs.Accepted.{many-each, many-number}
-use Rattle.reading.proofs.Stands.{stands-same}
-use Rattle.reading.proofs.Lies.{Lies, lies-first, lies-rest, rows-lie}
+use Rattle.reading.proofs.Encodes.{encodes-same}
+use Rattle.reading.proofs.Stored.{Stored, stored-first, stored-rest, rows-stored}
 use Rattle.bits.specs.Field.{field}
 use Rattle.bits.proofs.Fields.{field-ok}
 use Rattle.modes.specs.Content.{Mode}
@@ -53,18 +53,18 @@ modes-valid mappings s n k x e = (many-number (mode mappings) s n k e, many-each
 
 -- no other modes share a table
 pub one-content : (mappings n : ℕ) (cells : List ℕ) (a b : ModesRecognised mappings n cells) → a .items ≡ b .items
-one-content mappings n cells a b = stands-same modeRow (ValidMode mappings) 2 mode-wide decodeMode (λ m v. decode-mode m) n cells a b
+one-content mappings n cells a b = encodes-same modeRow (ValidMode mappings) 2 mode-wide decodeMode (λ m v. decode-mode m) n cells a b
 
 -- IN A TABLE THAT IS THE WRITING-OUT OF MODES, THE ROW OF MODE i LIES AT i TIMES THE WIDTH; d stands for a mode past the last
-pub modes-lie : (ms : List Mode) (t : List ℕ) → t ≡ pad (length t) (rows modeRow ms) → modeWidth * length ms ≤ length t → (i : ℕ) → i < length ms → (d : Mode) → Lies t (modeWidth * i) (modeRow (getD ms i d))
-modes-lie ms t e h i k d = rows-lie modeRow 2 mode-wide d ms t e h i k
+pub modes-stored : (ms : List Mode) (t : List ℕ) → t ≡ pad (length t) (rows modeRow ms) → modeWidth * length ms ≤ length t → (i : ℕ) → i < length ms → (d : Mode) → Stored t (modeWidth * i) (modeRow (getD ms i d))
+modes-stored ms t e h i k d = rows-stored modeRow 2 mode-wide d ms t e h i k
 
 -- what each place of a mode that lies at `at` holds
-module _ {t : List ℕ} {at : ℕ} (m : Mode) (l : Lies t at (modeRow m)) where
+module _ {t : List ℕ} {at : ℕ} (m : Mode) (l : Stored t at (modeRow m)) where
   pub blockflag-is : getD t at 0 ≡ m .blockflag
   unfolding modeRow
-  blockflag-is = lies-first l
+  blockflag-is = stored-first l
 
   pub mapping-is : getD t (at + 1) 0 ≡ m .mapping
   unfolding modeRow
-  mapping-is = lies-first (lies-rest l)
+  mapping-is = stored-first (stored-rest l)

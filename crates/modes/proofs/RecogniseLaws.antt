@@ -7,7 +7,7 @@ use mathlib.Core.Bool.{true, false}
 use mathlib.Core.Logic.{_↔_}
 use mathlib.Core.Path.{_≡_, refl}
 use lib.Dec.{ltb}
-use Rattle.reading.proofs.Stands.{iff-false}
+use Rattle.reading.proofs.Encodes.{iff-false}
 use Rattle.reading.proofs.PairRows.{PairRow, pair-laws}
 use Rattle.modes.specs.Layout.{modeRow}
 use Rattle.modes.specs.Valid.{ValidMode}

@@ -5,7 +5,7 @@ use mathlib.Core.List.{List}
 use mathlib.Core.Path.{_≡_}
 use lib.ListN.{length, take}
 use Rattle.reading.specs.Pad.{pad}
-use Rattle.reading.proofs.Stands.{pad-take}
+use Rattle.reading.proofs.Encodes.{pad-take}
 
 -- the list itself, at the front of its buffer
 pub take-pad : (room : ℕ) (xs : List ℕ) {n : ℕ} → length xs ≡ n → n ≤ room → take n (pad room xs) ≡ xs

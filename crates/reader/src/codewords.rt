@@ -21,11 +21,11 @@ pub extern "C" fn torchvalley_enter_lengths(lengths: &[u8], answers: &mut [u64])
 // Hands out each used entry's codeword, in entry order, the lowest free of its length; 0 for an unused entry, and in places behind them. The answer is 0, or
 // 7, or 8; or 17, where the lent list has fewer places than there are entries. On a refusal the lent list is all zeros.
 #[no_mangle]
-pub extern "C" fn torchvalley_codewords(lengths: &[u8], words: &mut [u32]) -> u32
-    ensures { λ r. ⌜ r ≡ refusal (assigned (now (lengths .entry)) (length (now (words .entry)))) ⌝ }
-    ensures { λ _. ⌜ now (words .exit) ≡ written (assigned (now (lengths .entry)) (length (now (words .entry)))) (now (lengths .entry)) (length (now (words .entry))) ⌝ }
+pub extern "C" fn torchvalley_codewords(lengths: &[u8], codewords: &mut [u32]) -> u32
+    ensures { λ r. ⌜ r ≡ refusal (assigned (now (lengths .entry)) (length (now (codewords .entry)))) ⌝ }
+    ensures { λ _. ⌜ now (codewords .exit) ≡ written (assigned (now (lengths .entry)) (length (now (codewords .entry)))) (now (lengths .entry)) (length (now (codewords .entry))) ⌝ }
 {
-    number_of(codeword_assignment::book::assign_codewords(lengths, words))
+    number_of(codeword_assignment::book::assign_codewords(lengths, codewords))
 }
 
 fn number_of(assigned: Assigned) -> u32

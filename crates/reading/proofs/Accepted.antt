@@ -8,7 +8,7 @@ use lib.ListN.{length}
 use Rattle.reading.specs.Outcome.{Outcome, ok, then}
 use Rattle.reading.specs.Reader.{Reader, many}
 use Rattle.reading.specs.Lists.{all}
-use Rattle.reading.specs.Stand.{Each}
+use Rattle.reading.specs.Encoding.{Each}
 use Rattle.reading.proofs.Outcomes.{ok-is, then-ok}
 use Rattle.reading.proofs.Readers.{Long, many-long}
 

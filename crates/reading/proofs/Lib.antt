@@ -3,12 +3,12 @@ pub mod Readers
 pub mod Pads
 pub mod Count
 pub mod Least
-pub mod Lent
+pub mod BufferLaws
 pub mod Tabulate
 pub mod Tables
-pub mod Stands
+pub mod Encodes
 pub mod Accepted
 pub mod PairRows
 pub mod Runs
 pub mod Parts
-pub mod Lies
+pub mod Stored

@@ -9,8 +9,8 @@ use mathlib.Core.Logic.{_↔_}
 use mathlib.Core.Path.{_≡_, refl, sym, ap, subst, _∙_}
 use lib.ListN.{length, getD, take, drop}
 use lib.Seq.{drop-cons}
-use Rattle.reading.specs.Stand.{Zeros, RowOf, Stands}
-use Rattle.reading.proofs.Stands.{iff-false, not-said, Left, rows-start, rows-next, rows-stop, rows-end, stands-long}
+use Rattle.reading.specs.Encoding.{Zeros, RowOf, Encodes}
+use Rattle.reading.proofs.Encodes.{iff-false, not-said, Left, rows-start, rows-next, rows-stop, rows-end, encodes-long}
 
 -- a row holds an item's two numbers, from which the item can be made again
 pub record PairRow {A : Type 0} (row : A → List ℕ) (pair : ℕ → ℕ → A) : Type 0 where
@@ -42,8 +42,8 @@ module _ {A : Type 0} {row : A → List ℕ} {pair : ℕ → ℕ → A} (Valid :
     pub left : Left row Valid 2 (P .wide) n cells i
 
   module _ (n : ℕ) (cells : List ℕ) where
-    pub too-short : length cells < 2 * n → (false ≡ true) ↔ Stands row Valid n cells
-    too-short h = iff-false (λ s. let l = stands-long row Valid 2 (P .wide) n cells s in omega arith)
+    pub too-short : length cells < 2 * n → (false ≡ true) ↔ Encodes row Valid n cells
+    too-short h = iff-false (λ s. let l = encodes-long row Valid 2 (P .wide) n cells s in omega arith)
 
     pub find-start : 2 * n ≤ length cells → Finding n cells 0
     find-start h = record { within = omega arith; room = h; left = rows-start row Valid 2 (P .wide) n cells }
@@ -53,7 +53,7 @@ module _ {A : Type 0} {row : A → List ℕ} {pair : ℕ → ℕ → A} (Valid :
         here : 2 * i + 2 ≤ length cells
         here = let g = f .room in omega arith
 
-        pub find-stop : not r ≡ true → (false ≡ true) ↔ Stands row Valid n cells
+        pub find-stop : not r ≡ true → (false ≡ true) ↔ Encodes row Valid n cells
         find-stop e =
             rows-stop row Valid 2 (P .wide) n cells i (f .left) h
             (λ x. not-said said (not-true r e) (pair-row _ _ .0 (subst (RowOf row Valid) (two cells i here) x)))
@@ -68,7 +68,7 @@ module _ {A : Type 0} {row : A → List ℕ} {pair : ℕ → ℕ → A} (Valid :
                   (subst (RowOf row Valid) (sym (two cells i here)) (pair-row _ _ .1 (said .0 (not-false r e))));
             }
 
-      pub find-end : n ≤ i → {r : Bool} → (r ≡ true) ↔ Zeros (drop (2 * n) cells) → (r ≡ true) ↔ Stands row Valid n cells
+      pub find-end : n ≤ i → {r : Bool} → (r ≡ true) ↔ Zeros (drop (2 * n) cells) → (r ≡ true) ↔ Encodes row Valid n cells
       find-end h said =
           let s = rows-end row Valid 2 (P .wide) n cells i (f .left) (f .within) h in
           ((λ e. s .1 (said .0 e)), (λ a. said .1 (s .0 a)))

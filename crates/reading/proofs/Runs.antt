@@ -8,17 +8,17 @@ use lib.Seq.{sets, set-append-left}
 use Rattle.reading.specs.Pad.{pad}
 use Rattle.reading.proofs.Pads.{pad-nil}
 
-set-behind : (xs ys : List ℕ) (j v : ℕ) → set (xs ++ ys) (length xs + j) v ≡ xs ++ set ys j v
-set-behind [] ys j v = let e : 0 + j ≡ j = omega arith in rw e
-set-behind (x ∷ xs) ys j v = let e : suc (length xs) + j ≡ suc (length xs + j) = omega arith in rw e (ap (λ (l : List ℕ). x ∷ l) (set-behind xs ys j v))
+set-after : (xs ys : List ℕ) (j v : ℕ) → set (xs ++ ys) (length xs + j) v ≡ xs ++ set ys j v
+set-after [] ys j v = let e : 0 + j ≡ j = omega arith in rw e
+set-after (x ∷ xs) ys j v = let e : suc (length xs) + j ≡ suc (length xs + j) = omega arith in rw e (ap (λ (l : List ℕ). x ∷ l) (set-after xs ys j v))
 
 -- a run that begins behind xs
-pub sets-behind : (xs ys : List ℕ) (i j : ℕ) (vs : List ℕ) → i ≡ length xs + j → sets (xs ++ ys) i vs ≡ xs ++ sets ys j vs
-sets-behind xs ys i j [] e = refl
-sets-behind xs ys i j (v ∷ vs) e =
+pub sets-after : (xs ys : List ℕ) (i j : ℕ) (vs : List ℕ) → i ≡ length xs + j → sets (xs ++ ys) i vs ≡ xs ++ sets ys j vs
+sets-after xs ys i j [] e = refl
+sets-after xs ys i j (v ∷ vs) e =
     ap (λ (k : ℕ). sets (set (xs ++ ys) k v) (suc i) vs) e
-    ∙ ap (λ (l : List ℕ). sets l (suc i) vs) (set-behind xs ys j v)
-    ∙ sets-behind xs (set ys j v) (suc i) (suc j) vs (omega arith)
+    ∙ ap (λ (l : List ℕ). sets l (suc i) vs) (set-after xs ys j v)
+    ∙ sets-after xs (set ys j v) (suc i) (suc j) vs (omega arith)
 
 -- a run that ends before ys
 pub sets-before : (xs ys : List ℕ) (i : ℕ) (vs : List ℕ) → i + length vs ≤ length xs → sets (xs ++ ys) i vs ≡ sets xs i vs ++ ys

@@ -5,4 +5,4 @@ pub mod Least
 pub mod Tabulate
 pub mod Lists
 pub mod Table
-pub mod Stand
+pub mod Encoding

@@ -4,7 +4,7 @@ ghost use mathlib.Core.Bool.{true};
 ghost use mathlib.Core.Logic.{_↔_};
 ghost use mathlib.Core.Path.{_≡_};
 ghost use lib.ListN.{drop};
-ghost use Rattle.reading.specs.Stand.{Zeros};
+ghost use Rattle.reading.specs.Encoding.{Zeros};
 
 pub fn zeros_u8(buffer: &[u8], from: usize) -> bool
     ensures { λ r. ⌜ (r ≡ true) ↔ Zeros (drop from (now (buffer .entry))) ⌝ }

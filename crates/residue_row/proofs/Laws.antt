@@ -1,4 +1,4 @@
--- Which number of a residue each place of its rows holds: with `residues-lie`, what the functions of src/lib.rt give; and laws of reading a place as the code
+-- Which number of a residue each place of its rows holds: with `residues-stored`, what the functions of src/lib.rt give; and laws of reading a place as the code
 -- asks them. Assumes nothing.
 use Prim.Native.Nat.{ℕ, zero, suc, _+_, _*_, _≤_, _<_}
 use native.Mathlib.Omega.{arith}
@@ -9,7 +9,7 @@ use lib.ListN.{length, getD, List·getD-append}
 use lib.Seq.{getD-append-add}
 use Rattle.reading.specs.Pad.{pad}
 use Rattle.reading.specs.Lists.{rows}
-use Rattle.reading.proofs.Lies.{Lies, lies-number, rows-lie}
+use Rattle.reading.proofs.Stored.{Stored, stored-number, rows-stored}
 use Rattle.residues.specs.Content.{Residue}
 use Rattle.residues.specs.Reading.{Books}
 use Rattle.residues.specs.Layout.{headWidth, planWidth, headRow, planTable}
@@ -45,18 +45,18 @@ rows8-at (row ∷ plan) r (suc class) pass k h g e =
     rw f (getD-append-add row (rows (λ row. row) plan) (8 * class + pass) 0 ∙ rows8-at plan (r .1) class pass (8 * class + pass) (omega arith) g refl)
 
 -- the rows of a residue that lies in the tables as number i
-pub record ResidueLies (residues plans : List ℕ) (i : ℕ) (r : Residue) : Type 0 where
-  pub head : Lies residues (headWidth * i) (headRow r)
-  pub plan : Lies plans (planWidth * i) (planTable r)
+pub record ResidueStored (residues plans : List ℕ) (i : ℕ) (r : Residue) : Type 0 where
+  pub head : Stored residues (headWidth * i) (headRow r)
+  pub plan : Stored plans (planWidth * i) (planTable r)
 
 -- IN TABLES THAT ARE THE WRITING-OUT OF RESIDUES, EACH LIES AT ITS NUMBER; d stands for a residue past the last
-pub residues-lie : (rs : List Residue) (residues plans : List ℕ) → residues ≡ pad (length residues) (rows headRow rs) → plans ≡ pad (length plans) (rows planTable rs)
-    → headWidth * length rs ≤ length residues → planWidth * length rs ≤ length plans → (i : ℕ) → i < length rs → (d : Residue) → ResidueLies residues plans i (getD rs i d)
-residues-lie rs residues plans e f h g i k d =
-    record { head = rows-lie headRow 6 length-headRow d rs residues e h i k; plan = rows-lie planTable 512 length-planTable d rs plans f g i k }
+pub residues-stored : (rs : List Residue) (residues plans : List ℕ) → residues ≡ pad (length residues) (rows headRow rs) → plans ≡ pad (length plans) (rows planTable rs)
+    → headWidth * length rs ≤ length residues → planWidth * length rs ≤ length plans → (i : ℕ) → i < length rs → (d : Residue) → ResidueStored residues plans i (getD rs i d)
+residues-stored rs residues plans e f h g i k d =
+    record { head = rows-stored headRow 6 length-headRow d rs residues e h i k; plan = rows-stored planTable 512 length-planTable d rs plans f g i k }
 
 -- what the places of a residue that lies as number i hold
-module _ {residues plans : List ℕ} {i : ℕ} {r : Residue} (l : ResidueLies residues plans i r) where
+module _ {residues plans : List ℕ} {i : ℕ} {r : Residue} (l : ResidueStored residues plans i r) where
   head-number : (j : ℕ) → j < 6 → getD residues (6 * i + j) 0 ≡ getD (headRow r) j 0
   head-number j h = let n = length-headRow r in l .head .same j (omega arith)
 
@@ -80,5 +80,5 @@ module _ {residues plans : List ℕ} {i : ℕ} {r : Residue} (l : ResidueLies re
   plan-place-is v class pass c p =
       let high = v .classes-high in
       let many = v .plan in
-      lies-number 512 (rows (λ row. row) (r .plan)) (l .plan) (8 * class + pass) (omega arith)
+      stored-number 512 (rows (λ row. row) (r .plan)) (l .plan) (8 * class + pass) (omega arith)
       ∙ rows8-at (r .plan) (v .passes) class pass (8 * class + pass) (omega arith) p refl

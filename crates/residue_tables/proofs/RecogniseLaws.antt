@@ -11,7 +11,7 @@ use lib.Dec.{eqb, leb}
 use lib.ListN.{length, take, drop, replicate}
 use lib.Seq.{getD-drop, drop-drop}
 use Rattle.reading.specs.Lists.{all}
-use Rattle.reading.specs.Stand.{Zeros}
+use Rattle.reading.specs.Encoding.{Zeros}
 use Rattle.reading.proofs.Least.{and-split}
 use Rattle.reading.proofs.Parts.{part-slice}
 use Rattle.residues.specs.Reading.{Books, Head, placeFits}
@@ -132,8 +132,8 @@ module _ (count : ℕ) (t residues plans : List ℕ) (i : ℕ) (h : D.Head) (e :
         ∙ rw (a, b, ew, ec, ← drop-drop (8 * h .classifications) (512 * i) plans)
 
     -- what lies behind the places in use, of the 512 of a plan
-    behind-used : drop (8 * c) (take (512 * w + 512 - 512 * w) (drop (512 * w) plans)) ≡ take (512 * w + 512 - (512 * w + 8 * c)) (drop (512 * w + 8 * c) plans)
-    behind-used =
+    after-used : drop (8 * c) (take (512 * w + 512 - 512 * w) (drop (512 * w) plans)) ≡ take (512 * w + 512 - (512 * w + 8 * c)) (drop (512 * w + 8 * c) plans)
+    after-used =
         let a : 512 * w + 512 - 512 * w ≡ 512 = omega arith in
         let b : 512 * w + 512 - (512 * w + 8 * c) ≡ 512 - 8 * c = omega arith in
         rw (a, b, ← drop-drop (8 * c) (512 * w) plans) (sym (part-slice (8 * c) 512 (drop (512 * w) plans)))
@@ -153,19 +153,19 @@ module _ (count : ℕ) (t residues plans : List ℕ) (i : ℕ) (h : D.Head) (e :
 
           pub residue-whole : not r₂ ≡ false → (r₃ : Bool) → (r₃ ≡ true) ↔ Zeros (drop (8 * c) (take (512 * w + 512 - 512 * w) (drop (512 * w) plans))) → r₃ ≡ whole
           residue-whole q r₃ z =
-              let p₃ : r₃ ≡ all (λ b. eqb b 0) (take (512 * w + 512 - (512 * w + 8 * c)) (drop (512 * w + 8 * c) plans)) = judged z ∙ ap (all (λ b. eqb b 0)) behind-used in
+              let p₃ : r₃ ≡ all (λ b. eqb b 0) (take (512 * w + 512 - (512 * w + 8 * c)) (drop (512 * w + 8 * c) plans)) = judged z ∙ ap (all (λ b. eqb b 0)) after-used in
               sym (parts ∙ rw (← ph, not-false rh qh, ← p₁, not-false r₁ q₁, ← p₂, not-false r₂ q, ← p₃))
 
 -- all residues: i are done
 module _ (books : Books) (n : ℕ) (residues plans : List ℕ) where
-  pub record Standing (i : ℕ) : Type 0 where
+  pub record Recognising (i : ℕ) : Type 0 where
     pub within : i ≤ n
     pub rest : residuesTest books (n - i) (drop (6 * i) residues) (drop (512 * i) plans) ≡ residuesTest books n residues plans
 
-  pub standing-start : Standing 0
-  standing-start = record { within = omega arith; rest = rw sub-zero }
+  pub recognising-start : Recognising 0
+  recognising-start = record { within = omega arith; rest = rw sub-zero }
 
-  module _ {i : ℕ} (w : Standing i) where
+  module _ {i : ℕ} (w : Recognising i) where
     turn : i < n
         → residuesTest books (n - i) (drop (6 * i) residues) (drop (512 * i) plans)
         ≡ residueTest books (drop (6 * i) residues) (drop (512 * i) plans) && residuesTest books (n - (i + 1)) (drop (6 * (i + 1)) residues) (drop (512 * (i + 1)) plans)
@@ -177,21 +177,21 @@ module _ (books : Books) (n : ℕ) (residues plans : List ℕ) where
         rw (e, drop-drop 6 (6 * i) residues, drop-drop 512 (512 * i) plans, a, b)
 
     module _ (h : i < n) {r : Bool} (p : r ≡ residueTest books (drop (6 * i) residues) (drop (512 * i) plans)) where
-      pub standing-failed : not r ≡ true → residuesTest books n residues plans ≡ false
-      standing-failed q = sym (w .rest) ∙ turn h ∙ rw (← p, not-true r q)
+      pub recognising-failed : not r ≡ true → residuesTest books n residues plans ≡ false
+      recognising-failed q = sym (w .rest) ∙ turn h ∙ rw (← p, not-true r q)
 
-      pub standing-next : not r ≡ false → Standing (i + 1)
-      standing-next q =
+      pub recognising-next : not r ≡ false → Recognising (i + 1)
+      recognising-next q =
           let k : residuesTest books (n - (i + 1)) (drop (6 * (i + 1)) residues) (drop (512 * (i + 1)) plans) ≡ residuesTest books (n - i) (drop (6 * i) residues) (drop (512 * i) plans) =
           sym (turn h ∙ rw (← p, not-false r q)) in
           record { within = omega arith; rest = k ∙ w .rest }
 
     -- the zeros behind the last residue
     module _ (h : n ≤ i) {m : ℕ} (em : m ≡ n) where
-      behind : residuesTest books n residues plans
+      after : residuesTest books n residues plans
           ≡ all (λ b. eqb b 0) (drop (6 * m) residues) && all (λ b. eqb b 0) (drop (512 * m) plans)
       unfolding residuesTest
-      behind =
+      after =
           let a = w .within in
           let x : n - i ≡ 0 = omega arith in
           let y : i ≡ m = omega arith in
@@ -202,11 +202,11 @@ module _ (books : Books) (n : ℕ) (residues plans : List ℕ) where
         p = judged z
 
         pub tail-failed : not r ≡ true → residuesTest books n residues plans ≡ false
-        tail-failed q = behind ∙ rw (← p, not-true r q)
+        tail-failed q = after ∙ rw (← p, not-true r q)
 
         pub tail-judged : not r ≡ false → {m₂ : ℕ} → m₂ ≡ n → {r₂ : Bool} → (r₂ ≡ true) ↔ Zeros (drop (512 * m₂) plans)
             → residuesTest books n residues plans ≡ r₂
         tail-judged q {m₂} e {r₂} z₂ =
             let s : r₂ ≡ all (λ b. eqb b 0) (drop (512 * m) plans) =
             judged z₂ ∙ ap (λ (k : ℕ). all (λ b. eqb b 0) (drop (512 * k) plans)) (e ∙ sym em) in
-            behind ∙ rw (← p, not-false r q) (sym s)
+            after ∙ rw (← p, not-false r q) (sym s)

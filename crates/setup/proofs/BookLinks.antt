@@ -13,7 +13,7 @@ use Rattle.book.specs.Content.{Book}
 use Rattle.book.specs.Layout.{bookWidth, bookRow, numberAt}
 use Rattle.book_head.specs.Reading.{Before}
 use Rattle.books.specs.Rows.{bookRows, andThese}
-use Rattle.books.proofs.Laid.{rows-length, row-at}
+use Rattle.books.proofs.BooksStored.{rows-length, row-at}
 use Rattle.residues.specs.Reading.{Books}
 use Rattle.residues.specs.FromTable.{booksOf}
 use Rattle.setup.specs.Content.{booksKnown}

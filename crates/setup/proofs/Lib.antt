@@ -1,4 +1,4 @@
-pub mod LaidLaws
+pub mod ReadIntoLaws
 pub mod TableLaws
 pub mod BookLinks
 pub mod Whole

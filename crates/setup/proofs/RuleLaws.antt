@@ -9,7 +9,7 @@ use mathlib.Core.Path.{_≡_}
 use lib.Dec.{eqb}
 use lib.ListN.{length}
 use Rattle.reading.specs.Lists.{sum}
-use Rattle.reading.specs.Stand.{Each}
+use Rattle.reading.specs.Encoding.{Each}
 use Rattle.limits.specs.declared.Limits.{Limits}
 use Rattle.rules.specs.Rules as Rule
 use Rattle.book_lengths.proofs.Verdict.{accepted-meets, meets-accepted}

@@ -8,7 +8,7 @@ use mathlib.Core.Path.{_≡_, refl, sym, ap, subst, _∙_}
 use lib.ListN.{length, replicate}
 use Rattle.reading.specs.Outcome.{ok, refusal}
 use Rattle.reading.specs.Reader.{Reader, many}
-use Rattle.reading.specs.Stand.{Each}
+use Rattle.reading.specs.Encoding.{Each}
 use Rattle.reading.specs.Pad.{pad}
 use Rattle.reading.proofs.Outcomes.{same-ok, then-ok, need-ok}
 use Rattle.reading.proofs.Accepted.{many-number}

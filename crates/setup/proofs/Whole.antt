@@ -12,14 +12,14 @@ use Rattle.mappings.specs.Reading.{mapping}
 use Rattle.modes.specs.Reading.{mode}
 use Rattle.setup.specs.Content.{booksKnown, known}
 use Rattle.setup.specs.Reading.{bookSection, section, timeValue, sections, setup}
-use Rattle.setup.specs.Parts.{bookPart, floorPart, mappingPart, behindBooks, restPart, behindHeader, packetPart}
+use Rattle.setup.specs.Parts.{bookPart, floorPart, mappingPart, afterBooks, restPart, afterHeader, packetPart}
 
 by-cases : {A P : Type 0} (o : Outcome A) → ((a : A) → o ≡ ok a → P) → ((z : Refusal) → o ≡ bad z → P) → P
 by-cases (ok a) f g = f a refl
 by-cases (bad z) f g = g z refl
 
 pub setup-whole : (limits : Limits) (channels : ℕ) (s : List ℕ) → setup limits channels s ≡ then (packetPart limits channels s) (λ x. ok (x .0))
-unfolding setup sections packetPart behindHeader bookPart restPart behindBooks floorPart mappingPart booksKnown
+unfolding setup sections packetPart afterHeader bookPart restPart afterBooks floorPart mappingPart booksKnown
 setup-whole limits channels s =
     by-cases (commonHeader 5 s) (λ k e₀.
     by-cases (bookSection limits s k) (λ bs e₁.

@@ -7,7 +7,7 @@ use mathlib.Core.Path.{_≡_}
 use lib.Dec.{ltb, leb}
 use lib.ListN.{length}
 use Rattle.reading.specs.Lists.{all}
-use Rattle.reading.specs.Stand.{Each}
+use Rattle.reading.specs.Encoding.{Each}
 use Rattle.book.specs.Content.{Book}
 use Rattle.books.specs.Valid.{NoLookup, SomeLookup}
 use Rattle.floor_class.specs.Content.{Class}

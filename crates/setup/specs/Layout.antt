@@ -92,12 +92,12 @@ cleared t =
 
 -- the ten buffers as the program has them
 abbrev pub tables : List ℕ → List ℕ → List ℕ → List ℕ → List ℕ → List ℕ → List ℕ → List ℕ → List ℕ → List ℕ → Tables
-tables counts books lengths words multiplicands floors residues plans mappings modes =
+tables counts books lengths codewords multiplicands floors residues plans mappings modes =
     record {
       counts = counts;
       books = books;
       lengths = lengths;
-      codewords = words;
+      codewords = codewords;
       multiplicands = multiplicands;
       floors = floors;
       residues = residues;

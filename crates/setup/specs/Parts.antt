@@ -8,7 +8,7 @@ use Rattle.reading.specs.Outcome.{refusal, Outcome, ok, then, need}
 use Rattle.reading.specs.Reader.{Reader}
 use Rattle.reading.specs.Lists.{rows}
 use Rattle.reading.specs.Pad.{pad}
-use Rattle.reading.specs.Stand.{Zeros}
+use Rattle.reading.specs.Encoding.{Zeros}
 use Rattle.bits.specs.declared.Step.{Step}
 use Rattle.bits.specs.Cursors.{stepped}
 use Rattle.header.specs.Header.{commonHeader, framing}
@@ -16,7 +16,7 @@ use Rattle.limits.specs.declared.Limits.{Limits}
 use Rattle.identification.specs.declared.Identity.{Identity}
 use Rattle.identification.specs.Sound.{isSound}
 use Rattle.book.specs.Content.{Book}
-use Rattle.books.specs.Lent.{Lent}
+use Rattle.books.specs.BookBuffers.{BookBuffers}
 use Rattle.books.specs.Rows.{bookRows, allLengths, allCodewords, allMultiplicands}
 use Rattle.floors.specs.Content.{Floor}
 use Rattle.floors.specs.Layout.{floorRow}
@@ -36,36 +36,36 @@ use Rattle.setup.specs.Reading.{bookSection, section, timeValue}
 use Rattle.setup.specs.Layout.{Tables, hasRoom, writtenOut, cleared}
 
 -- a function that answers r has read what o says; where that is a content, Lies says how it lies in the tables
-pub record Laid {C : Type 0} (o : Outcome (C × ℕ)) (r : Step) (Lies : C → Type 0) : Type 0 where
+pub record ReadInto {C : Type 0} (o : Outcome (C × ℕ)) (r : Step) (Stored : C → Type 0) : Type 0 where
   pub step : stepped r ≡ then o (λ x. ok (x .1))
-  pub lies : (x : C × ℕ) → o ≡ ok x → Lies (x .0)
+  pub stored : (x : C × ℕ) → o ≡ ok x → Stored (x .0)
 
 -- n items with their rows in a table that was lent as `entry`
 module _ {A : Type 0} where
-  pub record RowsLie (row : A → List ℕ) (n : ℕ) (entry exit : List ℕ) (items : List A) : Type 0 where
+  pub record RowsStored (row : A → List ℕ) (n : ℕ) (entry exit : List ℕ) (items : List A) : Type 0 where
     pub count : n ≡ length items
     pub cells : exit ≡ pad (length entry) (rows row items)
 
 -- the same of books and of residues, which have several tables: each as it was lent, and as it is left
-pub record BooksLie (n : ℕ) (b b′ l l′ w w′ m m′ : List ℕ) (bs : List Book) : Type 0 where
+pub record BooksStored (n : ℕ) (b b′ l l′ w w′ m m′ : List ℕ) (bs : List Book) : Type 0 where
   pub count : n ≡ length bs
   pub books : b′ ≡ pad (length b) (bookRows (record { entries = 0; values = 0 }) bs)
   pub lengths : l′ ≡ pad (length l) (allLengths bs)
   pub codewords : w′ ≡ pad (length w) (allCodewords bs)
   pub multiplicands : m′ ≡ pad (length m) (allMultiplicands bs)
 
-pub record ResiduesLie (n : ℕ) (r r′ p p′ : List ℕ) (rs : List Residue) : Type 0 where
+pub record ResiduesStored (n : ℕ) (r r′ p p′ : List ℕ) (rs : List Residue) : Type 0 where
   pub count : n ≡ length rs
   pub residues : r′ ≡ pad (length r) (rows headRow rs)
   pub plans : p′ ≡ pad (length p) (rows planTable rs)
 
-pub record FloorsLie (floors residues : ℕ) (f f′ r r′ p p′ : List ℕ) (x : List Floor × List Residue) : Type 0 where
-  pub floor-rows : RowsLie floorRow floors f f′ (x .0)
-  pub residue-rows : ResiduesLie residues r r′ p p′ (x .1)
+pub record FloorsStored (floors residues : ℕ) (f f′ r r′ p p′ : List ℕ) (x : List Floor × List Residue) : Type 0 where
+  pub floor-rows : RowsStored floorRow floors f f′ (x .0)
+  pub residue-rows : ResiduesStored residues r r′ p p′ (x .1)
 
-pub record MappingsLie (mappings modes : ℕ) (m m′ o o′ : List ℕ) (x : List Mapping × List Mode) : Type 0 where
-  pub mapping-rows : RowsLie mappingRow mappings m m′ (x .0)
-  pub mode-rows : RowsLie modeRow modes o o′ (x .1)
+pub record MappingsStored (mappings modes : ℕ) (m m′ o o′ : List ℕ) (x : List Mapping × List Mode) : Type 0 where
+  pub mapping-rows : RowsStored mappingRow mappings m m′ (x .0)
+  pub mode-rows : RowsStored modeRow modes o o′ (x .1)
 
 -- the limits within which the program can count
 pub record Small (limits : Limits) : Type 0 where
@@ -74,11 +74,11 @@ pub record Small (limits : Limits) : Type 0 where
   pub few-values : limits .multiplicands ≤ 16777216
 
 -- cleared tables with room for books
-pub record BooksLent (limits : Limits) (books lengths words multiplicands : List ℕ) : Type 0 where
-  pub lent : Lent limits books lengths words multiplicands
+pub record ClearedBookBuffers (limits : Limits) (books lengths codewords multiplicands : List ℕ) : Type 0 where
+  pub buffers : BookBuffers limits books lengths codewords multiplicands
   pub no-books : Zeros books
   pub no-lengths : Zeros lengths
-  pub no-words : Zeros words
+  pub no-codewords : Zeros codewords
   pub no-multiplicands : Zeros multiplicands
 
 -- the books, and behind them the time values
@@ -100,8 +100,8 @@ mappingPart known s k =
     ok ((ms .0, modes .0), modes .1)))
 
 -- what follows the books
-unfoldable pub behindBooks : ℕ → Books → Reader ((List Floor × List Residue) × (List Mapping × List Mode))
-behindBooks channels books s k =
+unfoldable pub afterBooks : ℕ → Books → Reader ((List Floor × List Residue) × (List Mapping × List Mode))
+afterBooks channels books s k =
     then (floorPart books s k) (λ x.
     then (mappingPart (known channels (x .0 .0) (x .0 .1)) s (x .1)) (λ y.
     ok ((x .0, y .0), y .1)))
@@ -111,30 +111,30 @@ setupWith bs x = record { books = bs; floors = x .0 .0; residues = x .0 .1; mapp
 
 -- and the framing bit
 unfoldable pub restPart : ℕ → Books → Reader ((List Floor × List Residue) × (List Mapping × List Mode))
-restPart channels books s k = then (behindBooks channels books s k) (λ x. then (framing s (x .1)) (λ f. ok (x .0, f .1)))
+restPart channels books s k = then (afterBooks channels books s k) (λ x. then (framing s (x .1)) (λ f. ok (x .0, f .1)))
 
 -- what follows the header
-unfoldable pub behindHeader : Limits → ℕ → Reader Setup
-behindHeader limits channels s k =
+unfoldable pub afterHeader : Limits → ℕ → Reader Setup
+afterHeader limits channels s k =
     then (bookPart limits s k) (λ bs.
     then (restPart channels (booksKnown (bs .0)) s (bs .1)) (λ x.
     ok (setupWith (bs .0) (x .0), x .1)))
 
 -- the whole packet, with that position
 unfoldable pub packetPart : Limits → ℕ → List ℕ → Outcome (Setup × ℕ)
-packetPart limits channels s = then (commonHeader 5 s) (λ k. behindHeader limits channels s k)
+packetPart limits channels s = then (commonHeader 5 s) (λ k. afterHeader limits channels s k)
 
 -- and behind the judging of what was handed in beside it
 unfoldable pub checkedPart : Limits → Identity → List ℕ → Tables → Outcome (Setup × ℕ)
 checkedPart limits i s t = need (isSound (limits .channels) i) (refusal 18 0) (need (hasRoom limits t) (refusal 17 0) (packetPart limits (i .channels) s))
 
 -- how floors and all that follows them lie in the tables
-pub record BehindLie (floors residues mappings modes : ℕ) (f f′ r r′ p p′ m m′ o o′ : List ℕ) (x : (List Floor × List Residue) × (List Mapping × List Mode)) : Type 0 where
-  pub floor-part : FloorsLie floors residues f f′ r r′ p p′ (x .0)
-  pub mapping-part : MappingsLie mappings modes m m′ o o′ (x .1)
+pub record AfterBooksStored (floors residues mappings modes : ℕ) (f f′ r r′ p p′ m m′ o o′ : List ℕ) (x : (List Floor × List Residue) × (List Mapping × List Mode)) : Type 0 where
+  pub floor-part : FloorsStored floors residues f f′ r r′ p p′ (x .0)
+  pub mapping-part : MappingsStored mappings modes m m′ o o′ (x .1)
 
 -- the same with the counts, behind n books
-pub record RestLie (n : ℕ) (c c′ f f′ r r′ p p′ m m′ o o′ : List ℕ) (x : (List Floor × List Residue) × (List Mapping × List Mode)) : Type 0 where
+pub record RestStored (n : ℕ) (c c′ f f′ r r′ p p′ m m′ o o′ : List ℕ) (x : (List Floor × List Residue) × (List Mapping × List Mode)) : Type 0 where
   pub counts : c′ ≡ pad (length c) (n ∷ length (x .0 .0) ∷ length (x .0 .1) ∷ length (x .1 .0) ∷ length (x .1 .1) ∷ [])
   pub floors : f′ ≡ pad (length f) (rows floorRow (x .0 .0))
   pub residues : r′ ≡ pad (length r) (rows headRow (x .0 .1))

@@ -2,7 +2,7 @@
 -- (specs/Rules.antt) put together; proofs/RuleLaws.antt shows that it is both and no more.
 use Prim.Native.Nat.{ℕ}
 use lib.ListN.{length}
-use Rattle.reading.specs.Stand.{Each}
+use Rattle.reading.specs.Encoding.{Each}
 use Rattle.limits.specs.declared.Limits.{Limits}
 use Rattle.books.specs.Valid.{ValidBooks}
 use Rattle.floors.specs.Valid.{ValidFloor}

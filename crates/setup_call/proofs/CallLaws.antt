@@ -14,11 +14,11 @@ use Rattle.setup.specs.Reading.{setup}
 use Rattle.setup.specs.Layout.{Tables, tables, hasRoom, cleared}
 use Rattle.setup.specs.Call.{setupOf, Left, left, answered, setupCall}
 use Rattle.setup.specs.Accepted.{AcceptedSound}
-use Rattle.setup.specs.Parts.{Laid, WrittenOut, packetPart, checkedPart}
-use Rattle.setup.proofs.LaidLaws.{laid-bad, laid-ok}
+use Rattle.setup.specs.Parts.{ReadInto, WrittenOut, packetPart, checkedPart}
+use Rattle.setup.proofs.ReadIntoLaws.{read-into-bad, read-into-ok}
 use Rattle.setup.proofs.Whole.{setup-whole}
 use Rattle.setup.proofs.ValidLaws.{accepts}
-use Rattle.setup_lent.specs.Settled.{settled}
+use Rattle.setup_buffers.specs.Settled.{settled}
 
 -- the lengths of the tables are all that clearing depends on
 pub record SameLengths (t u : Tables) : Type 0 where
@@ -53,12 +53,12 @@ call-whole limits i s t = go (isSound (limits .channels) i) (hasRoom limits t)
     go true true = setup-whole limits (i .channels) s
 
 -- what an answer leaves, once the packet was judged and read
-settled-call : (limits : Limits) (i : Identity) (s : List ℕ) (t : Tables) {v : Tables} (answer : Step) → Laid (checkedPart limits i s t) answer (WrittenOut t v) → SameLengths v t
+settled-call : (limits : Limits) (i : Identity) (s : List ℕ) (t : Tables) {v : Tables} (answer : Step) → ReadInto (checkedPart limits i s t) answer (WrittenOut t v) → SameLengths v t
     → settled answer v ≡ setupCall limits i s t
 unfolding settled setupCall answered
-settled-call limits i s t (Next c) l same = let a = laid-ok l refl in rw (call-whole limits i s t, a .1) (ap (left 0) (a .2))
-settled-call limits i s t (Refused z) l same = rw (call-whole limits i s t, laid-bad l refl) (ap (left (z .number)) (same-cleared same))
+settled-call limits i s t (Next c) l same = let a = read-into-ok l refl in rw (call-whole limits i s t, a .1) (ap (left 0) (a .2))
+settled-call limits i s t (Refused z) l same = rw (call-whole limits i s t, read-into-bad l refl) (ap (left (z .number)) (same-cleared same))
 
-pub call-left : {limits : Limits} {i : Identity} {s : List ℕ} {t v : Tables} {answer : Step} {r : Left} → Laid (checkedPart limits i s t) answer (WrittenOut t v) → SameLengths v t → r ≡ settled answer v
+pub call-left : {limits : Limits} {i : Identity} {s : List ℕ} {t v : Tables} {answer : Step} {r : Left} → ReadInto (checkedPart limits i s t) answer (WrittenOut t v) → SameLengths v t → r ≡ settled answer v
     → (r ≡ setupCall limits i s t) × AcceptedSound limits i s t
 call-left {limits} {i} {s} {t} {v} {answer} l same e = (e ∙ settled-call limits i s t answer l same, accepts limits i s t)

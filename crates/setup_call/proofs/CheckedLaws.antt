@@ -21,8 +21,8 @@ use Rattle.identification.specs.Sound.{Sound, isSound}
 use Rattle.identification.proofs.SoundLaws.{sound-test}
 use Rattle.setup.specs.Content.{Setup}
 use Rattle.setup.specs.Layout.{Tables, hasRoom}
-use Rattle.setup.specs.Parts.{Laid, Small, behindHeader, packetPart, checkedPart}
-use Rattle.setup.proofs.LaidLaws.{laid-refused}
+use Rattle.setup.specs.Parts.{ReadInto, Small, afterHeader, packetPart, checkedPart}
+use Rattle.setup.proofs.ReadIntoLaws.{read-into-refused}
 use Rattle.setup_call.specs.Begun.{begun}
 
 said-false : {P : Type 0} {x : Bool} (t : Bool) → (x ≡ true) ↔ P → (t ≡ true) ↔ P → not x ≡ true → t ≡ false
@@ -45,12 +45,12 @@ module _ (limits : Limits) (i : Identity) (room : Bool) (s : List ℕ) {x : Bool
     header-judged answer n e = rw (sound-test (limits .channels) i .1 (sound .0 (not-false x y)), not-false room n) e
 
 -- the content behind it
-checked-whole : (limits : Limits) (i : Identity) (s : List ℕ) (t : Tables) → checkedPart limits i s t ≡ then (begun limits i (hasRoom limits t) s) (λ k. behindHeader limits (i .channels) s k)
+checked-whole : (limits : Limits) (i : Identity) (s : List ℕ) (t : Tables) → checkedPart limits i s t ≡ then (begun limits i (hasRoom limits t) s) (λ k. afterHeader limits (i .channels) s k)
 unfolding checkedPart packetPart begun
 checked-whole limits i s t = go (isSound (limits .channels) i) (hasRoom limits t)
   where
-    go : (x y : Bool) → need x (refusal 18 0) (need y (refusal 17 0) (then (commonHeader 5 s) (λ k. behindHeader limits (i .channels) s k)))
-        ≡ then (need x (refusal 18 0) (need y (refusal 17 0) (commonHeader 5 s))) (λ k. behindHeader limits (i .channels) s k)
+    go : (x y : Bool) → need x (refusal 18 0) (need y (refusal 17 0) (then (commonHeader 5 s) (λ k. afterHeader limits (i .channels) s k)))
+        ≡ then (need x (refusal 18 0) (need y (refusal 17 0) (commonHeader 5 s))) (λ k. afterHeader limits (i .channels) s k)
     go false y = refl
     go true false = refl
     go true true = refl
@@ -60,10 +60,10 @@ held true z o e = (refl, e)
 held false z o e = let n : _≡_ {A = ℕ} 0 1 = cc in absurd (omega arith)
 
 module _ (limits : Limits) (i : Identity) (s : List ℕ) (t : Tables) {room : Bool} {st : Step} (e : room ≡ hasRoom limits t) (h : stepped st ≡ begun limits i room s) where
-  pub checked-refused : {z : Refusal} {L : Setup → Type 0} → st ≡ Refused z → Laid (checkedPart limits i s t) (Refused z) L
-  checked-refused q = laid-refused (rw (checked-whole limits i s t, ← e, stop-is h q) refl)
+  pub checked-refused : {z : Refusal} {L : Setup → Type 0} → st ≡ Refused z → ReadInto (checkedPart limits i s t) (Refused z) L
+  checked-refused q = read-into-refused (rw (checked-whole limits i s t, ← e, stop-is h q) refl)
 
-  pub checked-read : {c : Cursor} {answer : Step} {L : Setup → Type 0} → st ≡ Next c → Laid (behindHeader limits (i .channels) s (position c)) answer L → Laid (checkedPart limits i s t) answer L
+  pub checked-read : {c : Cursor} {answer : Step} {L : Setup → Type 0} → st ≡ Next c → ReadInto (afterHeader limits (i .channels) s (position c)) answer L → ReadInto (checkedPart limits i s t) answer L
   checked-read q l = rw (checked-whole limits i s t, ← e, next-is h q) l
 
   pub content-ready : {c : Cursor} → Small limits → st ≡ Next c → (hasRoom limits t ≡ true) × Small limits × (1 ≤ i .channels) × (i .channels ≤ 255)

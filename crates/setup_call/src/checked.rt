@@ -8,16 +8,16 @@ use identification::Identity;
 use identification::sound::is_sound;
 use limits::Limits;
 use setup_content::read_content;
-use setup_lent::have_room;
+use setup_buffers::have_room;
 ghost use mathlib.Core.Path.{_≡_};
 ghost use Rattle.reading.specs.Outcome.{refusal, bad};
 ghost use Rattle.bits.specs.Cursors.{stepped};
 ghost use Rattle.setup.specs.Layout.{tables};
-ghost use Rattle.setup.specs.Parts.{Laid, Small, WrittenOut, checkedPart};
+ghost use Rattle.setup.specs.Parts.{ReadInto, Small, WrittenOut, checkedPart};
 ghost use Rattle.setup_call.specs.Begun.{begun};
 
 // A refusal of an argument beside the packet, which no field has: its place is 0.
-fn beside(number: u8) -> Step
+fn refused_arguments(number: u8) -> Step
     ensures { λ r. ⌜ stepped r ≡ bad (refusal number 0) ⌝ }
 {
     Step::Refused(Refusal {
@@ -31,10 +31,10 @@ fn begin(packet: &[u8], identity: Identity, limits: Limits, room: bool) -> Step
     ensures { λ r. ⌜ stepped r ≡ begun limits identity room (now (packet .entry)) ⌝ }
 {
     if !is_sound(identity, limits) {
-        return beside(18);
+        return refused_arguments(18);
     }
     if !room {
-        return beside(17);
+        return refused_arguments(17);
     }
     common_header(
         packet,
@@ -52,7 +52,7 @@ pub fn read_checked(
     counts: &mut [u32],
     books: &mut [u32],
     lengths: &mut [u8],
-    words: &mut [u32],
+    codewords: &mut [u32],
     multiplicands: &mut [u16],
     floors: &mut [u16],
     residues: &mut [u32],
@@ -61,14 +61,14 @@ pub fn read_checked(
     modes: &mut [u8],
 ) -> Step
     requires { ⌜ Small limits ⌝ }
-    ensures { λ r. ⌜ Laid (checkedPart limits identity (now (packet .entry)) (tables (now (counts .entry)) (now (books .entry)) (now (lengths .entry)) (now (words .entry)) (now (multiplicands .entry)) (now (floors .entry)) (now (residues .entry)) (now (plans .entry)) (now (mappings .entry)) (now (modes .entry)))) r (WrittenOut (tables (now (counts .entry)) (now (books .entry)) (now (lengths .entry)) (now (words .entry)) (now (multiplicands .entry)) (now (floors .entry)) (now (residues .entry)) (now (plans .entry)) (now (mappings .entry)) (now (modes .entry))) (tables (now (counts .exit)) (now (books .exit)) (now (lengths .exit)) (now (words .exit)) (now (multiplicands .exit)) (now (floors .exit)) (now (residues .exit)) (now (plans .exit)) (now (mappings .exit)) (now (modes .exit)))) ⌝ }
+    ensures { λ r. ⌜ ReadInto (checkedPart limits identity (now (packet .entry)) (tables (now (counts .entry)) (now (books .entry)) (now (lengths .entry)) (now (codewords .entry)) (now (multiplicands .entry)) (now (floors .entry)) (now (residues .entry)) (now (plans .entry)) (now (mappings .entry)) (now (modes .entry)))) r (WrittenOut (tables (now (counts .entry)) (now (books .entry)) (now (lengths .entry)) (now (codewords .entry)) (now (multiplicands .entry)) (now (floors .entry)) (now (residues .entry)) (now (plans .entry)) (now (mappings .entry)) (now (modes .entry))) (tables (now (counts .exit)) (now (books .exit)) (now (lengths .exit)) (now (codewords .exit)) (now (multiplicands .exit)) (now (floors .exit)) (now (residues .exit)) (now (plans .exit)) (now (mappings .exit)) (now (modes .exit)))) ⌝ }
 {
     let room = have_room(
         limits,
         counts,
         books,
         lengths,
-        words,
+        codewords,
         multiplicands,
         floors,
         residues,
@@ -86,7 +86,7 @@ pub fn read_checked(
             counts,
             books,
             lengths,
-            words,
+            codewords,
             multiplicands,
             floors,
             residues,

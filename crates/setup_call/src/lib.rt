@@ -4,7 +4,7 @@ pub mod checked;
 use identification::Identity;
 use limits::Limits;
 use crate::checked::read_checked;
-use setup_lent::settle;
+use setup_buffers::settle;
 ghost use mathlib.Core.Path.{_≡_};
 ghost use Rattle.setup.specs.Layout.{tables};
 ghost use Rattle.setup.specs.Call.{left, setupCall};
@@ -19,7 +19,7 @@ pub fn read_setup(
     counts: &mut [u32],
     books: &mut [u32],
     lengths: &mut [u8],
-    words: &mut [u32],
+    codewords: &mut [u32],
     multiplicands: &mut [u16],
     floors: &mut [u16],
     residues: &mut [u32],
@@ -28,8 +28,8 @@ pub fn read_setup(
     modes: &mut [u8],
 ) -> u32
     requires { ⌜ Small limits ⌝ }
-    ensures { λ r. ⌜ left r (tables (now (counts .exit)) (now (books .exit)) (now (lengths .exit)) (now (words .exit)) (now (multiplicands .exit)) (now (floors .exit)) (now (residues .exit)) (now (plans .exit)) (now (mappings .exit)) (now (modes .exit))) ≡ setupCall limits identity (now (packet .entry)) (tables (now (counts .entry)) (now (books .entry)) (now (lengths .entry)) (now (words .entry)) (now (multiplicands .entry)) (now (floors .entry)) (now (residues .entry)) (now (plans .entry)) (now (mappings .entry)) (now (modes .entry))) ⌝ }
-    ensures { λ _. ⌜ AcceptedSound limits identity (now (packet .entry)) (tables (now (counts .entry)) (now (books .entry)) (now (lengths .entry)) (now (words .entry)) (now (multiplicands .entry)) (now (floors .entry)) (now (residues .entry)) (now (plans .entry)) (now (mappings .entry)) (now (modes .entry))) ⌝ }
+    ensures { λ r. ⌜ left r (tables (now (counts .exit)) (now (books .exit)) (now (lengths .exit)) (now (codewords .exit)) (now (multiplicands .exit)) (now (floors .exit)) (now (residues .exit)) (now (plans .exit)) (now (mappings .exit)) (now (modes .exit))) ≡ setupCall limits identity (now (packet .entry)) (tables (now (counts .entry)) (now (books .entry)) (now (lengths .entry)) (now (codewords .entry)) (now (multiplicands .entry)) (now (floors .entry)) (now (residues .entry)) (now (plans .entry)) (now (mappings .entry)) (now (modes .entry))) ⌝ }
+    ensures { λ _. ⌜ AcceptedSound limits identity (now (packet .entry)) (tables (now (counts .entry)) (now (books .entry)) (now (lengths .entry)) (now (codewords .entry)) (now (multiplicands .entry)) (now (floors .entry)) (now (residues .entry)) (now (plans .entry)) (now (mappings .entry)) (now (modes .entry))) ⌝ }
 {
     let answer = read_checked(
         packet,
@@ -38,7 +38,7 @@ pub fn read_setup(
         counts,
         books,
         lengths,
-        words,
+        codewords,
         multiplicands,
         floors,
         residues,
@@ -51,7 +51,7 @@ pub fn read_setup(
         counts,
         books,
         lengths,
-        words,
+        codewords,
         multiplicands,
         floors,
         residues,

@@ -18,14 +18,14 @@ use Rattle.identification.specs.declared.Identity.{Identity}
 use Rattle.identification.specs.Sound as I
 use Rattle.codebook.specs.Codeword.{codeword}
 use Rattle.codebook.specs.Claims.{Settled}
-use Rattle.book_codeword.specs.Lying.{entriesOf, BookLies}
+use Rattle.book_codeword.specs.Stored.{entriesOf, BookStored}
 use Rattle.setup.specs.Layout.{Tables}
 use Rattle.setup.specs.Parts.{Small}
 use Rattle.setup.specs.Sound as T
 use Rattle.setup_codeword.specs.Call.{SoundCall, CodewordCall}
 use Rattle.setup_codeword.specs.Demand3.{Demand3}
 use Rattle.setup_codeword.proofs.DecodesLaws.{demand3}
-use Rattle.setup_codeword.proofs.LyingLaws.{book-count, book-lies, entries-of}
+use Rattle.setup_codeword.proofs.StoredLaws.{book-count, book-stored, entries-of}
 
 pub refused-is : (number : ℕ) (place : Cursor) → outcome (Refused (record { number = number; place = place })) ≡ bad (refusal number (position place))
 unfolding outcome
@@ -78,9 +78,9 @@ module _ {limits : Limits} {i : Identity} {t : Tables} where
       )
 
   -- the book that is read lies in the tables
-  pub call-lies : {a : Bool} → (a ≡ true) ↔ SoundCall limits i t → not a ≡ false → {d : Bool} (b : ℕ) → d ≡ ltb b (getD (t .counts) 0 0) → not d ≡ false → BookLies (t .books) (t .lengths) (t .codewords) b
-  call-lies {a} e n {d} b c h =
+  pub call-stored : {a : Bool} → (a ≡ true) ↔ SoundCall limits i t → not a ≡ false → {d : Bool} (b : ℕ) → d ≡ ltb b (getD (t .counts) 0 0) → not d ≡ false → BookStored (t .books) (t .lengths) (t .codewords) b
+  call-stored {a} e n {d} b c h =
       let x = e .0 (not-false a n) .tables in
       let m = book-count x in
       let l : b < getD (t .counts) 0 0 = ltb-true b _ (sym c ∙ not-false d h) in
-      book-lies x b (omega arith)
+      book-stored x b (omega arith)

@@ -14,7 +14,7 @@ use Rattle.limits.specs.declared.Limits.{Limits}
 use Rattle.identification.specs.declared.Identity.{Identity}
 use Rattle.identification.specs.Sound.{allowedSizes, isSound}
 use Rattle.identification.specs.Sound as I
-use Rattle.codeword_assignment.specs.Book.{used, codewords, verdict, Begins}
+use Rattle.codeword_assignment.specs.Book.{used, ledgerCodewords, verdict, Begins}
 use Rattle.codeword_assignment.specs.declared.book.Assigned.the-variants.{Accepted}
 use Rattle.codespace.proofs.Claimed.{balanced}
 use Rattle.codeword_assignment.proofs.Laws.{exactly-one-entry}
@@ -81,7 +81,7 @@ module _ {limits : Limits} {i : Identity} {t : Tables} {b : ℕ} (ls : List ℕ)
               one .0,
               one .1 .0,
               one .1 .1,
-              (λ s k there same r c. call s k r c ∙ read-whole ls accepted s k there (one .0) (subst (λ (v : ℕ). Begins ls (codewords ls) v (one .0)) (sym same) (one .1 .0)) (full-not-lone ls free)),
+              (λ s k there same r c. call s k r c ∙ read-whole ls accepted s k there (one .0) (subst (λ (v : ℕ). Begins ls (ledgerCodewords ls) v (one .0)) (sym same) (one .1 .0)) (full-not-lone ls free)),
             );
         lone = λ l s k h r c. call s k r c ∙ read-lone ls s k l h;
       }

@@ -1,4 +1,4 @@
 pub mod JudgedLaws
 pub mod DecodesLaws
-pub mod LyingLaws
+pub mod StoredLaws
 pub mod CallLaws

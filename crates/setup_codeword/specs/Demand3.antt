@@ -11,7 +11,7 @@ use Rattle.limits.specs.declared.Limits.{Limits}
 use Rattle.identification.specs.declared.Identity.{Identity}
 use Rattle.codespace.specs.Ledger.{answers}
 use Rattle.codespace.specs.Claims.{Balanced}
-use Rattle.codeword_assignment.specs.Book.{used, isLone, firstUsed, freeAfter, codewords, verdict, Begins}
+use Rattle.codeword_assignment.specs.Book.{used, isLone, firstUsed, freeAfter, ledgerCodewords, verdict, Begins}
 use Rattle.codeword_assignment.specs.declared.book.Assigned.the-variants.{Accepted}
 use Rattle.codebook.specs.Codeword.{bitsAt}
 use Rattle.setup.specs.Content.{Setup}
@@ -32,8 +32,8 @@ pub record BookDecodes (limits : Limits) (i : Identity) (t : Tables) (b : ℕ) (
   -- call on these tables gives that entry and takes just its bits
   pub whole : freeAfter ls ≡ 0 → (string : ℕ) → string < 4294967296
       → (e : ℕ)
-      × Begins ls (codewords ls) string e
-      × ((f : ℕ) → Begins ls (codewords ls) string f → f ≡ e)
+      × Begins ls (ledgerCodewords ls) string e
+      × ((f : ℕ) → Begins ls (ledgerCodewords ls) string f → f ≡ e)
       × ((s : List ℕ) (k : ℕ) → k + 32 ≤ 8 * length s → bitsAt s k 32 ≡ string
       → (r : Outcome (ℕ × ℕ)) → CodewordCall limits i t b s k r → r ≡ ok (e, k + getD ls e 0))
   -- a lone entry of length one is given for every string, and takes none of its bits

@@ -38,7 +38,7 @@ pub fn are_sound(
     counts: &[u32],
     books: &[u32],
     lengths: &[u8],
-    words: &[u32],
+    codewords: &[u32],
     multiplicands: &[u16],
     floors: &[u16],
     residues: &[u32],
@@ -47,7 +47,7 @@ pub fn are_sound(
     modes: &[u8],
 ) -> bool
     requires { ⌜ Small limits ⌝ }
-    ensures { λ r. ⌜ (r ≡ true) ↔ SoundCall limits identity (tables (now (counts .entry)) (now (books .entry)) (now (lengths .entry)) (now (words .entry)) (now (multiplicands .entry)) (now (floors .entry)) (now (residues .entry)) (now (plans .entry)) (now (mappings .entry)) (now (modes .entry))) ⌝ }
+    ensures { λ r. ⌜ (r ≡ true) ↔ SoundCall limits identity (tables (now (counts .entry)) (now (books .entry)) (now (lengths .entry)) (now (codewords .entry)) (now (multiplicands .entry)) (now (floors .entry)) (now (residues .entry)) (now (plans .entry)) (now (mappings .entry)) (now (modes .entry))) ⌝ }
 {
     if !identification::sound::is_sound(identity, limits) {
         return false;
@@ -58,7 +58,7 @@ pub fn are_sound(
         counts,
         books,
         lengths,
-        words,
+        codewords,
         multiplicands,
         floors,
         residues,
@@ -75,7 +75,7 @@ pub fn read_codeword(
     counts: &[u32],
     books: &[u32],
     lengths: &[u8],
-    words: &[u32],
+    codewords: &[u32],
     multiplicands: &[u16],
     floors: &[u16],
     residues: &[u32],
@@ -87,7 +87,7 @@ pub fn read_codeword(
     from: Cursor,
 ) -> Field
     requires { ⌜ Small limits ⌝ }
-    ensures { λ r. ⌜ CodewordCall limits identity (tables (now (counts .entry)) (now (books .entry)) (now (lengths .entry)) (now (words .entry)) (now (multiplicands .entry)) (now (floors .entry)) (now (residues .entry)) (now (plans .entry)) (now (mappings .entry)) (now (modes .entry))) book (now (packet .entry)) (position from) (outcome r) ⌝ }
+    ensures { λ r. ⌜ CodewordCall limits identity (tables (now (counts .entry)) (now (books .entry)) (now (lengths .entry)) (now (codewords .entry)) (now (multiplicands .entry)) (now (floors .entry)) (now (residues .entry)) (now (plans .entry)) (now (mappings .entry)) (now (modes .entry))) book (now (packet .entry)) (position from) (outcome r) ⌝ }
     ensures { λ _. ⌜ Demand3 limits ⌝ }
 {
     let sound = are_sound(
@@ -96,7 +96,7 @@ pub fn read_codeword(
         counts,
         books,
         lengths,
-        words,
+        codewords,
         multiplicands,
         floors,
         residues,
@@ -111,5 +111,5 @@ pub fn read_codeword(
     if !set_up {
         return refused(11, from);
     }
-    book_codeword::read_entry(packet, from, book, books, lengths, words)
+    book_codeword::read_entry(packet, from, book, books, lengths, codewords)
 }

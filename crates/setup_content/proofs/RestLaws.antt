@@ -18,10 +18,10 @@ use Rattle.bits.specs.Cursors.{position, outcome, stepped}
 use Rattle.bits.proofs.Answers.{value-is, refused-is}
 use Rattle.header.specs.Header.{framing}
 use Rattle.residues.specs.Reading.{Books}
-use Rattle.setup.specs.Parts.{Laid, RowsLie, BehindLie, RestLie, behindBooks, restPart}
-use Rattle.setup_lent.specs.Blank.{Blank}
-use Rattle.setup_lent.proofs.BlankLaws.{relent}
-use Rattle.setup.proofs.LaidLaws.{laid-bad, laid-ok, laid-refused}
+use Rattle.setup.specs.Parts.{ReadInto, RowsStored, AfterBooksStored, RestStored, afterBooks, restPart}
+use Rattle.setup_buffers.specs.Blank.{Blank}
+use Rattle.setup_buffers.proofs.BlankLaws.{pad-to-buffer}
+use Rattle.setup.proofs.ReadIntoLaws.{read-into-bad, read-into-ok, read-into-refused}
 use Rattle.setup_sections.proofs.PartLaws.{skipped}
 
 -- a row at the front of a table that was cleared
@@ -30,24 +30,24 @@ counts-written c row e q = q ∙ ap (λ (z : List ℕ). sets z 0 row) e ∙ sets
 
 -- what lies in tables that were cleared lies in the tables that were lent
 module _ (channels : ℕ) (books : Books) (s : List ℕ) (k : Cursor) {st : Step} {n₁ n₂ n₃ n₄ : ℕ} {f r p a o f₁ f′ r₁ r′ p₁ p′ a₁ a′ o₁ o′ : List ℕ} where
-  pub behind-cleared : Blank f f₁ → Blank r r₁ → Blank p p₁ → Blank a a₁ → Blank o o₁
-      → Laid (behindBooks channels books s (position k)) st (BehindLie n₁ n₂ n₃ n₄ f₁ f′ r₁ r′ p₁ p′ a₁ a′ o₁ o′)
-      → Laid (behindBooks channels books s (position k)) st (BehindLie n₁ n₂ n₃ n₄ f f′ r r′ p p′ a a′ o o′)
-  behind-cleared e0 e1 e2 e3 e4 h =
+  pub after-cleared : Blank f f₁ → Blank r r₁ → Blank p p₁ → Blank a a₁ → Blank o o₁
+      → ReadInto (afterBooks channels books s (position k)) st (AfterBooksStored n₁ n₂ n₃ n₄ f₁ f′ r₁ r′ p₁ p′ a₁ a′ o₁ o′)
+      → ReadInto (afterBooks channels books s (position k)) st (AfterBooksStored n₁ n₂ n₃ n₄ f f′ r r′ p p′ a a′ o o′)
+  after-cleared e0 e1 e2 e3 e4 h =
       record {
         step = h .step;
-        lies = λ x g.
-            let b = h .lies x g in
+        stored = λ x g.
+            let b = h .stored x g in
             let u = b .floor-part in
             let t = b .mapping-part in
             record {
               floor-part = record {
-                floor-rows = record { count = u .floor-rows .count; cells = relent _ e0 (u .floor-rows .cells) };
-                residue-rows = record { count = u .residue-rows .count; residues = relent _ e1 (u .residue-rows .residues); plans = relent _ e2 (u .residue-rows .plans) };
+                floor-rows = record { count = u .floor-rows .count; cells = pad-to-buffer _ e0 (u .floor-rows .cells) };
+                residue-rows = record { count = u .residue-rows .count; residues = pad-to-buffer _ e1 (u .residue-rows .residues); plans = pad-to-buffer _ e2 (u .residue-rows .plans) };
               };
               mapping-part = record {
-                mapping-rows = record { count = t .mapping-rows .count; cells = relent _ e3 (t .mapping-rows .cells) };
-                mode-rows = record { count = t .mode-rows .count; cells = relent _ e4 (t .mode-rows .cells) };
+                mapping-rows = record { count = t .mapping-rows .count; cells = pad-to-buffer _ e3 (t .mapping-rows .cells) };
+                mode-rows = record { count = t .mode-rows .count; cells = pad-to-buffer _ e4 (t .mode-rows .cells) };
               };
             };
       }
@@ -66,17 +66,17 @@ pub ruleset framing-laws = (needs, framing-bad, framing-set)
 
 -- what follows the books
 module _ (channels : ℕ) (books : Books) (s : List ℕ) (k : Cursor) {st : Step} {n₁ n₂ n₃ n₄ : ℕ} {f f′ r r′ p p′ a a′ o o′ : List ℕ}
-    (h : Laid (behindBooks channels books s (position k)) st (BehindLie n₁ n₂ n₃ n₄ f f′ r r′ p p′ a a′ o o′)) where
-  pub rest-refused : {z : Refusal} {L : _ → Type 0} → st ≡ S.Refused z → Laid (restPart channels books s (position k)) (S.Refused z) L
+    (h : ReadInto (afterBooks channels books s (position k)) st (AfterBooksStored n₁ n₂ n₃ n₄ f f′ r r′ p p′ a a′ o o′)) where
+  pub rest-refused : {z : Refusal} {L : _ → Type 0} → st ≡ S.Refused z → ReadInto (restPart channels books s (position k)) (S.Refused z) L
   unfolding restPart
-  rest-refused q = laid-refused (rw (laid-bad h q))
+  rest-refused q = read-into-refused (rw (read-into-bad h q))
 
   pub rest-read : {n : ℕ} {c c′ : List ℕ} {at : Cursor} (answer : Step) → c′ ≡ pad (length c) (n ∷ n₁ ∷ n₂ ∷ n₃ ∷ n₄ ∷ []) → st ≡ S.Next at
       → stepped answer ≡ then (framing s (position at)) (λ x. ok (x .1))
-      → Laid (restPart channels books s (position k)) answer (RestLie n c c′ f f′ r r′ p p′ a a′ o o′)
+      → ReadInto (restPart channels books s (position k)) answer (RestStored n c c′ f f′ r r′ p p′ a a′ o o′)
   unfolding restPart
   rest-read {n} {c} {c′} {at} answer e q g =
-      let x = laid-ok h q in
+      let x = read-into-ok h q in
       let u = x .2 .floor-part in
       let t = x .2 .mapping-part in
       let numbers : (n ∷ n₁ ∷ n₂ ∷ n₃ ∷ n₄ ∷ []) ≡ (n ∷ length (x .0 .0 .0) ∷ length (x .0 .0 .1) ∷ length (x .0 .1 .0) ∷ length (x .0 .1 .1) ∷ [])

@@ -4,9 +4,9 @@ use bits::Field;
 use bits::Step;
 use reading::buffers::clear_u32;
 use reading::buffers::write_u32;
-use setup_lent::clear_behind;
-use setup_sections::parts::Behind;
-use setup_sections::parts::read_behind_books;
+use setup_buffers::clear_after;
+use setup_sections::parts::After;
+use setup_sections::parts::read_after_books;
 ghost use mathlib.Core.Path.{_≡_};
 ghost use mathlib.Core.List.{[], _∷_};
 ghost use Prim.Native.Nat.{_≤_};
@@ -16,7 +16,7 @@ ghost use Rattle.reading.specs.Pad.{pad};
 ghost use Rattle.bits.specs.Cursors.{position, stepped};
 ghost use Rattle.header.specs.Header.{framing};
 ghost use Rattle.residues.specs.FromTable.{booksOf};
-ghost use Rattle.setup.specs.Parts.{Laid, BehindLie, RestLie, behindBooks, restPart};
+ghost use Rattle.setup.specs.Parts.{ReadInto, AfterBooksStored, RestStored, afterBooks, restPart};
 
 // How many there are of each, from the front of the table of counts.
 fn write_counts(
@@ -35,7 +35,7 @@ fn write_counts(
 }
 
 // Floors, residues, mappings and modes, behind `count` codebooks.
-fn read_behind(
+fn read_after(
     packet: &[u8],
     from: Cursor,
     channels: u32,
@@ -46,12 +46,12 @@ fn read_behind(
     plans: &mut [u16],
     mappings: &mut [u8],
     modes: &mut [u8],
-) -> Behind
+) -> After
     requires { ⌜ (1 ≤ channels) × (channels ≤ 255) × (count ≤ 256) ⌝ }
-    ensures { λ r. ⌜ Laid (behindBooks channels (booksOf count (now (books .entry))) (now (packet .entry)) (position from)) (r .step) (BehindLie (r .floors) (r .residues) (r .mappings) (r .modes) (now (floors .entry)) (now (floors .exit)) (now (residues .entry)) (now (residues .exit)) (now (plans .entry)) (now (plans .exit)) (now (mappings .entry)) (now (mappings .exit)) (now (modes .entry)) (now (modes .exit))) ⌝ }
+    ensures { λ r. ⌜ ReadInto (afterBooks channels (booksOf count (now (books .entry))) (now (packet .entry)) (position from)) (r .step) (AfterBooksStored (r .floors) (r .residues) (r .mappings) (r .modes) (now (floors .entry)) (now (floors .exit)) (now (residues .entry)) (now (residues .exit)) (now (plans .entry)) (now (plans .exit)) (now (mappings .entry)) (now (mappings .exit)) (now (modes .entry)) (now (modes .exit))) ⌝ }
 {
-    clear_behind(floors, residues, plans, mappings, modes);
-    read_behind_books(
+    clear_after(floors, residues, plans, mappings, modes);
+    read_after_books(
         packet,
         from,
         channels,
@@ -89,9 +89,9 @@ pub fn read_rest(
     modes: &mut [u8],
 ) -> Step
     requires { ⌜ (1 ≤ channels) × (channels ≤ 255) × (count ≤ 256) ⌝ }
-    ensures { λ r. ⌜ Laid (restPart channels (booksOf count (now (books .entry))) (now (packet .entry)) (position from)) r (RestLie count (now (counts .entry)) (now (counts .exit)) (now (floors .entry)) (now (floors .exit)) (now (residues .entry)) (now (residues .exit)) (now (plans .entry)) (now (plans .exit)) (now (mappings .entry)) (now (mappings .exit)) (now (modes .entry)) (now (modes .exit))) ⌝ }
+    ensures { λ r. ⌜ ReadInto (restPart channels (booksOf count (now (books .entry))) (now (packet .entry)) (position from)) r (RestStored count (now (counts .entry)) (now (counts .exit)) (now (floors .entry)) (now (floors .exit)) (now (residues .entry)) (now (residues .exit)) (now (plans .entry)) (now (plans .exit)) (now (mappings .entry)) (now (mappings .exit)) (now (modes .entry)) (now (modes .exit))) ⌝ }
 {
-    let behind = read_behind(
+    let after = read_after(
         packet,
         from,
         channels,
@@ -106,12 +106,12 @@ pub fn read_rest(
     write_counts(
         counts,
         count,
-        behind.floors,
-        behind.residues,
-        behind.mappings,
-        behind.modes,
+        after.floors,
+        after.residues,
+        after.mappings,
+        after.modes,
     );
-    let step = behind.step;
+    let step = after.step;
     match step {
         Step::Refused(z) => Step::Refused(z),
         Step::Next(at_framing) => read_framing(packet, at_framing),

@@ -160,11 +160,11 @@ module _ (t : Tables) (room : hasRoom standard t ≡ true) where
   unfolding setupOf
   called = rw (identity-sound, room, setup-read)
 
-  all-lengths : (s : List ℕ) {entries : ℕ} {ls : List ℕ} {behind : ℕ} → commonHeader 5 s ≡ ok 56 → field 8 s 56 ≡ ok (0, 64)
-      → H.head standard (record { entries = 0; values = 0 }) s 64 ≡ ok (record { dimensions = 1; entries = entries }, 128) → L.lengths 64 entries s 128 ≡ ok (ls, behind)
+  all-lengths : (s : List ℕ) {entries : ℕ} {ls : List ℕ} {after : ℕ} → commonHeader 5 s ≡ ok 56 → field 8 s 56 ≡ ok (0, 64)
+      → H.head standard (record { entries = 0; values = 0 }) s 64 ≡ ok (record { dimensions = 1; entries = entries }, 128) → L.lengths 64 entries s 128 ≡ ok (ls, after)
       → LengthsRead standard identity s t 64 ls
   unfolding K.books entriesInAll multiplicandsInAll sum
-  all-lengths s {entries} {ls} {behind} p q h l =
+  all-lengths s {entries} {ls} {after} p q h l =
       record {
         sound = identity-sound;
         room = room;
@@ -177,9 +177,9 @@ module _ (t : Tables) (room : hasRoom standard t ≡ true) where
         one-of-them = omega arith;
         books-read = refl;
         this = record { dimensions = 1; entries = entries };
-        behind-head = 128;
+        after-head = 128;
         head-read = h;
-        behind = behind;
+        after = after;
         lengths-read = l;
       }
 

@@ -87,18 +87,18 @@ module _ (limits : Limits) (s : List ℕ) where
       rw (z, e, i, ← (onto-cons before (b .0) (l .0)))
       (again (λ rest. (l .0 ++ rest .0, rest .1)) (λ rest. (b .0 ∷ rest .0, rest .1)) (books limits (onto (andThis before (b .0)) (l .0)) n s (l .1)))
 
-  books-behind : (m n : ℕ) (before : Before) (k : ℕ) {l : List Book × ℕ} → books limits before m s k ≡ ok l → books limits before (m + n) s k ≡ Others n before l
+  books-after : (m n : ℕ) (before : Before) (k : ℕ) {l : List Book × ℕ} → books limits before m s k ≡ ok l → books limits before (m + n) s k ≡ Others n before l
   unfolding books
-  books-behind zero n before k {l} e =
+  books-after zero n before k {l} e =
       let z : 0 + n ≡ n = omega arith in
       subst (λ (x : List Book × ℕ). books limits before (0 + n) s k ≡ Others n before x) (ok-is e) (rw (z, onto-nil before) (same (books limits before n s k)))
-  books-behind (suc m) n before k {l} e =
+  books-after (suc m) n before k {l} e =
       let b = then-ok (book limits before s k) _ e in
       let r = then-ok (books limits (andThis before (b .0 .0)) m s (b .0 .1)) _ (b .2) in
       subst
       (λ (x : List Book × ℕ). books limits before (suc m + n) s k ≡ Others n before x)
       (ok-is (r .2))
-      (one-more m n before k (b .0) (r .0) (b .1) (books-behind m n (andThis before (b .0 .0)) (b .0 .1) (r .1)))
+      (one-more m n before k (b .0) (r .0) (b .1) (books-after m n (andThis before (b .0 .0)) (b .0 .1) (r .1)))
 
 past-ok : {A : Type 0} {place : ℕ} {o : Outcome (A × ℕ)} {x : A × ℕ} → Past place o → o ≡ ok x → place < x .1
 past-ok {A} {place} {o} {x} p e = go p e
@@ -115,10 +115,10 @@ apart-bad {A} {place} {o} {z} p e = go p e
     go (refused y h) f = let q : y ≡ z = cc in subst (λ (v : Refusal). Elsewhere place v) q h
 
 -- what follows the books gives neither 7 nor 8 at a place before its end
-behind-apart : (limits : Limits) (channels place : ℕ) (s : List ℕ) (k : ℕ) → Past place (bookSection limits s k)
+after-apart : (limits : Limits) (channels place : ℕ) (s : List ℕ) (k : ℕ) → Past place (bookSection limits s k)
     → Apart place (then (sections limits channels s k) (λ x. then (framing s (x .1)) (λ _. ok (x .0))))
 unfolding sections
-behind-apart limits channels place s k p =
+after-apart limits channels place s k p =
     then-apart place
     (then-past place p (λ (bs : List Book × ℕ) a.
     then-past place (section-past place s timeValue (time-past place s) (bs .1) a) (λ (times : List ℕ × ℕ) b.
@@ -217,7 +217,7 @@ module _ {limits : Limits} {i : Identity} {s : List ℕ} {t : Tables} {place : �
       let h = x .one-of-them in
       let e : x .others + 1 ≡ length (x .before) + suc left = omega arith in
       rw (x .numbered, e)
-      (books-behind limits s (length (x .before)) (suc left) (record { entries = 0; values = 0 }) (x .first) (x .books-read)
+      (books-after limits s (length (x .before)) (suc left) (record { entries = 0; values = 0 }) (x .first) (x .books-read)
       ∙ ap (λ (b : Before). then (books limits b (suc left) s place) (λ rest. ok (x .before ++ rest .0, rest .1))) (onto-none (x .before)))
 
   call-is : setupOf limits i s t ≡ then (sections limits (i .channels) s (x .start)) (λ y. then (framing s (y .1)) (λ _. ok (y .0)))
@@ -242,9 +242,9 @@ module _ {limits : Limits} {i : Identity} {s : List ℕ} {t : Tables} {place : �
   unfolding book entered
   book-onward k =
       let h = past-ok (head-past place s limits (counted (x .before)) place (omega arith)) (x .head-read) in
-      let l = past-ok (lengths-past place s place (x .this .entries) (x .behind-head) h) (x .lengths-read) in
+      let l = past-ok (lengths-past place s place (x .this .entries) (x .after-head) h) (x .lengths-read) in
       rw (x .head-read, x .lengths-read, none-7 ls (k .none-refused), takes-8 ls k)
-      (then-past place (lookup-past place s place (x .this .entries) (x .this .dimensions) (limits .multiplicands - multiplicandsInAll (x .before)) (x .behind) l) (λ (y : Lookup × ℕ) q. read _ q))
+      (then-past place (lookup-past place s place (x .this .entries) (x .this .dimensions) (limits .multiplicands - multiplicandsInAll (x .before)) (x .after) l) (λ (y : Lookup × ℕ) q. read _ q))
 
   books-onward : LedgerTakes ls → Past place (books limits (counted (x .before)) (suc left) s place)
   unfolding books
@@ -255,7 +255,7 @@ module _ {limits : Limits} {i : Identity} {s : List ℕ} {t : Tables} {place : �
   apart : LedgerTakes ls → Apart place (setupOf limits i s t)
   apart k =
       let p : Past place (bookSection limits s (x .start)) = rw section-is (then-past place (books-onward k) (λ (rest : List Book × ℕ) q. read _ q)) in
-      rw call-is (behind-apart limits (i .channels) place s (x .start) p)
+      rw call-is (after-apart limits (i .channels) place s (x .start) p)
 
   only-number : {m n : ℕ} → setupOf limits i s t ≡ bad (refusal m place) → setupOf limits i s t ≡ bad (refusal n place) → m ≡ n
   only-number p q = ap (λ (z : Refusal). z .number) (same-bad (setupOf limits i s t) p q)

@@ -38,10 +38,10 @@ record Reached (limits : Limits) (s : List ℕ) (before : Before) (k b : ℕ) (l
   done : List Book
   place : ℕ
   this : Book
-  behind : ℕ
+  after : ℕ
   number : length done ≡ b
   done-read : books limits before b s k ≡ ok (done, place)
-  this-read : book limits (onto before done) s place ≡ ok (this, behind)
+  this-read : book limits (onto before done) s place ≡ ok (this, after)
   same : this .lengths ≡ ls
 
 module _ (limits : Limits) (s : List ℕ) where
@@ -52,10 +52,10 @@ module _ (limits : Limits) (s : List ℕ) where
         done = x .0 ∷ r .done;
         place = r .place;
         this = r .this;
-        behind = r .behind;
+        after = r .after;
         number = ap suc (r .number);
         done-read = rw (e, r .done-read);
-        this-read = subst (λ (f : Before). book limits f s (r .place) ≡ ok (r .this, r .behind)) (onto-cons before (x .0) (r .done)) (r .this-read);
+        this-read = subst (λ (f : Before). book limits f s (r .place) ≡ ok (r .this, r .after)) (onto-cons before (x .0) (r .done)) (r .this-read);
         same = r .same;
       }
 
@@ -71,16 +71,16 @@ module _ (limits : Limits) (s : List ℕ) where
     where
       go : (x : Book × ℕ) (r : List Book × ℕ) → book limits before s k ≡ ok x → books limits (andThis before (x .0)) n s (x .1) ≡ ok r → (b : ℕ) → b < suc (length (r .0))
           → ((c : ℕ) → c < length (r .0) → Reached limits s (andThis before (x .0)) (x .1) c (getD (allOf (r .0)) c [])) → Reached limits s before k b (getD (allOf (x .0 ∷ r .0)) b [])
-      go x r p q zero f w = record { done = []; place = k; this = x .0; behind = x .1; number = refl; done-read = refl; this-read = rw (onto-nil before) p; same = refl }
+      go x r p q zero f w = record { done = []; place = k; this = x .0; after = x .1; number = refl; done-read = refl; this-read = rw (onto-nil before) p; same = refl }
       go x r p q (suc c) f w = next-reached before k c x p (w c (omega arith))
 
 -- a book that was read: its head, and its lengths
 record LengthsOf (limits : Limits) (before : Before) (s : List ℕ) (k : ℕ) (ls : List ℕ) : Type 0 where
   this : Head
-  behind-head : ℕ
-  head-read : head limits before s k ≡ ok (this, behind-head)
-  behind : ℕ
-  lengths-read : lengths k (this .entries) s behind-head ≡ ok (ls, behind)
+  after-head : ℕ
+  head-read : head limits before s k ≡ ok (this, after-head)
+  after : ℕ
+  lengths-read : lengths k (this .entries) s after-head ≡ ok (ls, after)
 
 book-lengths : (limits : Limits) (before : Before) (s : List ℕ) (k : ℕ) {x : Book × ℕ} → book limits before s k ≡ ok x → LengthsOf limits before s k (x .0 .lengths)
 unfolding book entered
@@ -93,7 +93,7 @@ book-lengths limits before s k {x} e =
     let b = need-ok (meets8 (m .0 .0)) (refusal 8 k) _ (a .1) in
     let p : l .0 .0 ≡ x .0 .lengths = ap (λ (y : Book × ℕ). y .0 .lengths) (ok-is (u .2)) in
     let q : m .0 .0 ≡ l .0 .0 = ap (λ (y : List ℕ × ℕ). y .0) (ok-is (b .1)) in
-    subst (LengthsOf limits before s k) (q ∙ p) (record { this = h .0 .0; behind-head = h .0 .1; head-read = h .1; behind = m .0 .1; lengths-read = m .1 })
+    subst (LengthsOf limits before s k) (q ∙ p) (record { this = h .0 .0; after-head = h .0 .1; head-read = h .1; after = m .0 .1; lengths-read = m .1 })
 
 -- an accepted packet: where its books begin, and their section
 record BooksOf (limits : Limits) (s : List ℕ) (bs : List Book) : Type 0 where
@@ -133,7 +133,7 @@ book-reached limits i s t c e b h =
     let n = then-ok (field 8 s (w .start)) _ (w .read) in
     let count = books-valid limits (record { entries = 0; values = 0 }) (n .0 .0 + 1) s (n .0 .1) (omega arith) (n .2) .1 in
     let r = books-reached limits s (n .0 .0 + 1) (record { entries = 0; values = 0 }) (n .0 .1) (n .2) b h in
-    let l = book-lengths limits (counted (r .done)) s (r .place) (subst (λ (f : Before). book limits f s (r .place) ≡ ok (r .this, r .behind)) (onto-none (r .done)) (r .this-read)) in
+    let l = book-lengths limits (counted (r .done)) s (r .place) (subst (λ (f : Before). book limits f s (r .place) ≡ ok (r .this, r .after)) (onto-none (r .done)) (r .this-read)) in
     let m = r .number in
     let read : LengthsRead limits i s t (r .place) (r .this .lengths) =
     record {
@@ -148,9 +148,9 @@ book-reached limits i s t c e b h =
       one-of-them = omega arith;
       books-read = rw m (r .done-read);
       this = l .this;
-      behind-head = l .behind-head;
+      after-head = l .after-head;
       head-read = l .head-read;
-      behind = l .behind;
+      after = l .after;
       lengths-read = l .lengths-read;
     } in
     (r .place, subst (LengthsRead limits i s t (r .place)) (r .same) read)

@@ -53,13 +53,13 @@ pub record LengthsRead (limits : Limits) (i : Identity) (s : List ℕ) (t : Tabl
   pub before : List Book
   pub one-of-them : length before ≤ others
   pub books-read : books limits (record { entries = 0; values = 0 }) (length before) s first ≡ ok (before, place)
-  -- its head, up to bit `behind-head`
+  -- its head, up to bit `after-head`
   pub this : Head
-  pub behind-head : ℕ
-  pub head-read : head limits (counted before) s place ≡ ok (this, behind-head)
+  pub after-head : ℕ
+  pub head-read : head limits (counted before) s place ≡ ok (this, after-head)
   -- its lengths
-  pub behind : ℕ
-  pub lengths-read : lengths place (this .entries) s behind-head ≡ ok (ls, behind)
+  pub after : ℕ
+  pub lengths-read : lengths place (this .entries) s after-head ≡ ok (ls, after)
 
 -- WHAT THE CALL THEN GIVES FOR THAT BOOK
 pub record JudgedByCall (limits : Limits) (i : Identity) (s : List ℕ) (t : Tables) (place : ℕ) (ls : List ℕ) : Type 0 where

@@ -6,8 +6,8 @@ use reading::buffers;
 ghost use mathlib.Core.Path.{_≡_};
 ghost use Rattle.setup.specs.Layout.{hasRoom, cleared, tables};
 ghost use Rattle.setup.specs.Call.{left};
-ghost use Rattle.setup_lent.specs.Blank.{Blank};
-ghost use Rattle.setup_lent.specs.Settled.{settled};
+ghost use Rattle.setup_buffers.specs.Blank.{Blank};
+ghost use Rattle.setup_buffers.specs.Settled.{settled};
 
 fn wide(x: u32) -> usize
     ensures { λ r. ⌜ r ≡ x ⌝ }
@@ -21,7 +21,7 @@ pub fn have_room(
     counts: &[u32],
     books: &[u32],
     lengths: &[u8],
-    words: &[u32],
+    codewords: &[u32],
     multiplicands: &[u16],
     floors: &[u16],
     residues: &[u32],
@@ -29,7 +29,7 @@ pub fn have_room(
     mappings: &[u8],
     modes: &[u8],
 ) -> bool
-    ensures { λ r. ⌜ r ≡ hasRoom limits (tables (now (counts .entry)) (now (books .entry)) (now (lengths .entry)) (now (words .entry)) (now (multiplicands .entry)) (now (floors .entry)) (now (residues .entry)) (now (plans .entry)) (now (mappings .entry)) (now (modes .entry))) ⌝ }
+    ensures { λ r. ⌜ r ≡ hasRoom limits (tables (now (counts .entry)) (now (books .entry)) (now (lengths .entry)) (now (codewords .entry)) (now (multiplicands .entry)) (now (floors .entry)) (now (residues .entry)) (now (plans .entry)) (now (mappings .entry)) (now (modes .entry))) ⌝ }
 {
     if counts.len() < 5 {
         return false;
@@ -40,7 +40,7 @@ pub fn have_room(
     if lengths.len() < wide(limits.entries) {
         return false;
     }
-    if words.len() < wide(limits.entries) {
+    if codewords.len() < wide(limits.entries) {
         return false;
     }
     if multiplicands.len() < wide(limits.multiplicands) {
@@ -68,19 +68,19 @@ pub fn have_room(
 pub fn clear_books(
     books: &mut [u32],
     lengths: &mut [u8],
-    words: &mut [u32],
+    codewords: &mut [u32],
     multiplicands: &mut [u16],
 )
-    ensures { λ _. ⌜ Blank (now (books .entry)) (now (books .exit)) × Blank (now (lengths .entry)) (now (lengths .exit)) × Blank (now (words .entry)) (now (words .exit)) × Blank (now (multiplicands .entry)) (now (multiplicands .exit)) ⌝ }
+    ensures { λ _. ⌜ Blank (now (books .entry)) (now (books .exit)) × Blank (now (lengths .entry)) (now (lengths .exit)) × Blank (now (codewords .entry)) (now (codewords .exit)) × Blank (now (multiplicands .entry)) (now (multiplicands .exit)) ⌝ }
 {
     buffers::clear_u32(books);
     buffers::clear_u8(lengths);
-    buffers::clear_u32(words);
+    buffers::clear_u32(codewords);
     buffers::clear_u16(multiplicands);
 }
 
 // The tables of all that follows the books.
-pub fn clear_behind(
+pub fn clear_after(
     floors: &mut [u16],
     residues: &mut [u32],
     plans: &mut [u16],
@@ -101,7 +101,7 @@ pub fn clear(
     counts: &mut [u32],
     books: &mut [u32],
     lengths: &mut [u8],
-    words: &mut [u32],
+    codewords: &mut [u32],
     multiplicands: &mut [u16],
     floors: &mut [u16],
     residues: &mut [u32],
@@ -109,11 +109,11 @@ pub fn clear(
     mappings: &mut [u8],
     modes: &mut [u8],
 )
-    ensures { λ _. ⌜ tables (now (counts .exit)) (now (books .exit)) (now (lengths .exit)) (now (words .exit)) (now (multiplicands .exit)) (now (floors .exit)) (now (residues .exit)) (now (plans .exit)) (now (mappings .exit)) (now (modes .exit)) ≡ cleared (tables (now (counts .entry)) (now (books .entry)) (now (lengths .entry)) (now (words .entry)) (now (multiplicands .entry)) (now (floors .entry)) (now (residues .entry)) (now (plans .entry)) (now (mappings .entry)) (now (modes .entry))) ⌝ }
+    ensures { λ _. ⌜ tables (now (counts .exit)) (now (books .exit)) (now (lengths .exit)) (now (codewords .exit)) (now (multiplicands .exit)) (now (floors .exit)) (now (residues .exit)) (now (plans .exit)) (now (mappings .exit)) (now (modes .exit)) ≡ cleared (tables (now (counts .entry)) (now (books .entry)) (now (lengths .entry)) (now (codewords .entry)) (now (multiplicands .entry)) (now (floors .entry)) (now (residues .entry)) (now (plans .entry)) (now (mappings .entry)) (now (modes .entry))) ⌝ }
 {
     buffers::clear_u32(counts);
-    clear_books(books, lengths, words, multiplicands);
-    clear_behind(floors, residues, plans, mappings, modes);
+    clear_books(books, lengths, codewords, multiplicands);
+    clear_after(floors, residues, plans, mappings, modes);
 }
 
 fn number_of(refusal: Refusal) -> u32
@@ -128,7 +128,7 @@ pub fn settle(
     counts: &mut [u32],
     books: &mut [u32],
     lengths: &mut [u8],
-    words: &mut [u32],
+    codewords: &mut [u32],
     multiplicands: &mut [u16],
     floors: &mut [u16],
     residues: &mut [u32],
@@ -136,7 +136,7 @@ pub fn settle(
     mappings: &mut [u8],
     modes: &mut [u8],
 ) -> u32
-    ensures { λ r. ⌜ left r (tables (now (counts .exit)) (now (books .exit)) (now (lengths .exit)) (now (words .exit)) (now (multiplicands .exit)) (now (floors .exit)) (now (residues .exit)) (now (plans .exit)) (now (mappings .exit)) (now (modes .exit))) ≡ settled answer (tables (now (counts .entry)) (now (books .entry)) (now (lengths .entry)) (now (words .entry)) (now (multiplicands .entry)) (now (floors .entry)) (now (residues .entry)) (now (plans .entry)) (now (mappings .entry)) (now (modes .entry))) ⌝ }
+    ensures { λ r. ⌜ left r (tables (now (counts .exit)) (now (books .exit)) (now (lengths .exit)) (now (codewords .exit)) (now (multiplicands .exit)) (now (floors .exit)) (now (residues .exit)) (now (plans .exit)) (now (mappings .exit)) (now (modes .exit))) ≡ settled answer (tables (now (counts .entry)) (now (books .entry)) (now (lengths .entry)) (now (codewords .entry)) (now (multiplicands .entry)) (now (floors .entry)) (now (residues .entry)) (now (plans .entry)) (now (mappings .entry)) (now (modes .entry))) ⌝ }
 {
     match answer {
         Step::Next(_) => 0,
@@ -146,7 +146,7 @@ pub fn settle(
                 counts,
                 books,
                 lengths,
-                words,
+                codewords,
                 multiplicands,
                 floors,
                 residues,

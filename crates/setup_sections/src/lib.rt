@@ -11,7 +11,7 @@ ghost use mathlib.Core.Path.{_≡_};
 ghost use Prim.Native.Nat.{_≤_};
 ghost use Rattle.reading.specs.Outcome.{ok, then};
 ghost use Rattle.reading.specs.Reader.{many};
-ghost use Rattle.reading.specs.Stand.{Zeros};
+ghost use Rattle.reading.specs.Encoding.{Zeros};
 ghost use Rattle.bits.specs.Cursors.{position, stepped};
 ghost use Rattle.floors.specs.Layout.{floorRow};
 ghost use Rattle.floors.specs.Reading.{floor};
@@ -22,7 +22,7 @@ ghost use Rattle.mappings.specs.Reading.{mapping};
 ghost use Rattle.modes.specs.Layout.{modeRow};
 ghost use Rattle.modes.specs.Reading.{mode};
 ghost use Rattle.setup.specs.Reading.{bookSection, section, timeValue};
-ghost use Rattle.setup.specs.Parts.{Laid, RowsLie, BooksLie, ResiduesLie, BooksLent};
+ghost use Rattle.setup.specs.Parts.{ReadInto, RowsStored, BooksStored, ResiduesStored, ClearedBookBuffers};
 
 // How many items a section has, and where reading goes on, or the refusal.
 pub struct Section {
@@ -42,11 +42,11 @@ pub fn read_book_section(
     limits: Limits,
     books: &mut [u32],
     lengths: &mut [u8],
-    words: &mut [u32],
+    codewords: &mut [u32],
     multiplicands: &mut [u16],
 ) -> Section
-    requires { ⌜ BooksLent limits (now books) (now lengths) (now words) (now multiplicands) ⌝ }
-    ensures { λ r. ⌜ Laid (bookSection limits (now (packet .entry)) (position from)) (r .step) (BooksLie (r .count) (now (books .entry)) (now (books .exit)) (now (lengths .entry)) (now (lengths .exit)) (now (words .entry)) (now (words .exit)) (now (multiplicands .entry)) (now (multiplicands .exit))) ⌝ }
+    requires { ⌜ ClearedBookBuffers limits (now books) (now lengths) (now codewords) (now multiplicands) ⌝ }
+    ensures { λ r. ⌜ ReadInto (bookSection limits (now (packet .entry)) (position from)) (r .step) (BooksStored (r .count) (now (books .entry)) (now (books .exit)) (now (lengths .entry)) (now (lengths .exit)) (now (codewords .entry)) (now (codewords .exit)) (now (multiplicands .entry)) (now (multiplicands .exit))) ⌝ }
     ensures { λ r. ⌜ r .count ≤ 256 ⌝ }
 {
     match from.field(packet, 8) {
@@ -63,7 +63,7 @@ pub fn read_book_section(
                 limits,
                 books,
                 lengths,
-                words,
+                codewords,
                 multiplicands,
             );
             let step = read.step;
@@ -122,7 +122,7 @@ pub fn read_time_section(packet: &[u8], from: Cursor) -> Step
 // `books` is how many codebooks are set up.
 pub fn read_floor_section(packet: &[u8], from: Cursor, books: u32, floors: &mut [u16]) -> Section
     requires { ⌜ (books ≤ 256) × Zeros (now floors) ⌝ }
-    ensures { λ r. ⌜ Laid (section (floor books) (now (packet .entry)) (position from)) (r .step) (RowsLie floorRow (r .count) (now (floors .entry)) (now (floors .exit))) ⌝ }
+    ensures { λ r. ⌜ ReadInto (section (floor books) (now (packet .entry)) (position from)) (r .step) (RowsStored floorRow (r .count) (now (floors .entry)) (now (floors .exit))) ⌝ }
     ensures { λ r. ⌜ r .count ≤ 64 ⌝ }
 {
     match from.field(packet, 6) {
@@ -148,7 +148,7 @@ pub fn read_residue_section(
     plans: &mut [u16],
 ) -> Section
     requires { ⌜ Zeros (now residues) × Zeros (now plans) ⌝ }
-    ensures { λ r. ⌜ Laid (section (residue (booksOf count (now (books .entry)))) (now (packet .entry)) (position from)) (r .step) (ResiduesLie (r .count) (now (residues .entry)) (now (residues .exit)) (now (plans .entry)) (now (plans .exit))) ⌝ }
+    ensures { λ r. ⌜ ReadInto (section (residue (booksOf count (now (books .entry)))) (now (packet .entry)) (position from)) (r .step) (ResiduesStored (r .count) (now (residues .entry)) (now (residues .exit)) (now (plans .entry)) (now (plans .exit))) ⌝ }
     ensures { λ r. ⌜ r .count ≤ 64 ⌝ }
 {
     match from.field(packet, 6) {
@@ -182,7 +182,7 @@ pub fn read_mapping_section(
     mappings: &mut [u8],
 ) -> Section
     requires { ⌜ (1 ≤ known .channels) × (known .channels ≤ 255) × Zeros (now mappings) ⌝ }
-    ensures { λ r. ⌜ Laid (section (mapping known) (now (packet .entry)) (position from)) (r .step) (RowsLie mappingRow (r .count) (now (mappings .entry)) (now (mappings .exit))) ⌝ }
+    ensures { λ r. ⌜ ReadInto (section (mapping known) (now (packet .entry)) (position from)) (r .step) (RowsStored mappingRow (r .count) (now (mappings .entry)) (now (mappings .exit))) ⌝ }
     ensures { λ r. ⌜ r .count ≤ 64 ⌝ }
 {
     match from.field(packet, 6) {
@@ -201,7 +201,7 @@ pub fn read_mapping_section(
 // `mappings` is how many mappings are set up.
 pub fn read_mode_section(packet: &[u8], from: Cursor, mappings: u32, modes: &mut [u8]) -> Section
     requires { ⌜ Zeros (now modes) ⌝ }
-    ensures { λ r. ⌜ Laid (section (mode mappings) (now (packet .entry)) (position from)) (r .step) (RowsLie modeRow (r .count) (now (modes .entry)) (now (modes .exit))) ⌝ }
+    ensures { λ r. ⌜ ReadInto (section (mode mappings) (now (packet .entry)) (position from)) (r .step) (RowsStored modeRow (r .count) (now (modes .entry)) (now (modes .exit))) ⌝ }
     ensures { λ r. ⌜ r .count ≤ 64 ⌝ }
 {
     match from.field(packet, 6) {

@@ -12,10 +12,10 @@ use crate::read_residue_section;
 use crate::read_time_section;
 ghost use mathlib.Core.Path.{_≡_};
 ghost use Prim.Native.Nat.{_≤_};
-ghost use Rattle.reading.specs.Stand.{Zeros};
+ghost use Rattle.reading.specs.Encoding.{Zeros};
 ghost use Rattle.bits.specs.Cursors.{position};
 ghost use Rattle.residues.specs.FromTable.{booksOf};
-ghost use Rattle.setup.specs.Parts.{Laid, BooksLie, BooksLent, FloorsLie, MappingsLie, BehindLie, bookPart, floorPart, mappingPart, behindBooks};
+ghost use Rattle.setup.specs.Parts.{ReadInto, BooksStored, ClearedBookBuffers, FloorsStored, MappingsStored, AfterBooksStored, bookPart, floorPart, mappingPart, afterBooks};
 
 // The books, and behind them the time values.
 pub fn read_book_part(
@@ -24,14 +24,14 @@ pub fn read_book_part(
     limits: Limits,
     books: &mut [u32],
     lengths: &mut [u8],
-    words: &mut [u32],
+    codewords: &mut [u32],
     multiplicands: &mut [u16],
 ) -> Section
-    requires { ⌜ BooksLent limits (now books) (now lengths) (now words) (now multiplicands) ⌝ }
-    ensures { λ r. ⌜ Laid (bookPart limits (now (packet .entry)) (position from)) (r .step) (BooksLie (r .count) (now (books .entry)) (now (books .exit)) (now (lengths .entry)) (now (lengths .exit)) (now (words .entry)) (now (words .exit)) (now (multiplicands .entry)) (now (multiplicands .exit))) ⌝ }
+    requires { ⌜ ClearedBookBuffers limits (now books) (now lengths) (now codewords) (now multiplicands) ⌝ }
+    ensures { λ r. ⌜ ReadInto (bookPart limits (now (packet .entry)) (position from)) (r .step) (BooksStored (r .count) (now (books .entry)) (now (books .exit)) (now (lengths .entry)) (now (lengths .exit)) (now (codewords .entry)) (now (codewords .exit)) (now (multiplicands .entry)) (now (multiplicands .exit))) ⌝ }
     ensures { λ r. ⌜ r .count ≤ 256 ⌝ }
 {
-    let read = read_book_section(packet, from, limits, books, lengths, words, multiplicands);
+    let read = read_book_section(packet, from, limits, books, lengths, codewords, multiplicands);
     let count = read.count;
     let step = read.step;
     match step {
@@ -64,7 +64,7 @@ pub fn read_floor_part(
     plans: &mut [u16],
 ) -> FloorPart
     requires { ⌜ (count ≤ 256) × Zeros (now floors) × Zeros (now residues) × Zeros (now plans) ⌝ }
-    ensures { λ r. ⌜ Laid (floorPart (booksOf count (now (books .entry))) (now (packet .entry)) (position from)) (r .step) (FloorsLie (r .floors) (r .residues) (now (floors .entry)) (now (floors .exit)) (now (residues .entry)) (now (residues .exit)) (now (plans .entry)) (now (plans .exit))) ⌝ }
+    ensures { λ r. ⌜ ReadInto (floorPart (booksOf count (now (books .entry))) (now (packet .entry)) (position from)) (r .step) (FloorsStored (r .floors) (r .residues) (now (floors .entry)) (now (floors .exit)) (now (residues .entry)) (now (residues .exit)) (now (plans .entry)) (now (plans .exit))) ⌝ }
 {
     let read = read_floor_section(packet, from, count, floors);
     let number = read.count;
@@ -76,11 +76,11 @@ pub fn read_floor_part(
             step: Step::Refused(z),
         },
         Step::Next(next) => {
-            let behind = read_residue_section(packet, next, count, books, residues, plans);
-            let after = behind.step;
+            let after = read_residue_section(packet, next, count, books, residues, plans);
+            let after = after.step;
             FloorPart {
                 floors: number,
-                residues: behind.count,
+                residues: after.count,
                 step: after,
             }
         }
@@ -102,7 +102,7 @@ pub fn read_mapping_part(
     modes: &mut [u8],
 ) -> MappingPart
     requires { ⌜ (1 ≤ known .channels) × (known .channels ≤ 255) × Zeros (now mappings) × Zeros (now modes) ⌝ }
-    ensures { λ r. ⌜ Laid (mappingPart known (now (packet .entry)) (position from)) (r .step) (MappingsLie (r .mappings) (r .modes) (now (mappings .entry)) (now (mappings .exit)) (now (modes .entry)) (now (modes .exit))) ⌝ }
+    ensures { λ r. ⌜ ReadInto (mappingPart known (now (packet .entry)) (position from)) (r .step) (MappingsStored (r .mappings) (r .modes) (now (mappings .entry)) (now (mappings .exit)) (now (modes .entry)) (now (modes .exit))) ⌝ }
 {
     let read = read_mapping_section(packet, from, known, mappings);
     let number = read.count;
@@ -114,11 +114,11 @@ pub fn read_mapping_part(
             step: Step::Refused(z),
         },
         Step::Next(next) => {
-            let behind = read_mode_section(packet, next, number, modes);
-            let after = behind.step;
+            let after = read_mode_section(packet, next, number, modes);
+            let after = after.step;
             MappingPart {
                 mappings: number,
-                modes: behind.count,
+                modes: after.count,
                 step: after,
             }
         }
@@ -126,7 +126,7 @@ pub fn read_mapping_part(
 }
 
 // How many of each follow the books, and where reading goes on, or the refusal.
-pub struct Behind {
+pub struct After {
     pub floors: u32,
     pub residues: u32,
     pub mappings: u32,
@@ -135,7 +135,7 @@ pub struct Behind {
 }
 
 // Floors, residues, mappings and modes, behind `count` codebooks.
-pub fn read_behind_books(
+pub fn read_after_books(
     packet: &[u8],
     from: Cursor,
     channels: u32,
@@ -146,16 +146,16 @@ pub fn read_behind_books(
     plans: &mut [u16],
     mappings: &mut [u8],
     modes: &mut [u8],
-) -> Behind
+) -> After
     requires { ⌜ (1 ≤ channels) × (channels ≤ 255) × (count ≤ 256) × Zeros (now floors) × Zeros (now residues) × Zeros (now plans) × Zeros (now mappings) × Zeros (now modes) ⌝ }
-    ensures { λ r. ⌜ Laid (behindBooks channels (booksOf count (now (books .entry))) (now (packet .entry)) (position from)) (r .step) (BehindLie (r .floors) (r .residues) (r .mappings) (r .modes) (now (floors .entry)) (now (floors .exit)) (now (residues .entry)) (now (residues .exit)) (now (plans .entry)) (now (plans .exit)) (now (mappings .entry)) (now (mappings .exit)) (now (modes .entry)) (now (modes .exit))) ⌝ }
+    ensures { λ r. ⌜ ReadInto (afterBooks channels (booksOf count (now (books .entry))) (now (packet .entry)) (position from)) (r .step) (AfterBooksStored (r .floors) (r .residues) (r .mappings) (r .modes) (now (floors .entry)) (now (floors .exit)) (now (residues .entry)) (now (residues .exit)) (now (plans .entry)) (now (plans .exit)) (now (mappings .entry)) (now (mappings .exit)) (now (modes .entry)) (now (modes .exit))) ⌝ }
 {
     let first = read_floor_part(packet, from, count, books, floors, residues, plans);
     let floor_count = first.floors;
     let residue_count = first.residues;
     let step = first.step;
     match step {
-        Step::Refused(z) => Behind {
+        Step::Refused(z) => After {
             floors: floor_count,
             residues: residue_count,
             mappings: 0,
@@ -170,7 +170,7 @@ pub fn read_behind_books(
             };
             let second = read_mapping_part(packet, next, known, mappings, modes);
             let after = second.step;
-            Behind {
+            After {
                 floors: floor_count,
                 residues: residue_count,
                 mappings: second.mappings,

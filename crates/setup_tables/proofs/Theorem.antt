@@ -7,14 +7,14 @@ use mathlib.Core.Path.{_≡_, sym, ap, subst, _∙_}
 use lib.ListN.{length, getD}
 use Rattle.reading.specs.Lists.{rows}
 use Rattle.reading.specs.Pad.{pad}
-use Rattle.reading.specs.Stand.{Each, Stands}
-use Rattle.reading.proofs.Stands.{rows-length, stands-same}
+use Rattle.reading.specs.Encoding.{Each, Encodes}
+use Rattle.reading.proofs.Encodes.{rows-length, encodes-same}
 use Rattle.limits.specs.declared.Limits.{Limits}
 use Rattle.book.specs.Content.{Book}
 use Rattle.book.specs.Layout.{booksNeed}
 use Rattle.book_head.specs.Answers.{totals}
 use Rattle.books.specs.Rows.{bookRows}
-use Rattle.book_tables.specs.Stand.{Asked, BooksStand}
+use Rattle.book_tables.specs.Recognised.{Countable, BooksRecognised}
 use Rattle.book_tables.proofs.HeldLaws as BookLaws
 use Rattle.floors.specs.Content.{Floor}
 use Rattle.floors.specs.Decode.{decodeFloor}
@@ -47,7 +47,7 @@ use Rattle.setup.specs.Sound.{Sound}
 use Rattle.setup.proofs.RuleLaws.{valid-carried, valid-meets, sound-valid}
 use Rattle.setup.proofs.BookLinks.{books-link}
 use Rattle.setup.proofs.TableLaws.{RoomParts, room-parts}
-use Rattle.setup_tables.specs.Stand.{CountsStand, knownBy, PartsStand, OneContent}
+use Rattle.setup_tables.specs.Recognised.{CountsRecognised, knownBy, PartsRecognised, OneContent}
 use Rattle.setup_tables.proofs.Counts.{five, five-written, Five, written-five}
 
 -- each floor, each residue
@@ -82,7 +82,7 @@ known-is channels cs fs rs e f = λ j. record { channels = channels; floors = e 
 
 module _ (limits : Limits) (channels : ℕ) (t : Tables) where
   -- FROM THE PARTS TO THE WHOLE
-  module _ (p : PartsStand limits channels t) where
+  module _ (p : PartsRecognised limits channels t) where
     abbrev whole : Setup
     whole =
         record {
@@ -167,28 +167,28 @@ module _ (limits : Limits) (channels : ℕ) (t : Tables) where
     unfolding writtenOut layout
     numbers = written-five (t .counts) _ _ _ _ _ (space .counts) (ap (λ (u : Tables). u .counts) (s .written))
 
-    counts-stand : CountsStand (t .counts)
-    counts-stand =
+    counts-recognised : CountsRecognised (t .counts)
+    counts-recognised =
         record {
           books = subst (Counted 256) (sym (numbers .first)) (sound-valid s .book-count);
           floors = subst (Counted 64) (sym (numbers .second)) (sound-valid s .floor-count);
           residues = subst (Counted 64) (sym (numbers .third)) (sound-valid s .residue-count);
           mappings = subst (Counted 64) (sym (numbers .fourth)) (sound-valid s .mapping-count);
           modes = subst (Counted 64) (sym (numbers .fifth)) (sound-valid s .mode-count);
-          zeros = numbers .behind;
+          zeros = numbers .after;
         }
 
     book-rows-written : t .books ≡ pad (length (t .books)) (bookRows (totals 0 0) (s .content .books))
     unfolding writtenOut layout
     book-rows-written = ap (λ (u : Tables). u .books) (s .written)
 
-    books-stand : BooksStand limits (getD (t .counts) 0 0) (t .books) (t .lengths) (t .codewords) (t .multiplicands)
+    books-recognised : BooksRecognised limits (getD (t .counts) 0 0) (t .books) (t .lengths) (t .codewords) (t .multiplicands)
     unfolding writtenOut layout
-    books-stand =
+    books-recognised =
         record {
           books-room = space .books;
           lengths-room = space .lengths;
-          words-room = space .codewords;
+          codewords-room = space .codewords;
           multiplicands-room = space .multiplicands;
           content = s .content .books;
           counted = sym (numbers .first);
@@ -199,9 +199,9 @@ module _ (limits : Limits) (channels : ℕ) (t : Tables) where
           all-multiplicands = ap (λ (u : Tables). u .multiplicands) (s .written);
         }
 
-    floors-stand : FloorsRecognised (getD (t .counts) 0 0) (getD (t .counts) 1 0) (t .floors)
+    floors-recognised : FloorsRecognised (getD (t .counts) 0 0) (getD (t .counts) 1 0) (t .floors)
     unfolding writtenOut layout
-    floors-stand =
+    floors-recognised =
         record {
           room = space .floors;
           content = s .content .floors;
@@ -212,11 +212,11 @@ module _ (limits : Limits) (channels : ℕ) (t : Tables) where
 
     books-known : booksOf (getD (t .counts) 0 0) (t .books) ≡ booksKnown (s .content .books)
     books-known =
-        books-are (getD (t .counts) 0 0) (t .books) (s .content .books) (numbers .first) (counts-stand .books .high) (space .books) book-rows-written
+        books-are (getD (t .counts) 0 0) (t .books) (s .content .books) (numbers .first) (counts-recognised .books .high) (space .books) book-rows-written
 
-    residues-stand : ResiduesRecognised (booksOf (getD (t .counts) 0 0) (t .books)) (getD (t .counts) 2 0) (t .residues) (t .plans)
+    residues-recognised : ResiduesRecognised (booksOf (getD (t .counts) 0 0) (t .books)) (getD (t .counts) 2 0) (t .residues) (t .plans)
     unfolding writtenOut layout
-    residues-stand =
+    residues-recognised =
         record {
           room = space .residues;
           room-plans = space .plans;
@@ -229,9 +229,9 @@ module _ (limits : Limits) (channels : ℕ) (t : Tables) where
           };
         }
 
-    mappings-stand : MappingsRecognised (knownBy channels (t .counts)) (getD (t .counts) 3 0) (t .mappings)
+    mappings-recognised : MappingsRecognised (knownBy channels (t .counts)) (getD (t .counts) 3 0) (t .mappings)
     unfolding writtenOut layout
-    mappings-stand =
+    mappings-recognised =
         let long = rows-length mappingRow (ValidMapping (knownBy channels (t .counts))) 804 mapping-wide (s .content .mappings) in
         let few = sound-valid s .mapping-count .high in
         let room = space .mappings in
@@ -246,9 +246,9 @@ module _ (limits : Limits) (channels : ℕ) (t : Tables) where
           written = ap (λ (u : Tables). u .mappings) (s .written);
         }
 
-    modes-stand : ModesRecognised (getD (t .counts) 3 0) (getD (t .counts) 4 0) (t .modes)
+    modes-recognised : ModesRecognised (getD (t .counts) 3 0) (getD (t .counts) 4 0) (t .modes)
     unfolding writtenOut layout
-    modes-stand =
+    modes-recognised =
         let long = rows-length modeRow (ValidMode (getD (t .counts) 3 0)) 2 ModeLaws.mode-wide (s .content .modes) in
         let few = sound-valid s .mode-count .high in
         let room = space .modes in
@@ -260,17 +260,17 @@ module _ (limits : Limits) (channels : ℕ) (t : Tables) where
           written = ap (λ (u : Tables). u .modes) (s .written);
         }
 
-    pub sound-parts : PartsStand limits channels t
+    pub sound-parts : PartsRecognised limits channels t
     sound-parts =
         record {
           room = s .room;
-          numbers = counts-stand;
-          front = record { book-tables = books-stand; floor-table = floors-stand };
-          back = record { residue-tables = residues-stand; mapping-table = mappings-stand; mode-table = modes-stand };
+          numbers = counts-recognised;
+          front = record { book-tables = books-recognised; floor-table = floors-recognised };
+          back = record { residue-tables = residues-recognised; mapping-table = mappings-recognised; mode-table = modes-recognised };
         }
 
 -- floors as the other rows
-floors-rows : (books n : ℕ) (t : List ℕ) (s : FloorsRecognised books n t) → n ≤ 64 → Stands floorRow (ValidFloor books) n t
+floors-rows : (books n : ℕ) (t : List ℕ) (s : FloorsRecognised books n t) → n ≤ 64 → Encodes floorRow (ValidFloor books) n t
 floors-rows books n t s few =
     let long = rows-length floorRow (ValidFloor books) 277 floor-long (s .content) in
     let room = s .room in
@@ -279,18 +279,18 @@ floors-rows books n t s few =
 
 -- ONE WRITING-OUT, ONE CONTENT
 pub one-content : (limits : Limits) (channels : ℕ) (t : Tables) → Small limits → channels ≤ 255 → OneContent limits channels t
-unfolding sound-parts books-stand floors-stand floors-rows residues-stand mappings-stand modes-stand
+unfolding sound-parts books-recognised floors-recognised floors-rows residues-recognised mappings-recognised modes-recognised
 one-content limits channels t small few =
     record {
       same = λ x y.
           let p = sound-parts limits channels t x in
           let q = sound-parts limits channels t y in
-          let asked : Asked limits (getD (t .counts) 0 0) = record { few-books = p .numbers .books .high; few-entries = small .few-entries; few-values = small .few-values } in
+          let asked : Countable limits (getD (t .counts) 0 0) = record { few-books = p .numbers .books .high; few-entries = small .few-entries; few-values = small .few-values } in
           let books = BookLaws.one-content limits (getD (t .counts) 0 0) (t .books) (t .lengths) (t .codewords) (t .multiplicands) asked in
           let residues = ResidueLaws.one-content (booksOf (getD (t .counts) 0 0) (t .books)) (getD (t .counts) 2 0) (t .residues) (t .plans) (p .numbers .residues .high) in
           let b : x .content .books ≡ y .content .books = books .decoded (p .front .book-tables) ∙ sym (books .decoded (q .front .book-tables)) in
           let f : x .content .floors ≡ y .content .floors =
-          stands-same floorRow (ValidFloor (getD (t .counts) 0 0)) 277 floor-long decodeFloor (floor-decoded (getD (t .counts) 0 0)) (getD (t .counts) 1 0) (t .floors)
+          encodes-same floorRow (ValidFloor (getD (t .counts) 0 0)) 277 floor-long decodeFloor (floor-decoded (getD (t .counts) 0 0)) (getD (t .counts) 1 0) (t .floors)
           (floors-rows (getD (t .counts) 0 0) (getD (t .counts) 1 0) (t .floors) (p .front .floor-table) (p .numbers .floors .high))
           (floors-rows (getD (t .counts) 0 0) (getD (t .counts) 1 0) (t .floors) (q .front .floor-table) (q .numbers .floors .high)) in
           let r : x .content .residues ≡ y .content .residues = residues .decoded (p .back .residue-tables) ∙ sym (residues .decoded (q .back .residue-tables)) in

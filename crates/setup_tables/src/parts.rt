@@ -9,14 +9,14 @@ ghost use mathlib.Core.Path.{_≡_};
 ghost use Prim.Native.Nat.{_≤_};
 ghost use lib.ListN.{getD};
 ghost use Rattle.residues.specs.FromTable.{booksOf};
-ghost use Rattle.book_tables.specs.Stand.{BooksStand};
+ghost use Rattle.book_tables.specs.Recognised.{BooksRecognised};
 ghost use Rattle.floor_tables.specs.Recognised.{FloorsRecognised};
 ghost use Rattle.residue_tables.specs.Recognised.{ResiduesRecognised};
 ghost use Rattle.mapping_tables.specs.Recognised.{MappingsRecognised};
 ghost use Rattle.modes.specs.Recognised.{ModesRecognised};
 ghost use Rattle.setup.specs.Parts.{Small};
 ghost use Rattle.setup.specs.Carried.{Counted};
-ghost use Rattle.setup_tables.specs.Stand.{CountsStand, FrontStand, BackStand, knownBy};
+ghost use Rattle.setup_tables.specs.Recognised.{CountsRecognised, FrontRecognised, BackRecognised, knownBy};
 
 // Whether a count is one that a field less one carries, up to `most`.
 fn is_count(counts: &[u32], place: usize, most: u32) -> bool
@@ -34,7 +34,7 @@ fn is_count(counts: &[u32], place: usize, most: u32) -> bool
 
 // Whether the five counts stand, and zeros behind them.
 pub fn are_counts(counts: &[u32]) -> bool
-    ensures { λ r. ⌜ (r ≡ true) ↔ CountsStand (now (counts .entry)) ⌝ }
+    ensures { λ r. ⌜ (r ≡ true) ↔ CountsRecognised (now (counts .entry)) ⌝ }
 {
     if !is_count(counts, 0, 256) {
         return false;
@@ -60,31 +60,31 @@ fn are_books(
     counts: &[u32],
     books: &[u32],
     lengths: &[u8],
-    words: &[u32],
+    codewords: &[u32],
     multiplicands: &[u16],
 ) -> bool
-    requires { ⌜ Small limits × CountsStand (now counts) ⌝ }
-    ensures { λ r. ⌜ (r ≡ true) ↔ BooksStand limits (getD (now (counts .entry)) 0 0) (now (books .entry)) (now (lengths .entry)) (now (words .entry)) (now (multiplicands .entry)) ⌝ }
+    requires { ⌜ Small limits × CountsRecognised (now counts) ⌝ }
+    ensures { λ r. ⌜ (r ≡ true) ↔ BooksRecognised limits (getD (now (counts .entry)) 0 0) (now (books .entry)) (now (lengths .entry)) (now (codewords .entry)) (now (multiplicands .entry)) ⌝ }
 {
-    book_tables::stand::are_books(
+    book_tables::recognise::are_books(
         get_u32(counts, 0),
         limits,
         books,
         lengths,
-        words,
+        codewords,
         multiplicands,
     )
 }
 
 fn are_floors(counts: &[u32], floors: &[u16]) -> bool
-    requires { ⌜ CountsStand (now counts) ⌝ }
+    requires { ⌜ CountsRecognised (now counts) ⌝ }
     ensures { λ r. ⌜ (r ≡ true) ↔ FloorsRecognised (getD (now (counts .entry)) 0 0) (getD (now (counts .entry)) 1 0) (now (floors .entry)) ⌝ }
 {
     floor_tables::recognise::are_floors(floors, wide(get_u32(counts, 1)), get_u32(counts, 0))
 }
 
 fn are_residues(counts: &[u32], books: &[u32], residues: &[u32], plans: &[u16]) -> bool
-    requires { ⌜ CountsStand (now counts) ⌝ }
+    requires { ⌜ CountsRecognised (now counts) ⌝ }
     ensures { λ r. ⌜ (r ≡ true) ↔ ResiduesRecognised (booksOf (getD (now (counts .entry)) 0 0) (now (books .entry))) (getD (now (counts .entry)) 2 0) (now (residues .entry)) (now (plans .entry)) ⌝ }
 {
     let set_up = get_u32(counts, 0);
@@ -92,7 +92,7 @@ fn are_residues(counts: &[u32], books: &[u32], residues: &[u32], plans: &[u16]) 
 }
 
 fn are_mappings(channels: u32, counts: &[u32], mappings: &[u8]) -> bool
-    requires { ⌜ CountsStand (now counts) × (channels ≤ 255) ⌝ }
+    requires { ⌜ CountsRecognised (now counts) × (channels ≤ 255) ⌝ }
     ensures { λ r. ⌜ (r ≡ true) ↔ MappingsRecognised (knownBy channels (now (counts .entry))) (getD (now (counts .entry)) 3 0) (now (mappings .entry)) ⌝ }
 {
     let known = Known {
@@ -104,7 +104,7 @@ fn are_mappings(channels: u32, counts: &[u32], mappings: &[u8]) -> bool
 }
 
 fn are_modes(counts: &[u32], modes: &[u8]) -> bool
-    requires { ⌜ CountsStand (now counts) ⌝ }
+    requires { ⌜ CountsRecognised (now counts) ⌝ }
     ensures { λ r. ⌜ (r ≡ true) ↔ ModesRecognised (getD (now (counts .entry)) 3 0) (getD (now (counts .entry)) 4 0) (now (modes .entry)) ⌝ }
 {
     modes::recognise::are_modes(modes, wide(get_u32(counts, 4)), get_u32(counts, 3))
@@ -116,14 +116,14 @@ pub fn are_front(
     counts: &[u32],
     books: &[u32],
     lengths: &[u8],
-    words: &[u32],
+    codewords: &[u32],
     multiplicands: &[u16],
     floors: &[u16],
 ) -> bool
-    requires { ⌜ Small limits × CountsStand (now counts) ⌝ }
-    ensures { λ r. ⌜ (r ≡ true) ↔ FrontStand limits (now (counts .entry)) (now (books .entry)) (now (lengths .entry)) (now (words .entry)) (now (multiplicands .entry)) (now (floors .entry)) ⌝ }
+    requires { ⌜ Small limits × CountsRecognised (now counts) ⌝ }
+    ensures { λ r. ⌜ (r ≡ true) ↔ FrontRecognised limits (now (counts .entry)) (now (books .entry)) (now (lengths .entry)) (now (codewords .entry)) (now (multiplicands .entry)) (now (floors .entry)) ⌝ }
 {
-    if !are_books(limits, counts, books, lengths, words, multiplicands) {
+    if !are_books(limits, counts, books, lengths, codewords, multiplicands) {
         return false;
     }
     are_floors(counts, floors)
@@ -139,8 +139,8 @@ pub fn are_back(
     mappings: &[u8],
     modes: &[u8],
 ) -> bool
-    requires { ⌜ CountsStand (now counts) × (channels ≤ 255) ⌝ }
-    ensures { λ r. ⌜ (r ≡ true) ↔ BackStand channels (now (counts .entry)) (now (books .entry)) (now (residues .entry)) (now (plans .entry)) (now (mappings .entry)) (now (modes .entry)) ⌝ }
+    requires { ⌜ CountsRecognised (now counts) × (channels ≤ 255) ⌝ }
+    ensures { λ r. ⌜ (r ≡ true) ↔ BackRecognised channels (now (counts .entry)) (now (books .entry)) (now (residues .entry)) (now (plans .entry)) (now (mappings .entry)) (now (modes .entry)) ⌝ }
 {
     if !are_residues(counts, books, residues, plans) {
         return false;

@@ -8,7 +8,7 @@ ghost use Prim.Native.Nat.{_≤_};
 ghost use Rattle.setup.specs.Layout.{tables};
 ghost use Rattle.setup.specs.Parts.{Small};
 ghost use Rattle.setup.specs.Sound.{Sound};
-ghost use Rattle.setup_tables.specs.Stand.{OneContent};
+ghost use Rattle.setup_tables.specs.Recognised.{OneContent};
 
 // Whether the tables are the writing-out of some setup that meets every rule for so many channels.
 pub fn are_sound(
@@ -17,7 +17,7 @@ pub fn are_sound(
     counts: &[u32],
     books: &[u32],
     lengths: &[u8],
-    words: &[u32],
+    codewords: &[u32],
     multiplicands: &[u16],
     floors: &[u16],
     residues: &[u32],
@@ -26,15 +26,15 @@ pub fn are_sound(
     modes: &[u8],
 ) -> bool
     requires { ⌜ Small limits × (channels ≤ 255) ⌝ }
-    ensures { λ r. ⌜ (r ≡ true) ↔ Sound limits channels (tables (now (counts .entry)) (now (books .entry)) (now (lengths .entry)) (now (words .entry)) (now (multiplicands .entry)) (now (floors .entry)) (now (residues .entry)) (now (plans .entry)) (now (mappings .entry)) (now (modes .entry))) ⌝ }
-    ensures { λ _. ⌜ OneContent limits channels (tables (now (counts .entry)) (now (books .entry)) (now (lengths .entry)) (now (words .entry)) (now (multiplicands .entry)) (now (floors .entry)) (now (residues .entry)) (now (plans .entry)) (now (mappings .entry)) (now (modes .entry))) ⌝ }
+    ensures { λ r. ⌜ (r ≡ true) ↔ Sound limits channels (tables (now (counts .entry)) (now (books .entry)) (now (lengths .entry)) (now (codewords .entry)) (now (multiplicands .entry)) (now (floors .entry)) (now (residues .entry)) (now (plans .entry)) (now (mappings .entry)) (now (modes .entry))) ⌝ }
+    ensures { λ _. ⌜ OneContent limits channels (tables (now (counts .entry)) (now (books .entry)) (now (lengths .entry)) (now (codewords .entry)) (now (multiplicands .entry)) (now (floors .entry)) (now (residues .entry)) (now (plans .entry)) (now (mappings .entry)) (now (modes .entry))) ⌝ }
 {
-    if !setup_lent::have_room(
+    if !setup_buffers::have_room(
         limits,
         counts,
         books,
         lengths,
-        words,
+        codewords,
         multiplicands,
         floors,
         residues,
@@ -47,7 +47,7 @@ pub fn are_sound(
     if !parts::are_counts(counts) {
         return false;
     }
-    if !parts::are_front(limits, counts, books, lengths, words, multiplicands, floors) {
+    if !parts::are_front(limits, counts, books, lengths, codewords, multiplicands, floors) {
         return false;
     }
     parts::are_back(channels, counts, books, residues, plans, mappings, modes)

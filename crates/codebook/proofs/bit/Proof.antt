@@ -1,6 +1,6 @@
 -- `codebook::bit` meets its contract, by Bits. Assumes nothing.
 use borrow.Author.Needs.{needs}
-use Rattle.codebook.proofs.Bits.{bit-behind}
+use Rattle.codebook.proofs.Bits.{bit-after}
 use Rattle.codebook.proofs.bit.Statement.{statement}
 use Rattle.codebook.proofs.bit.Tie as tie
 
@@ -26,7 +26,7 @@ cast-result-2 : tie.Need-cast-result-2
 cast-result-2 c = search needs
 
 returns : tie.Need-returns
-returns c = bit-behind _ _ _ _ _ (c .before .before .wide .ensures)
+returns c = bit-after _ _ _ _ _ (c .before .before .wide .ensures)
 
 pub bit-spec : {M : Type 1} → statement M
 bit-spec =

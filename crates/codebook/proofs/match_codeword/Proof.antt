@@ -4,25 +4,25 @@ use native.Mathlib.Omega.{arith}
 use mathlib.Core.Logic.{⊎-elim}
 use lib.ListN.{length}
 use Rattle.bits.specs.Cursors.{position}
-use Rattle.codebook.proofs.Asked.{Taking, Searching, taken-one, length-within, other-word, length-short, asked}
+use Rattle.codebook.proofs.LoopLaws.{Taking, Searching, taken-one, length-within, other-word, length-short, loop-laws}
 use borrow.Author.Needs.{needs}
 use Rattle.codebook.proofs.match_codeword.Statement.{statement}
 use Rattle.codebook.proofs.match_codeword.Tie as tie
 
 abbrev Inv-entry : tie.InvT-entry
-Inv-entry packet from lengths words word taken entry₀ entry = Searching lengths words packet (position from) word taken entry
+Inv-entry packet from lengths codewords word taken entry₀ entry = Searching lengths codewords packet (position from) word taken entry
 
 abbrev μ-entry : tie.MeasureT-entry
-μ-entry packet from lengths words word taken entry₀ entry = length lengths - entry
+μ-entry packet from lengths codewords word taken entry₀ entry = length lengths - entry
 
 abbrev Inv-word : tie.InvT-word
-Inv-word packet from lengths words word₀ taken₀ entry₀ word taken entry = Taking lengths words packet (position from) word taken entry
+Inv-word packet from lengths codewords word₀ taken₀ entry₀ word taken entry = Taking lengths codewords packet (position from) word taken entry
 
 abbrev μ-word : tie.MeasureT-word
-μ-word packet from lengths words word₀ taken₀ entry₀ word taken entry = 32 - taken
+μ-word packet from lengths codewords word₀ taken₀ entry₀ word taken entry = 32 - taken
 
 word-holds : tie.Need-word-holds Inv-entry μ-entry Inv-word μ-word
-word-holds c = search asked
+word-holds c = search loop-laws
 
 cut-requires : tie.Need-cut-requires Inv-entry μ-entry Inv-word μ-word
 cut-requires c κs = search needs
@@ -34,13 +34,13 @@ cut-requires-2 : tie.Need-cut-requires-2 Inv-entry μ-entry Inv-word μ-word
 cut-requires-2 c κs = search needs
 
 mul-word : tie.Need-mul-word Inv-entry μ-entry Inv-word μ-word
-mul-word c = search asked
+mul-word c = search loop-laws
 
 bit-requires : tie.Need-bit-requires Inv-entry μ-entry Inv-word μ-word
-bit-requires c κs = search asked
+bit-requires c κs = search loop-laws
 
 add-word : tie.Need-add-word Inv-entry μ-entry Inv-word μ-word
-add-word c = search asked
+add-word c = search loop-laws
 
 add-taken : tie.Need-add-taken Inv-entry μ-entry Inv-word μ-word
 add-taken c = search needs
@@ -61,7 +61,7 @@ mul-if5 : tie.Need-mul-if5 Inv-entry μ-entry Inv-word μ-word
 mul-if5 c = search needs
 
 shared-slice-read-if5 : tie.Need-shared-slice-read-if5 Inv-entry μ-entry Inv-word μ-word
-shared-slice-read-if5 c = search asked
+shared-slice-read-if5 c = search loop-laws
 
 cast-if5 : tie.Need-cast-if5 Inv-entry μ-entry Inv-word μ-word
 cast-if5 c = let h = length-within _ _ (c .before .before .before .before .before .before .before .before .before .before .before .before .before .before .pre) _ _ _ _ _ (c .before .before .before .before .before .entry .inv) (c .before .before .before .before .if3 .left) _ (c .before .before .wide .ensures) (c .before .if4 .taken) in omega arith
@@ -72,14 +72,14 @@ shr-if5 c = let h = length-within _ _ (c .before .before .before .before .before
 cast-t26 : tie.Need-cast-t26 Inv-entry μ-entry Inv-word μ-word
 cast-t26 c = search needs
 
-behind-requires : tie.Need-behind-requires Inv-entry μ-entry Inv-word μ-word
-behind-requires c κs = search asked
+after-requires : tie.Need-after-requires Inv-entry μ-entry Inv-word μ-word
+after-requires c κs = search loop-laws
 
 word-less : tie.Need-word-less Inv-entry μ-entry Inv-word μ-word
 word-less c = search needs
 
 word-again : tie.Need-word-again Inv-entry μ-entry Inv-word μ-word
-word-again c = search asked
+word-again c = search loop-laws
 
 add-entry : tie.Need-add-entry Inv-entry μ-entry Inv-word μ-word
 add-entry c = search needs
@@ -95,16 +95,16 @@ entry-again c =
     (c .if4 .came)
 
 returns : tie.Need-returns Inv-entry μ-entry Inv-word μ-word
-returns c = search asked
+returns c = search loop-laws
 
 returns-2 : tie.Need-returns-2 Inv-entry μ-entry Inv-word μ-word
-returns-2 c = search asked
+returns-2 c = search loop-laws
 
 returns-3 : tie.Need-returns-3 Inv-entry μ-entry Inv-word μ-word
-returns-3 c = search asked
+returns-3 c = search loop-laws
 
 returns-4 : tie.Need-returns-4 Inv-entry μ-entry Inv-word μ-word
-returns-4 c = search asked
+returns-4 c = search loop-laws
 
 pub match-codeword-spec : {M : Type 1} → statement M
 match-codeword-spec =
@@ -131,7 +131,7 @@ match-codeword-spec =
     cast-if5
     shr-if5
     cast-t26
-    behind-requires
+    after-requires
     word-less
     word-again
     add-entry

@@ -1,5 +1,5 @@
 -- `setup_codeword::read_codeword` gives what the call's definition says, one law for each answer (proofs/CallLaws). Assumes nothing.
-use Rattle.setup_codeword.proofs.CallLaws.{call-unsound, call-not-there, call-read, call-lies}
+use Rattle.setup_codeword.proofs.CallLaws.{call-unsound, call-not-there, call-read, call-stored}
 use borrow.Author.Needs.{needs}
 use Rattle.setup_codeword.proofs.read_codeword.Statement.{statement}
 use Rattle.setup_codeword.proofs.read_codeword.Tie as tie
@@ -23,7 +23,7 @@ returns-2 : tie.Need-returns-2
 returns-2 c = call-not-there (c .before .before .before .before .are-sound .ensures) _ _ _ (c .before .before .if1 .left) (c .before .before .before .is-set-up .ensures) (c .before .if2 .taken) (c .refused2 .ensures)
 
 read-entry-requires : tie.Need-read-entry-requires
-read-entry-requires c κs = call-lies (c .before .before .before .are-sound .ensures) (c .before .if1 .left) _ (c .before .before .is-set-up .ensures) (c .if2 .left)
+read-entry-requires c κs = call-stored (c .before .before .before .are-sound .ensures) (c .before .if1 .left) _ (c .before .before .is-set-up .ensures) (c .if2 .left)
 
 returns-3 : tie.Need-returns-3
 returns-3 c = call-read (c .before .before .before .before .are-sound .ensures) _ _ _ (c .before .before .if1 .left) (c .before .before .before .is-set-up .ensures) (c .before .if2 .left) (c .read-entry .ensures)

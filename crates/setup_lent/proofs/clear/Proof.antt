@@ -1,8 +1,8 @@
--- `setup_lent::clear` meets its contract, by setup's TableLaws. Assumes nothing.
+-- `setup_buffers::clear` meets its contract, by setup's TableLaws. Assumes nothing.
 use Rattle.setup.proofs.TableLaws.{all-cleared}
 use borrow.Author.Needs.{needs}
-use Rattle.setup_lent.proofs.clear.Statement.{statement}
-use Rattle.setup_lent.proofs.clear.Tie as tie
+use Rattle.setup_buffers.proofs.clear.Statement.{statement}
+use Rattle.setup_buffers.proofs.clear.Tie as tie
 
 clear-u32-requires : tie.Need-clear-u32-requires
 clear-u32-requires c κs = search needs
@@ -10,8 +10,8 @@ clear-u32-requires c κs = search needs
 clear-books-requires : tie.Need-clear-books-requires
 clear-books-requires c κs = search needs
 
-clear-behind-requires : tie.Need-clear-behind-requires
-clear-behind-requires c κs = search needs
+clear-after-requires : tie.Need-clear-after-requires
+clear-after-requires c κs = search needs
 
 same-length : tie.Need-same-length
 same-length c = c .before .before .before .before .before .before .before .before .before .before .before .before .before .before .before .before .before .before .before .before .before .before .before .before .before .before .before .before .before .before .counts .given
@@ -23,7 +23,7 @@ same-length-3 : tie.Need-same-length-3
 same-length-3 c = c .before .before .before .before .before .before .before .before .before .before .before .before .before .before .before .before .before .before .before .before .before .lengths .given
 
 same-length-4 : tie.Need-same-length-4
-same-length-4 c = c .before .before .before .before .before .before .before .before .before .before .before .before .before .before .before .before .before .before .before .words .given
+same-length-4 c = c .before .before .before .before .before .before .before .before .before .before .before .before .before .before .before .before .before .before .before .codewords .given
 
 same-length-5 : tie.Need-same-length-5
 same-length-5 c = c .before .before .before .before .before .before .before .before .before .before .before .before .before .before .before .before .before .multiplicands .given
@@ -44,7 +44,7 @@ same-length-10 : tie.Need-same-length-10
 same-length-10 c = c .before .modes .given
 
 returns : tie.Need-returns
-returns c = all-cleared _ _ _ _ _ _ _ _ _ _ (c .before .before .before .before .before .before .before .before .before .before .before .before .before .before .before .before .before .before .before .before .before .before .before .before .before .before .before .before .before .before .before .clear-u32 .ensures) (c .before .before .before .before .before .before .before .before .before .before .before .before .before .before .before .before .before .before .before .before .before .before .before .before .clear-books .ensures .0 .zeros) (c .before .before .before .before .before .before .before .before .before .before .before .before .before .before .before .before .before .before .before .before .before .before .before .before .clear-books .ensures .1 .zeros) (c .before .before .before .before .before .before .before .before .before .before .before .before .before .before .before .before .before .before .before .before .before .before .before .before .clear-books .ensures .2 .zeros) (c .before .before .before .before .before .before .before .before .before .before .before .before .before .before .before .before .before .before .before .before .before .before .before .before .clear-books .ensures .3 .zeros) (c .before .before .before .before .before .before .before .before .before .before .clear-behind .ensures .0 .zeros) (c .before .before .before .before .before .before .before .before .before .before .clear-behind .ensures .1 .zeros) (c .before .before .before .before .before .before .before .before .before .before .clear-behind .ensures .2 .zeros) (c .before .before .before .before .before .before .before .before .before .before .clear-behind .ensures .3 .zeros) (c .before .before .before .before .before .before .before .before .before .before .clear-behind .ensures .4 .zeros)
+returns c = all-cleared _ _ _ _ _ _ _ _ _ _ (c .before .before .before .before .before .before .before .before .before .before .before .before .before .before .before .before .before .before .before .before .before .before .before .before .before .before .before .before .before .before .before .clear-u32 .ensures) (c .before .before .before .before .before .before .before .before .before .before .before .before .before .before .before .before .before .before .before .before .before .before .before .before .clear-books .ensures .0 .zeros) (c .before .before .before .before .before .before .before .before .before .before .before .before .before .before .before .before .before .before .before .before .before .before .before .before .clear-books .ensures .1 .zeros) (c .before .before .before .before .before .before .before .before .before .before .before .before .before .before .before .before .before .before .before .before .before .before .before .before .clear-books .ensures .2 .zeros) (c .before .before .before .before .before .before .before .before .before .before .before .before .before .before .before .before .before .before .before .before .before .before .before .before .clear-books .ensures .3 .zeros) (c .before .before .before .before .before .before .before .before .before .before .clear-after .ensures .0 .zeros) (c .before .before .before .before .before .before .before .before .before .before .clear-after .ensures .1 .zeros) (c .before .before .before .before .before .before .before .before .before .before .clear-after .ensures .2 .zeros) (c .before .before .before .before .before .before .before .before .before .before .clear-after .ensures .3 .zeros) (c .before .before .before .before .before .before .before .before .before .before .clear-after .ensures .4 .zeros)
 
 pub clear-spec : {M : Type 1} → statement M
 clear-spec =
@@ -52,7 +52,7 @@ clear-spec =
     (tie.spec
     clear-u32-requires
     clear-books-requires
-    clear-behind-requires
+    clear-after-requires
     same-length
     same-length-2
     same-length-3

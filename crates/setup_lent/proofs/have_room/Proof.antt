@@ -1,8 +1,8 @@
--- `setup_lent::have_room` meets its contract, by setup's TableLaws. Assumes nothing.
+-- `setup_buffers::have_room` meets its contract, by setup's TableLaws. Assumes nothing.
 use Rattle.setup.proofs.TableLaws.{small0, small1, small2, small3, small4, small5, small6, small7, small8, small9, roomy}
 use borrow.Author.Needs.{needs}
-use Rattle.setup_lent.proofs.have_room.Statement.{statement}
-use Rattle.setup_lent.proofs.have_room.Tie as tie
+use Rattle.setup_buffers.proofs.have_room.Statement.{statement}
+use Rattle.setup_buffers.proofs.have_room.Tie as tie
 
 returns : tie.Need-returns
 returns c = search small0

@@ -1,8 +1,8 @@
--- `setup_lent::settle` meets its contract, by SettledLaws. Assumes nothing.
-use Rattle.setup_lent.proofs.SettledLaws.{settled-next, settled-refused}
+-- `setup_buffers::settle` meets its contract, by SettledLaws. Assumes nothing.
+use Rattle.setup_buffers.proofs.SettledLaws.{settled-next, settled-refused}
 use borrow.Author.Needs.{needs}
-use Rattle.setup_lent.proofs.settle.Statement.{statement}
-use Rattle.setup_lent.proofs.settle.Tie as tie
+use Rattle.setup_buffers.proofs.settle.Statement.{statement}
+use Rattle.setup_buffers.proofs.settle.Tie as tie
 
 enum-told : tie.Need-enum-told
 enum-told c = search needs
@@ -29,7 +29,7 @@ same-length-3 : tie.Need-same-length-3
 same-length-3 c = c .before .before .before .before .before .before .before .before .before .before .before .before .before .before .before .lengths .given
 
 same-length-4 : tie.Need-same-length-4
-same-length-4 c = c .before .before .before .before .before .before .before .before .before .before .before .before .before .words .given
+same-length-4 c = c .before .before .before .before .before .before .before .before .before .before .before .before .before .codewords .given
 
 same-length-5 : tie.Need-same-length-5
 same-length-5 c = c .before .before .before .before .before .before .before .before .before .before .before .multiplicands .given

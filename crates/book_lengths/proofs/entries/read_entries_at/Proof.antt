@@ -1,6 +1,6 @@
 -- `book_lengths::entries::read_entries_at` meets its contract, by EntryLaws. Assumes nothing.
 use native.Mathlib.Omega.{arith}
-use Rattle.book_lengths.proofs.EntryLaws.{entries-laid}
+use Rattle.book_lengths.proofs.EntryLaws.{entries-stored}
 use borrow.Author.Needs.{needs}
 use Rattle.book_lengths.proofs.entries.read_entries_at.Statement.{statement}
 use Rattle.book_lengths.proofs.entries.read_entries_at.Tie as tie
@@ -43,7 +43,7 @@ returns c =
     let g = c .before .before .before .before .before .before .read-entries-arg .given in
     let g₂ = c .before .before .before .before .before .read-entries-arg2 .given in
     let k = c .before .before .before .before .read-entries .kept in
-    entries-laid _ _ _ _ _ _ _ _ (c .before .before .before .before .read-entries .ensures) (omega arith) (omega arith) (omega arith) (c .before .before .before .before .before .before .before .before .before .before .pre .0) (c .before .before .before .before .before .before .before .before .before .before .pre .1)
+    entries-stored _ _ _ _ _ _ _ _ (c .before .before .before .before .read-entries .ensures) (omega arith) (omega arith) (omega arith) (c .before .before .before .before .before .before .before .before .before .before .pre .0) (c .before .before .before .before .before .before .before .before .before .before .pre .1)
 
 pub read-entries-at-spec : {M : Type 1} → statement M
 read-entries-at-spec =

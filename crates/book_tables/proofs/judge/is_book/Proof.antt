@@ -1,5 +1,5 @@
 -- `book_tables::judge::is_book` meets its contract. Assumes nothing.
-use Rattle.book_tables.proofs.TestLaws.{lengths-inside, words-inside, values-inside, width-small, book-laws}
+use Rattle.book_tables.proofs.TestLaws.{lengths-inside, codewords-inside, values-inside, width-small, book-laws}
 use borrow.Author.Needs.{needs}
 use Rattle.book_tables.proofs.judge.is_book.Statement.{statement}
 use Rattle.book_tables.proofs.judge.is_book.Tie as tie
@@ -23,7 +23,7 @@ returns-3 : tie.Need-returns-3
 returns-3 c = search book-laws
 
 is-coded-requires : tie.Need-is-coded-requires
-is-coded-requires c κs = search (needs, lengths-inside, words-inside)
+is-coded-requires c κs = search (needs, lengths-inside, codewords-inside)
 
 returns-4 : tie.Need-returns-4
 returns-4 c = search book-laws

@@ -7,8 +7,8 @@ use Rattle.book_tables.proofs.judge.is_lookup.Tie as tie
 returns : tie.Need-returns
 returns c = search lookup-laws
 
-is-silent-requires : tie.Need-is-silent-requires
-is-silent-requires c κs = search needs
+has-no-lookup-requires : tie.Need-has-no-lookup-requires
+has-no-lookup-requires c κs = search needs
 
 returns-2 : tie.Need-returns-2
 returns-2 c = search lookup-laws
@@ -21,4 +21,4 @@ returns-3 c = search lookup-laws
 
 pub is-lookup-spec : {M : Type 1} → statement M
 is-lookup-spec =
-    tie.close (tie.spec returns is-silent-requires returns-2 is-valued-requires returns-3)
+    tie.close (tie.spec returns has-no-lookup-requires returns-2 is-valued-requires returns-3)

@@ -19,7 +19,7 @@ read-body-requires : tie.Need-read-body-requires
 read-body-requires c κs =
     let k = head-known _ _ _ _ (c .before .before .before .before .before .before .before .read-head .ensures) (c .before .before .before .before .before .head .given .1) in
     let a = c .before .before .before .before .before .before .before .before .before .before .before .before .before .pre in
-    record { few-books = a .1 .few-books; lengths-fit = omega arith; words-fit = omega arith; few-entries = omega arith; values-within = a .1 .values-within; values-fit = a .0 .multiplicands-long; few-values = a .0 .few-values }
+    record { few-books = a .1 .few-books; lengths-fit = omega arith; codewords-fit = omega arith; few-entries = omega arith; values-within = a .1 .values-within; values-fit = a .0 .multiplicands-long; few-values = a .0 .few-values }
 
 returns : tie.Need-returns
 returns c = (book-refused _ _ _ _ _ _ (c .before .before .before .read-head .ensures) (c .before .z .given .1) _, (c .before .before .before .before .before .before .before .before .before .pre .1 .entries-within, c .before .before .before .before .before .before .before .before .before .pre .1 .values-within))

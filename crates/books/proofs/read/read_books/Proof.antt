@@ -4,21 +4,21 @@ use native.Mathlib.Omega.{arith}
 use mathlib.Core.Path.{_≡_, refl}
 use Rattle.bits.specs.declared.Step.the-variants.{Next}
 use Rattle.bits.specs.Cursors.{position}
-use Rattle.books.specs.Lent.{Lent}
-use Rattle.books.proofs.BooksLaws.{BooksRead, books-start, books-lent, books-refused, books-next, books-done}
+use Rattle.books.specs.BookBuffers.{BookBuffers}
+use Rattle.books.proofs.BooksLaws.{BooksRead, books-start, books-buffers, books-refused, books-next, books-done}
 use borrow.Author.Needs.{needs}
 use Rattle.books.proofs.read.read_books.Statement.{statement}
 use Rattle.books.proofs.read.read_books.Tie as tie
 
 abbrev Inv-loop : tie.InvT-loop
-Inv-loop packet count limits books₀ lengths₀ words₀ multiplicands₀ at₀ read₀ index₀ books lengths words multiplicands at read index =
-    Lent limits books₀ lengths₀ words₀ multiplicands₀
+Inv-loop packet count limits books₀ lengths₀ codewords₀ multiplicands₀ at₀ read₀ index₀ books lengths codewords multiplicands at read index =
+    BookBuffers limits books₀ lengths₀ codewords₀ multiplicands₀
     × (count ≤ 256)
-    × BooksRead limits packet count (position at₀) books₀ lengths₀ words₀ multiplicands₀ at books lengths words multiplicands index (read .entries) (read .values)
+    × BooksRead limits packet count (position at₀) books₀ lengths₀ codewords₀ multiplicands₀ at books lengths codewords multiplicands index (read .entries) (read .values)
     × (read .step ≡ Next at)
 
 abbrev μ-loop : tie.MeasureT-loop
-μ-loop packet count limits books₀ lengths₀ words₀ multiplicands₀ at₀ read₀ index₀ books lengths words multiplicands at read index =
+μ-loop packet count limits books₀ lengths₀ codewords₀ multiplicands₀ at₀ read₀ index₀ books lengths codewords multiplicands at read index =
     count - index
 
 loop-holds : tie.Need-loop-holds Inv-loop μ-loop
@@ -27,7 +27,7 @@ loop-holds c = (c .before .before .before .before .before .pre .0, c .before .be
 read-book-requires : tie.Need-read-book-requires Inv-loop μ-loop
 read-book-requires c κs =
     let w = c .before .before .before .before .before .loop .inv .2 in
-    (books-lent _ _ _ _ _ _ _ _ w (c .before .before .before .before .before .loop .inv .0), record { few-books = omega (arith, c .before .before .before .before .before .loop .inv .1, c .before .before .before .before .loop-test .taken); entries-within = w .entries-within; values-within = w .values-within })
+    (books-buffers _ _ _ _ _ _ _ _ w (c .before .before .before .before .before .loop .inv .0), record { few-books = omega (arith, c .before .before .before .before .before .loop .inv .1, c .before .before .before .before .loop-test .taken); entries-within = w .entries-within; values-within = w .values-within })
 
 enum-known-step : tie.Need-enum-known-step Inv-loop μ-loop
 enum-known-step c = search needs

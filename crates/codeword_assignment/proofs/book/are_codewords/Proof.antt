@@ -9,10 +9,10 @@ use Rattle.codeword_assignment.proofs.book.are_codewords.Statement.{sta
 use Rattle.codeword_assignment.proofs.book.are_codewords.Tie as tie
 
 abbrev Inv-loop : tie.InvT-loop
-Inv-loop lengths words blocks₀ entry₀ blocks entry = Comparing lengths words blocks entry
+Inv-loop lengths codewords blocks₀ entry₀ blocks entry = Comparing lengths codewords blocks entry
 
 abbrev μ-loop : tie.MeasureT-loop
-μ-loop lengths words blocks₀ entry₀ blocks entry = length lengths - entry
+μ-loop lengths codewords blocks₀ entry₀ blocks entry = length lengths - entry
 
 returns : tie.Need-returns Inv-loop μ-loop
 returns c = not-coded _ _ (other-length _ _ (c .if1 .taken))

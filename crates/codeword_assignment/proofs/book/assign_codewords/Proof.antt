@@ -15,13 +15,13 @@ same-length c = search needs
 returns : tie.Need-returns
 returns c =
     let cleared = c .before .before .before in
-    let places = length (cleared .before .before .before .before .args .words .now) in
+    let places = length (cleared .before .before .before .before .args .codewords .now) in
     promised-short _ places _ (cleared .clear-u32 .ensures) (c .if1 .taken)
 
 hand-out-requires : tie.Need-hand-out-requires
 hand-out-requires c κs =
     let cleared = c .before .before .before .before in
-    let places = length (cleared .before .before .before .before .args .words .now) in
+    let places = length (cleared .before .before .before .before .args .codewords .now) in
     (c .before .if1 .left, still-cleared places _ (cleared .clear-u32 .ensures))
 
 enum-told : tie.Need-enum-told
@@ -53,7 +53,7 @@ returns-2 c =
     let h = c .before .before .before .before in
     let room = h .before .before in
     let cleared = room .before .before .before in
-    let places = length (cleared .before .before .before .before .args .words .now) in
+    let places = length (cleared .before .before .before .before .args .codewords .now) in
     promised-accepted _ places _ (cleared .clear-u32 .ensures) _ (room .if1 .left) (h .hand-out .ensures .0) _ (h .hand-out .ensures .1) (c .enum-told .given .1)
 
 same-length-3 : tie.Need-same-length-3
@@ -66,7 +66,7 @@ returns-3 c =
     let h = a .before .before .before .before in
     let room = h .before .before in
     let cleared = room .before .before .before in
-    let places = length (cleared .before .before .before .before .args .words .now) in
+    let places = length (cleared .before .before .before .before .args .codewords .now) in
     promised-refused _ places _ (cleared .clear-u32 .ensures) _ (room .if1 .left) (h .hand-out .ensures .0) _ (h .hand-out .last .1 .0) _
     (λ q. over-accepted _ (sym (a .enum-told2 .given .1) ∙ q))
     (search needs)
@@ -83,7 +83,7 @@ returns-4 c =
     let h = a .before .before .before .before in
     let room = h .before .before in
     let cleared = room .before .before .before in
-    let places = length (cleared .before .before .before .before .args .words .now) in
+    let places = length (cleared .before .before .before .before .args .codewords .now) in
     promised-refused _ places _ (cleared .clear-u32 .ensures) _ (room .if1 .left) (h .hand-out .ensures .0) _ (h .hand-out .last .1 .0) _
     (λ q. under-accepted (sym (a .enum-told3 .given .1) ∙ q))
     (search needs)
@@ -100,7 +100,7 @@ returns-5 c =
     let h = a .before .before .before .before in
     let room = h .before .before in
     let cleared = room .before .before .before in
-    let places = length (cleared .before .before .before .before .args .words .now) in
+    let places = length (cleared .before .before .before .before .args .codewords .now) in
     promised-refused _ places _ (cleared .clear-u32 .ensures) _ (room .if1 .left) (h .hand-out .ensures .0) _ (h .hand-out .last .1 .0) _
     (λ q. short-accepted (sym (a .enum-told4 .given .1) ∙ q))
     (search needs)

@@ -8,10 +8,10 @@ use Rattle.codeword_assignment.proofs.book.hand_out.Statement.{statemen
 use Rattle.codeword_assignment.proofs.book.hand_out.Tie as tie
 
 abbrev Inv-loop : tie.InvT-loop
-Inv-loop lengths words₀ blocks₀ entry₀ words blocks entry = Handing lengths words₀ words blocks entry
+Inv-loop lengths codewords₀ blocks₀ entry₀ codewords blocks entry = Handing lengths codewords₀ codewords blocks entry
 
 abbrev μ-loop : tie.MeasureT-loop
-μ-loop lengths words₀ blocks₀ entry₀ words blocks entry = length lengths - entry
+μ-loop lengths codewords₀ blocks₀ entry₀ codewords blocks entry = length lengths - entry
 
 empty-space-requires : tie.Need-empty-space-requires Inv-loop μ-loop
 empty-space-requires c κs = search needs
@@ -35,14 +35,14 @@ returns c =
       λ q. absurd (over-accepted _ q),
     )
 
-cast-words : tie.Need-cast-words Inv-loop μ-loop
-cast-words c = search needs
+cast-codewords : tie.Need-cast-codewords Inv-loop μ-loop
+cast-codewords c = search needs
 
-mul-words : tie.Need-mul-words Inv-loop μ-loop
-mul-words c = search needs
+mul-codewords : tie.Need-mul-codewords Inv-loop μ-loop
+mul-codewords c = search needs
 
-slice-write-words : tie.Need-slice-write-words Inv-loop μ-loop
-slice-write-words c = search needs
+slice-write-codewords : tie.Need-slice-write-codewords Inv-loop μ-loop
+slice-write-codewords c = search needs
 
 add-entry : tie.Need-add-entry Inv-loop μ-loop
 add-entry c = search needs
@@ -108,9 +108,9 @@ hand-out-spec =
     entry-codeword-requires
     same-length
     returns
-    cast-words
-    mul-words
-    slice-write-words
+    cast-codewords
+    mul-codewords
+    slice-write-codewords
     add-entry
     loop-less
     loop-again

@@ -1,6 +1,6 @@
 -- `floor_curve::points::earlier` meets its contract. Each return is one way out of `takesRight`. Assumes nothing.
 use native.Mathlib.Omega.{arith}
-use Rattle.floor_curve.proofs.PointLaws.{right-unset, right-left, right-held, right-takes}
+use Rattle.floor_curve.proofs.PointLaws.{right-unset, right-left, right-best, right-takes}
 use borrow.Author.Needs.{needs}
 use Rattle.floor_curve.proofs.points.earlier.Statement.{statement}
 use Rattle.floor_curve.proofs.points.earlier.Tie as tie
@@ -36,7 +36,7 @@ wide-requires-2 : tie.Need-wide-requires-2
 wide-requires-2 c κs = search needs
 
 returns-3 : tie.Need-returns-3
-returns-3 c = right-held _ _ _ _ _ (omega arith) (omega arith) (omega arith) (omega arith)
+returns-3 c = right-best _ _ _ _ _ (omega arith) (omega arith) (omega arith) (omega arith)
 
 returns-4 : tie.Need-returns-4
 returns-4 c = right-takes _ _ _ _ _ (omega arith) (omega arith) (omega arith) (omega arith)

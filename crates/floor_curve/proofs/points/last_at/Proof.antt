@@ -12,10 +12,10 @@ use Rattle.floor_curve.proofs.points.last_at.Statement.{statement}
 use Rattle.floor_curve.proofs.points.last_at.Tie as tie
 
 abbrev Inv-loop : tie.InvT-loop
-Inv-loop x flags at held₀ j₀ held j = (j ≤ length x) × (held < length x) × (searched (takesLeft x flags at) held j (length x - j) ≡ lastAt x flags at)
+Inv-loop x flags at best₀ j₀ best j = (j ≤ length x) × (best < length x) × (searched (takesLeft x flags at) best j (length x - j) ≡ lastAt x flags at)
 
 abbrev μ-loop : tie.MeasureT-loop
-μ-loop x flags at held₀ j₀ held j = length x - j
+μ-loop x flags at best₀ j₀ best j = length x - j
 
 loop-holds : tie.Need-loop-holds Inv-loop μ-loop
 loop-holds c = (omega arith, omega arith, left-begun _ _ _)

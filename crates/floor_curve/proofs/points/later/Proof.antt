@@ -1,6 +1,6 @@
 -- `floor_curve::points::later` meets its contract. Each return is one way out of `takesLeft`. Assumes nothing.
 use native.Mathlib.Omega.{arith}
-use Rattle.floor_curve.proofs.PointLaws.{left-unset, left-right, left-held, left-takes}
+use Rattle.floor_curve.proofs.PointLaws.{left-unset, left-right, left-best, left-takes}
 use borrow.Author.Needs.{needs}
 use Rattle.floor_curve.proofs.points.later.Statement.{statement}
 use Rattle.floor_curve.proofs.points.later.Tie as tie
@@ -36,7 +36,7 @@ shared-slice-read-if3-2 : tie.Need-shared-slice-read-if3-2
 shared-slice-read-if3-2 c = search needs
 
 returns-3 : tie.Need-returns-3
-returns-3 c = left-held _ _ _ _ _ (omega arith) (omega arith) (omega arith)
+returns-3 c = left-best _ _ _ _ _ (omega arith) (omega arith) (omega arith)
 
 returns-4 : tie.Need-returns-4
 returns-4 c = left-takes _ _ _ _ _ (omega arith) (omega arith) (omega arith)

@@ -12,10 +12,10 @@ use Rattle.floor_line.proofs.neighbours.high_neighbour.Statement.{state
 use Rattle.floor_line.proofs.neighbours.high_neighbour.Tie as tie
 
 abbrev Inv-loop : tie.InvT-loop
-Inv-loop x i bottom held₀ k₀ held k = (k ≤ i) × (held < i) × (searched (takesHigh x (getD x i 0)) held k (i - k) ≡ highNeighbour x i)
+Inv-loop x i bottom best₀ k₀ best k = (k ≤ i) × (best < i) × (searched (takesHigh x (getD x i 0)) best k (i - k) ≡ highNeighbour x i)
 
 abbrev μ-loop : tie.MeasureT-loop
-μ-loop x i bottom held₀ k₀ held k = i - k
+μ-loop x i bottom best₀ k₀ best k = i - k
 
 mul-bottom : tie.Need-mul-bottom Inv-loop μ-loop
 mul-bottom c = search needs

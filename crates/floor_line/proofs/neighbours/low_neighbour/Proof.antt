@@ -12,10 +12,10 @@ use Rattle.floor_line.proofs.neighbours.low_neighbour.Statement.{statem
 use Rattle.floor_line.proofs.neighbours.low_neighbour.Tie as tie
 
 abbrev Inv-loop : tie.InvT-loop
-Inv-loop x i top held₀ j₀ held j = (j ≤ i) × (held < i) × (searched (takesLow x (getD x i 0)) held j (i - j) ≡ lowNeighbour x i)
+Inv-loop x i top best₀ j₀ best j = (j ≤ i) × (best < i) × (searched (takesLow x (getD x i 0)) best j (i - j) ≡ lowNeighbour x i)
 
 abbrev μ-loop : tie.MeasureT-loop
-μ-loop x i top held₀ j₀ held j = i - j
+μ-loop x i top best₀ j₀ best j = i - j
 
 mul-top : tie.Need-mul-top Inv-loop μ-loop
 mul-top c = search needs

@@ -1,16 +1,16 @@
 -- `floor_partition::partition::read_chosen` meets its contract: what is left to read, written into the list as it is, is the whole (proofs/ChosenLaws). Assumes nothing.
 use Prim.Native.Nat.{_-_}
 use native.Mathlib.Omega.{arith}
-use Rattle.floor_partition.proofs.ChosenLaws.{subclasses-few, Choosing, choose-start, base-low, digit-few, place-lies, choose-refused, choose-next, choose-done}
+use Rattle.floor_partition.proofs.ChosenLaws.{subclasses-few, Choosing, choose-start, base-low, digit-few, place-stored, choose-refused, choose-next, choose-done}
 use borrow.Author.Needs.{needs}
 use Rattle.floor_partition.proofs.partition.read_chosen.Statement.{statement}
 use Rattle.floor_partition.proofs.partition.read_chosen.Tie as tie
 
 abbrev Inv-loop : tie.InvT-loop
-Inv-loop packet floors floor class class-value books lengths words values₀ at count base next₀ left₀ i₀ values next left i = Choosing packet floors books lengths words floor class class-value values₀ at next₀ count base values next left i
+Inv-loop packet floors floor class class-value books lengths codewords values₀ at count base next₀ left₀ i₀ values next left i = Choosing packet floors books lengths codewords floor class class-value values₀ at next₀ count base values next left i
 
 abbrev μ-loop : tie.MeasureT-loop
-μ-loop packet floors floor class class-value books lengths words values₀ at count base next₀ left₀ i₀ values next left i = count - i
+μ-loop packet floors floor class class-value books lengths codewords values₀ at count base next₀ left₀ i₀ values next left i = count - i
 
 class-dimensions-requires : tie.Need-class-dimensions-requires Inv-loop μ-loop
 class-dimensions-requires c κs = (c .before .before .before .before .before .before .pre .1 .floor-few, c .before .before .before .before .before .before .pre .1 .class-few)
@@ -34,13 +34,13 @@ index-requires : tie.Need-index-requires Inv-loop μ-loop
 index-requires c κs = search needs
 
 subclass-book-requires : tie.Need-subclass-book-requires Inv-loop μ-loop
-subclass-book-requires c κs = (c .before .before .loop .inv .lies .floor-few, c .before .before .loop .inv .lies .class-few, digit-few (c .before .before .loop .inv) (c .index .ensures))
+subclass-book-requires c κs = (c .before .before .loop .inv .stored .floor-few, c .before .before .loop .inv .stored .class-few, digit-few (c .before .before .loop .inv) (c .index .ensures))
 
 add-read-value : tie.Need-add-read-value Inv-loop μ-loop
 add-read-value c = search needs
 
 read-value-requires : tie.Need-read-value-requires Inv-loop μ-loop
-read-value-requires c κs = place-lies (c .before .before .before .before .loop .inv) (c .before .before .index .ensures) (c .before .subclass-book .ensures)
+read-value-requires c κs = place-stored (c .before .before .before .before .loop .inv) (c .before .before .index .ensures) (c .before .subclass-book .ensures)
 
 enum-known-z : tie.Need-enum-known-z Inv-loop μ-loop
 enum-known-z c = search needs

@@ -1,5 +1,5 @@
 -- `floor_partition::partition::read_class_value` meets its contract: a law for each way out (proofs/ClassLaws). Assumes nothing.
-use Rattle.floor_partition.proofs.ClassLaws.{class-none, master-low, master-lies, class-read}
+use Rattle.floor_partition.proofs.ClassLaws.{class-none, master-low, master-stored, class-read}
 use borrow.Author.Needs.{needs}
 use Rattle.floor_partition.proofs.partition.read_class_value.Statement.{statement}
 use Rattle.floor_partition.proofs.partition.read_class_value.Tie as tie
@@ -20,7 +20,7 @@ sub-read-entry : tie.Need-sub-read-entry
 sub-read-entry c = search (needs, master-low)
 
 read-entry-requires : tie.Need-read-entry-requires
-read-entry-requires c κs = search (needs, master-lies)
+read-entry-requires c κs = search (needs, master-stored)
 
 returns-2 : tie.Need-returns-2
 returns-2 c = class-read (c .before .before .before .before .before .before .before .before .before .before .pre) (c .before .before .before .before .class-subclasses .ensures) (c .before .before .before .if1 .left) (c .before .before .class-master .ensures) (c .before .long .ensures) _ _ _ (c .read-entry .ensures .0)

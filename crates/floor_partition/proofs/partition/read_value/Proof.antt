@@ -1,5 +1,5 @@
 -- `floor_partition::partition::read_value` meets its contract: a law for each way out (proofs/ClassLaws). Assumes nothing.
-use Rattle.floor_partition.proofs.ClassLaws.{value-none, value-low, value-lies, value-cut, value-fits, value-read}
+use Rattle.floor_partition.proofs.ClassLaws.{value-none, value-low, value-stored, value-cut, value-fits, value-read}
 use borrow.Author.Needs.{needs}
 use Rattle.floor_partition.proofs.partition.read_value.Statement.{statement}
 use Rattle.floor_partition.proofs.partition.read_value.Tie as tie
@@ -20,7 +20,7 @@ sub-read-entry : tie.Need-sub-read-entry
 sub-read-entry c = search (needs, value-low)
 
 read-entry-requires : tie.Need-read-entry-requires
-read-entry-requires c κs = search (needs, value-lies)
+read-entry-requires c κs = search (needs, value-stored)
 
 enum-known-z : tie.Need-enum-known-z
 enum-known-z c = search needs

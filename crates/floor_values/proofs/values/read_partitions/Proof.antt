@@ -2,16 +2,16 @@
 use Prim.Native.Nat.{_-_}
 use native.Mathlib.Omega.{arith}
 use mathlib.Core.Path.{refl}
-use Rattle.floor_values.proofs.PartitionLaws.{Going, go-start, count-few, place-low, go-class, go-refused, go-next, go-done}
+use Rattle.floor_values.proofs.PartitionLaws.{Progress, go-start, count-few, place-low, go-class, go-refused, go-next, go-done}
 use borrow.Author.Needs.{needs}
 use Rattle.floor_values.proofs.values.read_partitions.Statement.{statement}
 use Rattle.floor_values.proofs.values.read_partitions.Tie as tie
 
 abbrev Inv-loop : tie.InvT-loop
-Inv-loop packet floors floor books lengths words values₀ count next₀ at₀ i₀ values next at i = Going packet floors books lengths words floor values₀ next₀ count values next at i
+Inv-loop packet floors floor books lengths codewords values₀ count next₀ at₀ i₀ values next at i = Progress packet floors books lengths codewords floor values₀ next₀ count values next at i
 
 abbrev μ-loop : tie.MeasureT-loop
-μ-loop packet floors floor books lengths words values₀ count next₀ at₀ i₀ values next at i = count - i
+μ-loop packet floors floor books lengths codewords values₀ count next₀ at₀ i₀ values next at i = count - i
 
 partition-count-requires : tie.Need-partition-count-requires Inv-loop μ-loop
 partition-count-requires c κs = c .before .before .before .before .before .before .pre .few
@@ -23,7 +23,7 @@ loop-holds : tie.Need-loop-holds Inv-loop μ-loop
 loop-holds c = go-start (c .before .before .before .before .before .before .before .before .pre) (c .before .partition-count .ensures) (c .wide .ensures)
 
 partition-class-requires : tie.Need-partition-class-requires Inv-loop μ-loop
-partition-class-requires c κs = (c .before .loop .inv .lies .few, search (needs, count-few (c .before .loop .inv)))
+partition-class-requires c κs = (c .before .loop .inv .stored .few, search (needs, count-few (c .before .loop .inv)))
 
 wide-requires-2 : tie.Need-wide-requires-2 Inv-loop μ-loop
 wide-requires-2 c κs = search needs
@@ -44,7 +44,7 @@ enum-known-after : tie.Need-enum-known-after Inv-loop μ-loop
 enum-known-after c = search needs
 
 class-dimensions-requires : tie.Need-class-dimensions-requires Inv-loop μ-loop
-class-dimensions-requires c κs = (c .before .before .before .before .before .before .before .before .before .before .loop .inv .lies .few, go-class (c .before .before .before .before .before .before .before .before .before .before .loop .inv) (omega arith) (c .before .before .before .before .before .before .before .before .partition-class .ensures) (c .before .before .before .before .before .before .before .wide2 .ensures) .class-few)
+class-dimensions-requires c κs = (c .before .before .before .before .before .before .before .before .before .before .loop .inv .stored .few, go-class (c .before .before .before .before .before .before .before .before .before .before .loop .inv) (omega arith) (c .before .before .before .before .before .before .before .before .partition-class .ensures) (c .before .before .before .before .before .before .before .wide2 .ensures) .class-few)
 
 wide-requires-3 : tie.Need-wide-requires-3 Inv-loop μ-loop
 wide-requires-3 c κs = search needs

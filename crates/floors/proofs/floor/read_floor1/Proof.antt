@@ -28,11 +28,11 @@ enum-known-z-2 c = search needs
 enum-known-after : tie.Need-enum-known-after
 enum-known-after c = search needs
 
-slice-aggregate-read-behind-partitions : tie.Need-slice-aggregate-read-behind-partitions
-slice-aggregate-read-behind-partitions c = search needs
+slice-aggregate-read-after-partitions : tie.Need-slice-aggregate-read-after-partitions
+slice-aggregate-read-after-partitions c = search needs
 
-read-behind-partitions-requires : tie.Need-read-behind-partitions-requires
-read-behind-partitions-requires c κs = search floor1-laws
+read-after-partitions-requires : tie.Need-read-after-partitions-requires
+read-after-partitions-requires c κs = search floor1-laws
 
 returns : tie.Need-returns
 returns c = search floor1-laws
@@ -58,8 +58,8 @@ read-floor1-spec =
     read-numbers-requires
     enum-known-z-2
     enum-known-after
-    slice-aggregate-read-behind-partitions
-    read-behind-partitions-requires
+    slice-aggregate-read-after-partitions
+    read-after-partitions-requires
     returns
     returns-2
     same-length

@@ -2,7 +2,7 @@
 use Prim.Native.Nat.{_-_}
 use borrow.Author.Needs.{needs}
 use lib.ListN.{length}
-use Rattle.reading.proofs.Lent.{Clearing, clear-start, clear-turn, clear-end}
+use Rattle.reading.proofs.BufferLaws.{Clearing, clear-start, clear-turn, clear-end}
 use Rattle.reading.proofs.buffers.clear_u64.Statement.{statement}
 use Rattle.reading.proofs.buffers.clear_u64.Tie as tie
 

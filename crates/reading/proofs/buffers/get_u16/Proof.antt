@@ -1,5 +1,5 @@
 -- `reading::buffers::get_u16` meets its contract: past the end there is zero. Assumes nothing.
-use Rattle.reading.proofs.Lent.{buffers}
+use Rattle.reading.proofs.BufferLaws.{buffers}
 use Rattle.reading.proofs.buffers.get_u16.Statement.{statement}
 use Rattle.reading.proofs.buffers.get_u16.Tie as tie
 

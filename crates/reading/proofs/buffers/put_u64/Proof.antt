@@ -1,5 +1,5 @@
 -- `reading::buffers::put_u64` meets its contract: a store past the end changes nothing. Assumes nothing.
-use Rattle.reading.proofs.Lent.{buffers}
+use Rattle.reading.proofs.BufferLaws.{buffers}
 use Rattle.reading.proofs.buffers.put_u64.Statement.{statement}
 use Rattle.reading.proofs.buffers.put_u64.Tie as tie
 

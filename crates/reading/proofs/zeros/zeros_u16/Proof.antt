@@ -1,7 +1,7 @@
 -- `reading::zeros::zeros_u16` meets its contract, by Stands. Assumes nothing.
 use Prim.Native.Nat.{_-_}
 use lib.ListN.{length}
-use Rattle.reading.proofs.Stands.{Zeroing, zeroing}
+use Rattle.reading.proofs.Encodes.{Zeroing, zeroing}
 use borrow.Author.Needs.{needs}
 use Rattle.reading.proofs.zeros.zeros_u16.Statement.{statement}
 use Rattle.reading.proofs.zeros.zeros_u16.Tie as tie

@@ -1,14 +1,14 @@
 -- `residue_tables::recognise::are_residues` meets its contract, by RecogniseLaws and RecogniseTheorem. Assumes nothing.
 use Prim.Native.Nat.{_-_}
 use Rattle.residues.specs.FromTable.{booksOf}
-use Rattle.residue_tables.proofs.RecogniseLaws.{Standing, standing-start, standing-next, standing-failed, tail-failed, tail-judged}
+use Rattle.residue_tables.proofs.RecogniseLaws.{Recognising, recognising-start, recognising-next, recognising-failed, tail-failed, tail-judged}
 use Rattle.residue_tables.proofs.RecogniseTheorem.{one-content, short, short-plans, recognised-iff}
 use borrow.Author.Needs.{needs}
 use Rattle.residue_tables.proofs.recognise.are_residues.Statement.{statement}
 use Rattle.residue_tables.proofs.recognise.are_residues.Tie as tie
 
 abbrev Inv-loop : tie.InvT-loop
-Inv-loop residues plans n count books i₀ i = Standing (booksOf count books) n residues plans i
+Inv-loop residues plans n count books i₀ i = Recognising (booksOf count books) n residues plans i
 
 abbrev μ-loop : tie.MeasureT-loop
 μ-loop residues plans n count books i₀ i = n - i
@@ -20,13 +20,13 @@ returns-2 : tie.Need-returns-2 Inv-loop μ-loop
 returns-2 c = (short-plans (booksOf (c .before .before .before .before .before .args .count) (c .before .before .before .before .before .args .books .now)) (c .before .before .before .before .before .args .n) (c .before .before .before .before .before .args .residues .now) (c .before .before .before .before .before .args .plans .now) (search needs), one-content (booksOf (c .before .before .before .before .before .args .count) (c .before .before .before .before .before .args .books .now)) (c .before .before .before .before .before .args .n) (c .before .before .before .before .before .args .residues .now) (c .before .before .before .before .before .args .plans .now) (c .before .before .before .before .before .pre))
 
 loop-holds : tie.Need-loop-holds Inv-loop μ-loop
-loop-holds c = standing-start _ _ _ _
+loop-holds c = recognising-start _ _ _ _
 
 is-residue-requires : tie.Need-is-residue-requires Inv-loop μ-loop
 is-residue-requires c κs = search needs
 
 returns-3 : tie.Need-returns-3 Inv-loop μ-loop
-returns-3 c = (recognised-iff (booksOf (c .before .before .before .before .before .before .before .before .before .args .count) (c .before .before .before .before .before .before .before .before .before .args .books .now)) (c .before .before .before .before .before .before .before .before .before .args .n) (c .before .before .before .before .before .before .before .before .before .args .residues .now) (c .before .before .before .before .before .before .before .before .before .args .plans .now) (c .before .before .before .before .before .before .before .before .before .pre) (search needs) (search needs) (standing-failed _ _ _ _ (c .before .before .before .loop .inv) (search needs) (c .before .is-residue .ensures) (c .if3 .taken)), one-content (booksOf (c .before .before .before .before .before .before .before .before .before .args .count) (c .before .before .before .before .before .before .before .before .before .args .books .now)) (c .before .before .before .before .before .before .before .before .before .args .n) (c .before .before .before .before .before .before .before .before .before .args .residues .now) (c .before .before .before .before .before .before .before .before .before .args .plans .now) (c .before .before .before .before .before .before .before .before .before .pre))
+returns-3 c = (recognised-iff (booksOf (c .before .before .before .before .before .before .before .before .before .args .count) (c .before .before .before .before .before .before .before .before .before .args .books .now)) (c .before .before .before .before .before .before .before .before .before .args .n) (c .before .before .before .before .before .before .before .before .before .args .residues .now) (c .before .before .before .before .before .before .before .before .before .args .plans .now) (c .before .before .before .before .before .before .before .before .before .pre) (search needs) (search needs) (recognising-failed _ _ _ _ (c .before .before .before .loop .inv) (search needs) (c .before .is-residue .ensures) (c .if3 .taken)), one-content (booksOf (c .before .before .before .before .before .before .before .before .before .args .count) (c .before .before .before .before .before .before .before .before .before .args .books .now)) (c .before .before .before .before .before .before .before .before .before .args .n) (c .before .before .before .before .before .before .before .before .before .args .residues .now) (c .before .before .before .before .before .before .before .before .before .args .plans .now) (c .before .before .before .before .before .before .before .before .before .pre))
 
 add-i : tie.Need-add-i Inv-loop μ-loop
 add-i c = search needs
@@ -35,7 +35,7 @@ loop-less : tie.Need-loop-less Inv-loop μ-loop
 loop-less c = search needs
 
 loop-again : tie.Need-loop-again Inv-loop μ-loop
-loop-again c = standing-next _ _ _ _ (c .before .before .before .loop .inv) (search needs) (c .before .is-residue .ensures) (c .if3 .left)
+loop-again c = recognising-next _ _ _ _ (c .before .before .before .loop .inv) (search needs) (c .before .is-residue .ensures) (c .if3 .left)
 
 wide-u32-requires : tie.Need-wide-u32-requires Inv-loop μ-loop
 wide-u32-requires c κs = search needs

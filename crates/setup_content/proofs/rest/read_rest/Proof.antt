@@ -4,8 +4,8 @@ use borrow.Author.Needs.{needs}
 use Rattle.setup_content.proofs.rest.read_rest.Statement.{statement}
 use Rattle.setup_content.proofs.rest.read_rest.Tie as tie
 
-read-behind-requires : tie.Need-read-behind-requires
-read-behind-requires c κs = search needs
+read-after-requires : tie.Need-read-after-requires
+read-after-requires c κs = search needs
 
 write-counts-requires : tie.Need-write-counts-requires
 write-counts-requires c κs = search needs
@@ -38,7 +38,7 @@ same-length-6 : tie.Need-same-length-6
 same-length-6 c = c .before .before .before .before .before .before .before .before .modes .given
 
 returns : tie.Need-returns
-returns c = rest-refused _ _ _ _ (c .before .before .before .before .before .before .before .before .before .before .before .before .before .before .before .before .before .read-behind .ensures) (c .before .step .given .1)
+returns c = rest-refused _ _ _ _ (c .before .before .before .before .before .before .before .before .before .before .before .before .before .before .before .before .before .read-after .ensures) (c .before .step .given .1)
 
 same-length-7 : tie.Need-same-length-7
 same-length-7 c = c .before .before .before .before .before .counts .given
@@ -59,13 +59,13 @@ same-length-12 : tie.Need-same-length-12
 same-length-12 c = c .before .before .before .before .before .before .before .before .before .modes .given
 
 returns-2 : tie.Need-returns-2
-returns-2 c = rest-read _ _ _ _ (c .before .before .before .before .before .before .before .before .before .before .before .before .before .before .before .before .before .before .read-behind .ensures) _ (c .before .before .before .before .before .before .write-counts .ensures) (c .before .before .step2 .given .1) (c .read-framing .ensures)
+returns-2 c = rest-read _ _ _ _ (c .before .before .before .before .before .before .before .before .before .before .before .before .before .before .before .before .before .before .read-after .ensures) _ (c .before .before .before .before .before .before .write-counts .ensures) (c .before .before .step2 .given .1) (c .read-framing .ensures)
 
 pub read-rest-spec : {M : Type 1} → statement M
 read-rest-spec =
     tie.close
     (tie.spec
-    read-behind-requires
+    read-after-requires
     write-counts-requires
     enum-known-step
     enum-known-step-2

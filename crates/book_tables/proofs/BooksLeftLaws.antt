@@ -1,0 +1,178 @@
+-- ALL BOOKS: tables that hold one book more are that book, written, and tables that hold the others; so the test of what is left decides the whole.
+-- And the tables decide the books. Assumes nothing.
+use Prim.Native.Nat.{ℕ, suc, _+_, _-_, _*_, _≤_}
+use native.Mathlib.Omega.{arith}
+use mathlib.Core.List.{List, [], _∷_, _++_}
+use mathlib.Core.Logic.{_↔_}
+use mathlib.Core.Path.{_≡_, refl, sym, ap, subst, _∙_}
+use lib.ListN.{length, getD, take, drop, length-drop, length-append, take-append-drop}
+use lib.Seq.{drop-at}
+use Rattle.reading.specs.Pad.{pad}
+use Rattle.reading.specs.Lists.{rows}
+use Rattle.reading.proofs.Pads.{pad-nil}
+use Rattle.reading.proofs.Encodes.{pad-append}
+use Rattle.limits.specs.declared.Limits.{Limits}
+use Rattle.codeword_assignment.specs.Book.{ledgerCodewords}
+use Rattle.book.specs.Content.{Book}
+use Rattle.book.specs.Layout.{bookWidth, bookRow}
+use Rattle.book_head.specs.Reading.{Before}
+use Rattle.book_head.specs.Answers.{totals}
+use Rattle.books.specs.Reading.{andThis}
+use Rattle.books.specs.Rows.{bookRows, allLengths, allCodewords, allMultiplicands, decodeBooks}
+use Rattle.books.specs.Valid.{ValidBooks}
+use Rattle.books.proofs.BooksStored.{codewords-length, row-length, decode-books}
+use Rattle.book_tables.specs.declared.row.Row.{Row}
+use Rattle.book_tables.specs.Rules.{rowOf, BookRules}
+use Rattle.book_tables.specs.Recognised.{Countable, BooksLeft, Clear, OneContent}
+use Rattle.book_tables.proofs.Written.{bookOf, rowFor, lengths-long, values-long, rules-valid, rules-at, row-written, written-row}
+
+-- a buffer that is filled from the front: its first part, and what is left
+front : (t xs ys : List ℕ) → length xs ≤ length t → t ≡ pad (length t) (xs ++ ys) → t ≡ xs ++ pad (length t - length xs) ys
+front t xs ys h e =
+    let n : length t ≡ length xs + (length t - length xs) = omega arith in
+    e ∙ ap (λ (m : ℕ). pad m (xs ++ ys)) n ∙ pad-append xs ys (length t - length xs)
+
+left : (k : ℕ) (t xs ys : List ℕ) → length xs ≡ k → k ≤ length t → t ≡ pad (length t) (xs ++ ys) → drop k t ≡ pad (length (drop k t)) ys
+left k t xs ys l h e =
+    let d = length-drop k t in
+    let m : length t - length xs ≡ length (drop k t) = omega arith in
+    ap (drop k) (front t xs ys (omega arith) e) ∙ drop-at xs (pad (length t - length xs) ys) k l ∙ ap (λ (x : ℕ). pad x ys) m
+
+join : (k : ℕ) (t xs ys : List ℕ) → length xs ≡ k → k ≤ length t → take k t ≡ xs → drop k t ≡ pad (length (drop k t)) ys → t ≡ pad (length t) (xs ++ ys)
+join k t xs ys l h e f =
+    let d = length-drop k t in
+    let m : length xs + length (drop k t) ≡ length t = omega arith in
+    sym (take-append-drop k t) ∙ (λ j. e j ++ f j) ∙ sym (pad-append xs ys (length (drop k t))) ∙ ap (λ (x : ℕ). pad x (xs ++ ys)) m
+
+-- what is left of the tables has room for the books that are left, and for what the limits allow
+pub record Room (limits : Limits) (n entries values : ℕ) (rs ls ws ms : List ℕ) : Type 0 where
+  pub rows-room : bookWidth * n ≤ length rs
+  pub lengths-room : limits .entries ≤ entries + length ls
+  pub codewords-room : limits .entries ≤ entries + length ws
+  pub values-room : limits .multiplicands ≤ values + length ms
+
+-- behind a book
+abbrev After : Limits → ℕ → ℕ → ℕ → Row → List ℕ → List ℕ → List ℕ → List ℕ → Type 0
+After limits n entries values row rs ls ws ms =
+    BooksLeft limits n (entries + row .entries) (values + row .count) (drop bookWidth rs) (drop (row .entries) ls) (drop (row .entries) ws) (drop (row .count) ms)
+
+-- no book: zeros alone
+pub left-none : (limits : Limits) (entries values : ℕ) (rs ls ws ms : List ℕ) → BooksLeft limits 0 entries values rs ls ws ms ↔ Clear rs ls ws ms
+unfolding bookRows rows ValidBooks
+left-none limits entries values rs ls ws ms = (
+  (λ h. go (h .content) (h .counted) (h .book-rows) (h .all-lengths) (h .all-codewords) (h .all-multiplicands)),
+  (λ z.
+      record {
+        content = [];
+        counted = refl;
+        valid = tt;
+        book-rows = z .rows ∙ sym (pad-nil (length rs));
+        all-lengths = z .lengths ∙ sym (pad-nil (length ls));
+        all-codewords = z .codewords ∙ sym (pad-nil (length ws));
+        all-multiplicands = z .multiplicands ∙ sym (pad-nil (length ms));
+      }),
+)
+  where
+    go : (bs : List Book) → length bs ≡ 0 → rs ≡ pad (length rs) (bookRows (totals entries values) bs) → ls ≡ pad (length ls) (allLengths bs)
+        → ws ≡ pad (length ws) (allCodewords bs) → ms ≡ pad (length ms) (allMultiplicands bs) → Clear rs ls ws ms
+    go [] n e f g h = record { rows = e ∙ pad-nil (length rs); lengths = f ∙ pad-nil (length ls); codewords = g ∙ pad-nil (length ws); multiplicands = h ∙ pad-nil (length ms) }
+    go (b ∷ bs) n e f g h = absurd (omega arith)
+
+module _ (limits : Limits) (n entries values : ℕ) (rs ls ws ms : List ℕ) (room : Room limits (suc n) entries values rs ls ws ms) where
+  -- one book more: it meets the rules, and the others are held behind it
+  pub left-first : BooksLeft limits (suc n) entries values rs ls ws ms → BookRules limits entries values (rowOf rs) ls ws ms × After limits n entries values (rowOf rs) rs ls ws ms
+  unfolding bookRows rows ValidBooks
+  left-first left = go (left .content) (left .counted) (left .valid) (left .book-rows) (left .all-lengths) (left .all-codewords) (left .all-multiplicands)
+    where
+      go : (bs : List Book) → length bs ≡ suc n → ValidBooks limits (totals entries values) bs → rs ≡ pad (length rs) (bookRows (totals entries values) bs)
+          → ls ≡ pad (length ls) (allLengths bs) → ws ≡ pad (length ws) (allCodewords bs) → ms ≡ pad (length ms) (allMultiplicands bs)
+          → BookRules limits entries values (rowOf rs) ls ws ms × After limits n entries values (rowOf rs) rs ls ws ms
+      go [] k v e f g h = absurd (omega arith)
+      go (b ∷ bs) k v e f g h =
+          let within = v .0 .entries-all in
+          let values-within = v .0 .values-all in
+          let r₁ = room .rows-room in
+          let r₂ = room .lengths-room in
+          let r₃ = room .codewords-room in
+          let r₄ = room .values-room in
+          let l₁ = row-length entries values b in
+          let l₃ = codewords-length (b .lengths) in
+          let row : rowOf rs ≡ rowFor entries values b =
+          ap rowOf (front rs (bookRow entries values b) _ (omega arith) e) ∙ row-written entries values b (pad (length rs - length (bookRow entries values b)) _) in
+          subst (λ (row : Row). BookRules limits entries values row ls ws ms × After limits n entries values row rs ls ws ms) (sym row) (
+            rules-at limits entries values b (v .0) ls ws ms _ _ _
+                (front ls (b .lengths) _ (omega arith) f)
+                (front ws (ledgerCodewords (b .lengths)) _ (omega arith) g)
+                (front ms (b .multiplicands) _ (omega arith) h),
+            record {
+              content = bs;
+              counted = omega arith;
+              valid = v .1;
+              book-rows = left bookWidth rs (bookRow entries values b) _ l₁ (omega arith) e;
+              all-lengths = left (length (b .lengths)) ls (b .lengths) _ refl (omega arith) f;
+              all-codewords = left (length (b .lengths)) ws (ledgerCodewords (b .lengths)) _ l₃ (omega arith) g;
+              all-multiplicands = left (length (b .multiplicands)) ms (b .multiplicands) _ refl (omega arith) h;
+            },
+          )
+
+  pub left-cons : BookRules limits entries values (rowOf rs) ls ws ms → After limits n entries values (rowOf rs) rs ls ws ms → BooksLeft limits (suc n) entries values rs ls ws ms
+  unfolding bookRows rows ValidBooks
+  left-cons r left =
+      let b : Book = bookOf (rowOf rs) ls ms in
+      let r₁ = room .rows-room in
+      let r₂ = room .lengths-room in
+      let r₃ = room .codewords-room in
+      let r₄ = room .values-room in
+      let within = r .head .entries-all in
+      let values-within = r .place .values-all in
+      let l₁ : length (take (getD rs 1 0) ls) ≡ getD rs 1 0 = lengths-long limits entries values (rowOf rs) ls ws ms r₂ r₄ r in
+      let l₂ : length (take (getD rs 8 0) ms) ≡ getD rs 8 0 = values-long limits entries values (rowOf rs) ls ws ms r₂ r₄ r in
+      let l₃ : length (ledgerCodewords (take (getD rs 1 0) ls)) ≡ getD rs 1 0 = codewords-length (take (getD rs 1 0) ls) ∙ l₁ in
+      let rest : bookRows (totals (entries + getD rs 1 0) (values + getD rs 8 0)) (left .content) ≡ bookRows (andThis (totals entries values) b) (left .content) = rw (l₁, l₂) in
+      record {
+        content = b ∷ left .content;
+        counted = ap suc (left .counted);
+        valid = (rules-valid limits entries values (rowOf rs) ls ws ms r₂ r₄ r, rw (l₁, l₂) (left .valid));
+        book-rows =
+            join bookWidth rs (bookRow entries values b) _ (row-length entries values b) (omega arith) (written-row limits entries values rs ls ws ms (omega arith) r₂ r₄ r)
+            (left .book-rows ∙ ap (pad (length (drop bookWidth rs))) rest);
+        all-lengths = join (getD rs 1 0) ls (b .lengths) (allLengths (left .content)) l₁ (omega arith) refl (left .all-lengths);
+        all-codewords = join (getD rs 1 0) ws (ledgerCodewords (b .lengths)) (allCodewords (left .content)) l₃ (omega arith) (r .coded .assigned) (left .all-codewords);
+        all-multiplicands = join (getD rs 8 0) ms (b .multiplicands) (allMultiplicands (left .content)) l₂ (omega arith) refl (left .all-multiplicands);
+      }
+
+-- tables with room hold all that the limits allow
+within-entries : (limits : Limits) (before : Before) (bs : List Book) → before .entries ≤ limits .entries → ValidBooks limits before bs
+    → before .entries + length (allLengths bs) ≤ limits .entries
+unfolding rows ValidBooks
+within-entries limits before [] h v = omega arith
+within-entries limits before (b ∷ bs) h v =
+    let i = within-entries limits (andThis before b) bs (v .0 .entries-all) (v .1) in
+    let l = length-append (b .lengths) (allLengths bs) in
+    omega arith
+
+within-values : (limits : Limits) (before : Before) (bs : List Book) → before .values ≤ limits .multiplicands → ValidBooks limits before bs
+    → before .values + length (allMultiplicands bs) ≤ limits .multiplicands
+unfolding rows ValidBooks
+within-values limits before [] h v = omega arith
+within-values limits before (b ∷ bs) h v =
+    let i = within-values limits (andThis before b) bs (v .0 .values-all) (v .1) in
+    let l = length-append (b .multiplicands) (allMultiplicands bs) in
+    omega arith
+
+-- ONE CONTENT for one writing-out
+pub one-content : (limits : Limits) (count : ℕ) (books lengths codewords multiplicands : List ℕ) → Countable limits count → OneContent limits count books lengths codewords multiplicands
+one-content limits count books lengths codewords multiplicands countable =
+    record {
+      decoded = λ s.
+          let few = countable .few-books in
+          let a = s .books-room in
+          let b = s .lengths-room in
+          let c = s .multiplicands-room in
+          let n = s .counted in
+          let e = within-entries limits (totals 0 0) (s .content) (omega arith) (s .valid) in
+          let v = within-values limits (totals 0 0) (s .content) (omega arith) (s .valid) in
+          sym
+          ((λ j. decodeBooks (sym n j) (s .book-rows j) (s .all-lengths j) (s .all-multiplicands j))
+          ∙ decode-books (length books) (length lengths) (length multiplicands) (s .content) (omega arith) (omega arith) (omega arith));
+    }

@@ -1,0 +1,46 @@
+-- `book_tables::recognise::are_books` meets its contract. Assumes nothing.
+use Rattle.book_tables.proofs.RecogniseLaws.{all-buffers, recognised-end, recognise-laws}
+use borrow.Author.Needs.{needs}
+use Rattle.book_tables.proofs.recognise.are_books.Statement.{statement}
+use Rattle.book_tables.proofs.recognise.are_books.Tie as tie
+
+returns : tie.Need-returns
+returns c = search recognise-laws
+
+wide-requires : tie.Need-wide-requires
+wide-requires c κs = search needs
+
+returns-2 : tie.Need-returns-2
+returns-2 c = search recognise-laws
+
+wide-requires-2 : tie.Need-wide-requires-2
+wide-requires-2 c κs = search needs
+
+returns-3 : tie.Need-returns-3
+returns-3 c = search recognise-laws
+
+wide-requires-3 : tie.Need-wide-requires-3
+wide-requires-3 c κs = search needs
+
+returns-4 : tie.Need-returns-4
+returns-4 c = search recognise-laws
+
+are-rows-requires : tie.Need-are-rows-requires
+are-rows-requires c κs = search (needs, all-buffers)
+
+returns-5 : tie.Need-returns-5
+returns-5 c = search (recognise-laws, all-buffers, recognised-end)
+
+pub are-books-spec : {M : Type 1} → statement M
+are-books-spec =
+    tie.close
+    (tie.spec
+    returns
+    wide-requires
+    returns-2
+    wide-requires-2
+    returns-3
+    wide-requires-3
+    returns-4
+    are-rows-requires
+    returns-5)

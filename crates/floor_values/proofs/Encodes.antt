@@ -1,0 +1,40 @@
+-- For callers: in tables that hold floors, each floor lies as reading its values asks, and it is the floor of the content. Assumes nothing.
+use Prim.Native.Nat.{ℕ, zero, suc, _*_, _≤_, _<_}
+use native.Mathlib.Omega.{arith}
+use mathlib.Core.List.{List, [], _∷_}
+use mathlib.Core.Path.{_≡_}
+use lib.ListN.{length, getD}
+use Rattle.floors.specs.Content.{Floor}
+use Rattle.floors.specs.Decode.{noFloor}
+use Rattle.floors.specs.Layout.{floorRow}
+use Rattle.floors.specs.Valid.{ValidFloor}
+use Rattle.floors.specs.Valid.{ValidFloors}
+use Rattle.floor_tables.specs.Recognised.{FloorsRecognised}
+use Rattle.floors.proofs.Decoded.{floor-long, floor-decoded-at}
+use Rattle.reading.proofs.Stored.{Stored}
+use Rattle.floors.proofs.Laws.{floors-row}
+use Rattle.floor_partition.specs.Stored.{Readable}
+use Rattle.floor_values.specs.Stored.{floorIn, FloorStored}
+
+valid-floor : (b : ℕ) (fs : List Floor) (n : ℕ) → n < length fs → ValidFloors b fs → ValidFloor b (getD fs n noFloor)
+unfolding ValidFloors
+valid-floor b [] n h v = absurd (omega arith)
+valid-floor b (f ∷ fs) zero h v = v .0
+valid-floor b (f ∷ fs) (suc n) h v = valid-floor b fs n (omega arith) (v .1)
+
+module _ {setUp count : ℕ} {floors : List ℕ} (st : FloorsRecognised setUp count floors) (few : count ≤ 64) (n : ℕ) (h : n < count) where
+  row : Stored floors (277 * n) (floorRow (getD (st .content) n noFloor))
+  row = let c = st .counted in let r = st .room in floors-row (st .content) floors (st .written) (omega arith) n (omega arith)
+
+  valid : ValidFloor setUp (getD (st .content) n noFloor)
+  valid = let c = st .counted in valid-floor setUp (st .content) n (omega arith) (st .valid)
+
+  pub floor-is : floorIn floors n ≡ getD (st .content) n noFloor
+  unfolding floorIn
+  floor-is = floor-decoded-at (277 * n) setUp (getD (st .content) n noFloor) valid row
+
+  pub floor-encodes : {books lengths codewords : List ℕ} → ((b : ℕ) → b < setUp → Readable books lengths codewords b) → FloorStored floors books lengths codewords n
+  floor-encodes r =
+      let l = floor-long (getD (st .content) n noFloor) in
+      let m = row .room in
+      record { few = omega arith; room = omega arith; count = setUp; valid = rw floor-is valid; readable = r }
