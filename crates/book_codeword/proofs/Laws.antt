@@ -6,9 +6,9 @@ use mathlib.Core.Path.{_≡_, _∙_}
 use lib.ListN.{take, drop}
 use Rattle.codeword_assignment.specs.Book.{loneMark}
 use Rattle.book.specs.Layout.{entriesAt, firstEntryAt, loneAt}
-use Rattle.codebook.specs.Book.{Codebook}
-use Rattle.codebook.specs.Claims.{Settled}
-use Rattle.codebook.specs.Codeword.{codeword}
+use Rattle.codeword.specs.Book.{Codebook}
+use Rattle.codeword.specs.Claims.{Settled}
+use Rattle.codeword.specs.Codeword.{codeword}
 use Rattle.bits.specs.Cursors.{outcome}
 use Rattle.bits.specs.declared.Field.{Field}
 use Rattle.book_codeword.specs.Stored.{entriesOf, BookStored}

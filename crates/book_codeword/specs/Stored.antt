@@ -5,7 +5,7 @@ use mathlib.Core.Path.{_≡_}
 use lib.ListN.{length, take, drop}
 use Rattle.codeword_assignment.specs.Book.{loneMark}
 use Rattle.book.specs.Layout.{entriesAt, firstEntryAt, loneAt}
-use Rattle.codebook.specs.Book.{Codebook}
+use Rattle.codeword.specs.Book.{Codebook}
 
 -- book b's part of a table with a number for each entry of all books
 abbrev pub entriesOf : List ℕ → ℕ → List ℕ → List ℕ

@@ -3,8 +3,8 @@ use bits::Cursor;
 use bits::Field;
 ghost use mathlib.Core.Path.{_≡_};
 ghost use Rattle.bits.specs.Cursors.{position, outcome};
-ghost use Rattle.codebook.specs.Codeword.{codeword};
-ghost use Rattle.codebook.specs.Claims.{Settled};
+ghost use Rattle.codeword.specs.Codeword.{codeword};
+ghost use Rattle.codeword.specs.Claims.{Settled};
 ghost use Rattle.book_codeword.specs.Stored.{entriesOf, BookStored};
 
 fn wide(x: u32) -> usize
@@ -29,5 +29,5 @@ pub fn read_entry(
     let first = wide(book::first_entry(books, book));
     let end = first + wide(book::entries(books, book));
     let lone = book::lone(books, book);
-    codebook::read_codeword(packet, from, lone, &lengths[first..end], &codewords[first..end])
+    codeword::read_codeword(packet, from, lone, &lengths[first..end], &codewords[first..end])
 }

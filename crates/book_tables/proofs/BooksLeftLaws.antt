@@ -17,10 +17,10 @@ use Rattle.book.specs.Content.{Book}
 use Rattle.book.specs.Layout.{bookWidth, bookRow}
 use Rattle.book_head.specs.Reading.{Before}
 use Rattle.book_head.specs.Answers.{totals}
-use Rattle.books.specs.Reading.{andThis}
-use Rattle.books.specs.Rows.{bookRows, allLengths, allCodewords, allMultiplicands, decodeBooks}
-use Rattle.books.specs.Valid.{ValidBooks}
-use Rattle.books.proofs.BooksStored.{codewords-length, row-length, decode-books}
+use Rattle.book_reading.specs.Reading.{andThis}
+use Rattle.book_reading.specs.Rows.{bookRows, allLengths, allCodewords, allMultiplicands, decodeBooks}
+use Rattle.book_reading.specs.Valid.{ValidBooks}
+use Rattle.book_reading.proofs.BooksStored.{codewords-length, row-length, decode-books}
 use Rattle.book_tables.specs.declared.row.Row.{Row}
 use Rattle.book_tables.specs.Rules.{rowOf, BookRules}
 use Rattle.book_tables.specs.Recognised.{Countable, BooksLeft, Clear, OneContent}

@@ -12,7 +12,7 @@ use lib.Seq.{drop-drop}
 use Rattle.reading.proofs.Encodes.{iff-false}
 use Rattle.limits.specs.declared.Limits.{Limits}
 use Rattle.book.specs.Layout.{bookWidth, booksNeed}
-use Rattle.books.specs.BookBuffers.{BookBuffers}
+use Rattle.book_reading.specs.BookBuffers.{BookBuffers}
 use Rattle.book_tables.specs.declared.row.Row.{Row}
 use Rattle.book_tables.specs.Rules.{rowOf, BookRules, Begun}
 use Rattle.book_tables.specs.Recognised.{Countable, BooksLeft, Clear, BooksRecognised}

@@ -15,8 +15,8 @@ use Rattle.codeword_assignment.specs.Book.{ledgerCodewords, loneMark}
 use Rattle.book.specs.Content.{Book}
 use Rattle.book.specs.Layout.{bookWidth, bookRow}
 use Rattle.book_head.specs.Answers.{totals}
-use Rattle.books.specs.Valid.{NoLookup, SomeLookup, ValidBook}
-use Rattle.books.proofs.BooksStored.{codewords-length}
+use Rattle.book_reading.specs.Valid.{NoLookup, SomeLookup, ValidBook}
+use Rattle.book_reading.proofs.BooksStored.{codewords-length}
 use Rattle.book_tables.specs.declared.row.Row.{Row}
 use Rattle.book_tables.specs.Rules.{rowOf, NoneRules, SomeRules, BookRules}
 use Rattle.book_tables.proofs.Small.{accepted-small}

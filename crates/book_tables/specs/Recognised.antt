@@ -9,8 +9,8 @@ use Rattle.limits.specs.declared.Limits.{Limits}
 use Rattle.book.specs.Content.{Book}
 use Rattle.book.specs.Layout.{booksNeed}
 use Rattle.book_head.specs.Answers.{totals}
-use Rattle.books.specs.Rows.{bookRows, allLengths, allCodewords, allMultiplicands, decodeBooks}
-use Rattle.books.specs.Valid.{ValidBooks}
+use Rattle.book_reading.specs.Rows.{bookRows, allLengths, allCodewords, allMultiplicands, decodeBooks}
+use Rattle.book_reading.specs.Valid.{ValidBooks}
 
 -- what a caller may ask about: few books, and limits that a place in a table can count up to
 pub record Countable (limits : Limits) (count : ℕ) : Type 0 where

@@ -18,8 +18,8 @@ use Rattle.bits.specs.declared.Step.the-variants as S
 use Rattle.bits.specs.Cursors.{position, outcome, Wrote}
 use Rattle.bits.proofs.Answers.{value-is, refused-is}
 use Rattle.bits.proofs.Steps.{wrote-refused, wrote-next}
-use Rattle.codebook.specs.Codeword.{codeword}
-use Rattle.codebook.proofs.Laws.{read-used}
+use Rattle.codeword.specs.Codeword.{codeword}
+use Rattle.codeword.proofs.Laws.{read-used}
 use Rattle.book.specs.Layout.{entriesAt, firstEntryAt}
 use Rattle.book_codeword.specs.Stored.{entriesOf, BookStored}
 use Rattle.numbers.specs.Cell.{cell}

@@ -7,7 +7,7 @@ use lib.Dec.{eqb}
 use lib.ListN.{getD}
 use Rattle.reading.specs.Outcome.{ok, then}
 use Rattle.reading.specs.Reader.{Reader, each}
-use Rattle.codebook.specs.Codeword.{codeword}
+use Rattle.codeword.specs.Codeword.{codeword}
 use Rattle.floor_class.specs.Content.{Class}
 
 -- 10 to 12: the class value, read with the master book; 0 where the class has no subclass bits. A place for a book holds its number plus one

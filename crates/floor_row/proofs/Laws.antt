@@ -10,12 +10,12 @@ use Rattle.reading.specs.Lists.{rows}
 use Rattle.reading.specs.Pad.{pad}
 use Rattle.floor_class.specs.Content.{Class}
 use Rattle.floor_x_list.specs.Content.{xList}
-use Rattle.floors.specs.Content.{Floor}
+use Rattle.floor.specs.Content.{Floor}
 use Rattle.floor_class.specs.Layout.{classRow}
 use Rattle.floor_class.specs.Decode.{noClass}
 use Rattle.reading.proofs.Stored.{Stored, stored-slice, stored-number, rows-stored-in}
 use Rattle.floor_class.proofs.Decoded.{ClassStored, class-long, class-stored}
-use Rattle.floors.proofs.Decoded.{FloorStored}
+use Rattle.floor.proofs.Decoded.{FloorStored}
 
 -- row c of the rows of classes
 pub class-row : {t : List ℕ} (at m : ℕ) (cs : List Class) (c : ℕ) → c < length cs → length cs ≤ m → Stored t at (pad (11 * m) (rows classRow cs)) → Stored t (at + 11 * c) (classRow (getD cs c noClass))

@@ -1,14 +1,14 @@
 // The numbers of a floor, read from its row in the table: `floor` is the floor's number, its row begins at 277 * floor. A place past the
 // table's end reads as 0.
 use floor_class::CLASS_WIDTH;
-use floors::CLASSES_PLACE;
-use floors::FLOOR_WIDTH;
-use floors::PARTITIONS_PLACE;
+use floor::CLASSES_PLACE;
+use floor::FLOOR_WIDTH;
+use floor::PARTITIONS_PLACE;
 use reading::buffers;
 ghost use mathlib.Core.Path.{_≡_};
 ghost use Prim.Native.Nat.{_+_, _*_, _<_};
 ghost use lib.ListN.{getD};
-ghost use Rattle.floors.specs.Layout.{floorWidth, partitionsPlace, classesPlace};
+ghost use Rattle.floor.specs.Layout.{floorWidth, partitionsPlace, classesPlace};
 ghost use Rattle.floor_class.specs.Layout.{classWidth};
 
 pub fn partition_count(floors: &[u16], floor: usize) -> u16

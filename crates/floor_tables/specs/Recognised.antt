@@ -5,9 +5,9 @@ use mathlib.Core.Path.{_≡_}
 use lib.ListN.{length}
 use Rattle.reading.specs.Lists.{rows}
 use Rattle.reading.specs.Pad.{pad}
-use Rattle.floors.specs.Content.{Floor}
-use Rattle.floors.specs.Layout.{floorRow}
-use Rattle.floors.specs.Valid.{ValidFloors}
+use Rattle.floor.specs.Content.{Floor}
+use Rattle.floor.specs.Layout.{floorRow}
+use Rattle.floor.specs.Valid.{ValidFloors}
 
 -- `count` floors, each right for `books` codebooks, fill the table from its front, and zeros follow. 17,728 is the fixed need: 64 rows of 277
 pub record FloorsRecognised (books count : ℕ) (t : List ℕ) : Type 0 where

@@ -8,8 +8,8 @@ use lib.ListN.{getD}
 use lib.Seq.{slice}
 use Rattle.reading.specs.Lists.{distinct}
 use Rattle.floor_class.specs.Layout.{classWidth}
-use Rattle.floors.specs.Layout.{floorWidth, partitionsPlace, classesPlace, xListPlace, rangePlace, xValuesPlace}
-use Rattle.floors.specs.Pieces.{classesTo, valuesTo}
+use Rattle.floor.specs.Layout.{floorWidth, partitionsPlace, classesPlace, xListPlace, rangePlace, xValuesPlace}
+use Rattle.floor.specs.Pieces.{classesTo, valuesTo}
 use Rattle.floor_tables.specs.ClassRules.{Below, ClassesRules}
 
 -- a floor's partitions, where its row begins at place `at`

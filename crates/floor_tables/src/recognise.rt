@@ -3,13 +3,13 @@ use crate::below::are_below;
 use crate::below::number;
 use crate::classes::are_classes;
 use floor_class::CLASS_WIDTH;
-use floors::CLASSES_PLACE;
-use floors::FLOOR_WIDTH;
-use floors::PARTITIONS_PLACE;
-use floors::RANGE_PLACE;
-use floors::X_LIST_PLACE;
-use floors::X_VALUES_PLACE;
-use floors::floor;
+use floor::CLASSES_PLACE;
+use floor::FLOOR_WIDTH;
+use floor::PARTITIONS_PLACE;
+use floor::RANGE_PLACE;
+use floor::X_LIST_PLACE;
+use floor::X_VALUES_PLACE;
+use floor::floor;
 use reading::buffers;
 ghost use mathlib.Core.Path.{_≡_};
 ghost use mathlib.Core.Bool.{true};
@@ -18,7 +18,7 @@ ghost use Prim.Native.Nat.{_+_, _≤_};
 ghost use lib.ListN.{length, getD};
 ghost use Rattle.floor_tables.specs.Rules.{PartitionRules, NamedRules, CountRules, HeadRules, ListRules, FloorRules, FloorsRules};
 ghost use Rattle.floor_tables.specs.Recognised.{FloorsRecognised};
-ghost use Rattle.floors.specs.Layout.{floorWidth};
+ghost use Rattle.floor.specs.Layout.{floorWidth};
 
 // Whether the partitions of the floor at place `at` stand.
 fn are_partitions(floors: &[u16], at: usize) -> bool

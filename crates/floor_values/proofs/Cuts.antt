@@ -12,10 +12,10 @@ use Rattle.reading.specs.Outcome.{refusal, Outcome, ok, bad, then}
 use Rattle.reading.specs.Reader.{Reader, many, each, mapped}
 use Rattle.bits.specs.Field.{field}
 use Rattle.bits.proofs.Cuts.{field-cut-packet}
-use Rattle.codebook.specs.Codeword.{codeword}
-use Rattle.codebook.proofs.Laws.{codeword-cut-packet}
+use Rattle.codeword.specs.Codeword.{codeword}
+use Rattle.codeword.proofs.Laws.{codeword-cut-packet}
 use Rattle.floor_class.specs.Content.{Class}
-use Rattle.floors.specs.Content.{Floor}
+use Rattle.floor.specs.Content.{Floor}
 use Rattle.floor_class.specs.Decode.{noClass}
 use Rattle.floor_partition.specs.Partition.{classValue, chosen, value, partition, whole}
 use Rattle.floor_values.specs.Values.{firstBits, partitionOf, usedValues, floorValues}

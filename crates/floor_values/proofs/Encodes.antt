@@ -4,15 +4,15 @@ use native.Mathlib.Omega.{arith}
 use mathlib.Core.List.{List, [], _∷_}
 use mathlib.Core.Path.{_≡_}
 use lib.ListN.{length, getD}
-use Rattle.floors.specs.Content.{Floor}
-use Rattle.floors.specs.Decode.{noFloor}
-use Rattle.floors.specs.Layout.{floorRow}
-use Rattle.floors.specs.Valid.{ValidFloor}
-use Rattle.floors.specs.Valid.{ValidFloors}
+use Rattle.floor.specs.Content.{Floor}
+use Rattle.floor.specs.Decode.{noFloor}
+use Rattle.floor.specs.Layout.{floorRow}
+use Rattle.floor.specs.Valid.{ValidFloor}
+use Rattle.floor.specs.Valid.{ValidFloors}
 use Rattle.floor_tables.specs.Recognised.{FloorsRecognised}
-use Rattle.floors.proofs.Decoded.{floor-long, floor-decoded-at}
+use Rattle.floor.proofs.Decoded.{floor-long, floor-decoded-at}
 use Rattle.reading.proofs.Stored.{Stored}
-use Rattle.floors.proofs.Laws.{floors-row}
+use Rattle.floor.proofs.Laws.{floors-row}
 use Rattle.floor_partition.specs.Stored.{Readable}
 use Rattle.floor_values.specs.Stored.{floorIn, FloorStored}
 

@@ -12,7 +12,7 @@ use Rattle.bits.specs.Cursors.{position, Wrote}
 use Rattle.bits.specs.Field.{field}
 use Rattle.bits.specs.Ilog.{highestSet, ilog}
 use Rattle.numbers.specs.Cell.{cell}
-use Rattle.floors.specs.Decode.{floorAt}
+use Rattle.floor.specs.Decode.{floorAt}
 use Rattle.floor_points.specs.FinalY.{rangeOf}
 use Rattle.floor_values.specs.Values.{firstBits}
 use Rattle.floor_values.specs.Stored.{floorIn, FloorStored}

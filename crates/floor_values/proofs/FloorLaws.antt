@@ -26,7 +26,7 @@ use Rattle.bits.proofs.Answers.{value-is, refused-is}
 use Rattle.bits.proofs.Steps.{wrote-refused, wrote-next, wrote-bad, wrote-ok}
 use Rattle.bits.proofs.Written.{wrote-through}
 use Rattle.numbers.specs.Cell.{cell}
-use Rattle.floors.specs.Content.{Floor}
+use Rattle.floor.specs.Content.{Floor}
 use Rattle.numbers.proofs.Collected.{rows-cell, wrote-as, many-length}
 use Rattle.floor_partition.specs.Partition.{whole}
 use Rattle.floor_values.specs.Values.{firstBits, partitionOf, usedValues, floorValues, answeredValues}

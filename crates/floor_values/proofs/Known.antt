@@ -19,13 +19,13 @@ use Rattle.reading.proofs.Accepted.{many-number, many-each}
 use Rattle.reading.proofs.Readers.{Long, each-long, mapped-ok}
 use Rattle.bits.specs.Field.{field}
 use Rattle.bits.proofs.Fields.{field-ok}
-use Rattle.codebook.specs.Codeword.{codeword}
+use Rattle.codeword.specs.Codeword.{codeword}
 use Rattle.floor_class.specs.Content.{Class}
-use Rattle.floors.specs.Content.{Floor, valueCount}
+use Rattle.floor.specs.Content.{Floor, valueCount}
 use Rattle.floor_x_list.specs.Content.{xList}
 use Rattle.floor_class.specs.Decode.{noClass}
 use Rattle.floor_class.specs.Valid.{ValidClasses}
-use Rattle.floors.specs.Valid.{ValidFloor}
+use Rattle.floor.specs.Valid.{ValidFloor}
 use Rattle.floor_partition.specs.Partition.{classValue, chosen, value, partition, whole}
 use Rattle.floor_values.specs.Values.{firstBits, partitionOf, usedValues, floorValues}
 use Rattle.floor_partition.specs.Stored.{lengthsIn}

@@ -18,11 +18,11 @@ use Rattle.bits.specs.Cursors.{position, Wrote}
 use Rattle.bits.proofs.Steps.{EachRest, each-loop-start, each-loop-next, each-loop-refused, each-loop-done}
 use Rattle.bits.proofs.Written.{wrote-through}
 use Rattle.floor_class.specs.Content.{Class}
-use Rattle.floors.specs.Content.{classCount}
+use Rattle.floor.specs.Content.{classCount}
 use Rattle.floor_class.specs.Decode.{noClass, classAt, classesAt}
-use Rattle.floors.specs.Decode.{floorAt}
+use Rattle.floor.specs.Decode.{floorAt}
 use Rattle.floor_class.specs.Valid.{ValidClass, ValidClasses}
-use Rattle.floors.proofs.RowLaws.{class-count-most}
+use Rattle.floor.proofs.RowLaws.{class-count-most}
 use Rattle.floor_partition.specs.Partition.{partition, whole}
 use Rattle.floor_values.specs.Values.{partitionOf}
 use Rattle.floor_partition.specs.Stored.{lengthsIn, classIn, ClassStored}

@@ -11,9 +11,9 @@ use Rattle.reading.specs.Outcome.{Refusal, refusal, Outcome, ok, bad, then, nee
 use Rattle.reading.specs.Reader.{Reader, many, each, mapped}
 use Rattle.bits.specs.Field.{valueAt, field}
 use Rattle.codeword_assignment.specs.Book.{used, isLone, firstUsed}
-use Rattle.codebook.specs.Codeword.{bitsAt, entryOf, orGoOn, matching, codeword}
+use Rattle.codeword.specs.Codeword.{bitsAt, entryOf, orGoOn, matching, codeword}
 use Rattle.floor_class.specs.Content.{Class}
-use Rattle.floors.specs.Content.{Floor}
+use Rattle.floor.specs.Content.{Floor}
 use Rattle.floor_class.specs.Decode.{noClass}
 use Rattle.floor_partition.specs.Partition.{classValue, chosen, value, partition, whole}
 use Rattle.floor_values.specs.Values.{firstBits, partitionOf, usedValues, floorValues}

@@ -2,9 +2,9 @@
 use Prim.Native.Nat.{ℕ, _+_, _*_, _≤_, _<_}
 use mathlib.Core.List.{List}
 use lib.ListN.{length}
-use Rattle.floors.specs.Content.{Floor}
-use Rattle.floors.specs.Decode.{floorAt}
-use Rattle.floors.specs.Valid.{ValidFloor}
+use Rattle.floor.specs.Content.{Floor}
+use Rattle.floor.specs.Decode.{floorAt}
+use Rattle.floor.specs.Valid.{ValidFloor}
 use Rattle.floor_partition.specs.Stored.{Readable}
 
 -- floor number n

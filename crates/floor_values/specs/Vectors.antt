@@ -10,8 +10,8 @@ use Rattle.reading.specs.Reader.{many, each, mapped}
 use Rattle.bits.specs.Field.{bitAt, valueAt, field}
 use Rattle.bits.specs.Ilog.{highestSet, ilog}
 use Rattle.codeword_assignment.specs.Book.{used, isUsed, isLone, firstUsed}
-use Rattle.codebook.specs.Codeword.{codeword}
-use Rattle.floors.specs.Content.{Floor}
+use Rattle.codeword.specs.Codeword.{codeword}
+use Rattle.floor.specs.Content.{Floor}
 use Rattle.floor_points.specs.FinalY.{rangeOf}
 use Rattle.floor_partition.specs.Partition.{classValue, chosen, value, partition, whole}
 use Rattle.floor_values.specs.Values.{firstBits, partitionOf, usedValues, floorValues}

@@ -45,7 +45,7 @@ fn cut(number: u64, packet: [u8; 31], length: usize)
 {
     lines::identification(
         number,
-        reader::torchvalley_identification(&packet[..length]),
+        torchvalley::torchvalley_identification(&packet[..length]),
     );
 }
 

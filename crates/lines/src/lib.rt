@@ -1,7 +1,7 @@
 // The tool's lines (01, "Figures to check against"), written to standard output.
 use identification::Identity;
 use libc::STDOUT_FILENO;
-use reader::IdentityAnswer;
+use torchvalley::IdentityAnswer;
 
 // Record `number` is an identification packet.
 pub fn identification(number: u64, answer: IdentityAnswer) {

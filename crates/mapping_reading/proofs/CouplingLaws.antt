@@ -20,9 +20,9 @@ use Rattle.bits.specs.Ilog.{ilog}
 use Rattle.bits.proofs.Answers.{value-is, refused-is}
 use Rattle.bits.proofs.Ilogs.{ilog-places}
 use Rattle.bits.proofs.Steps.{wrote-refused, wrote-next}
-use Rattle.mappings.specs.Reading.{channel, coupling}
-use Rattle.mappings.specs.Layout.{couplingRow}
-use Rattle.mappings.proofs.Laws.{channel-below}
+use Rattle.mapping.specs.Reading.{channel, coupling}
+use Rattle.mapping.specs.Layout.{couplingRow}
+use Rattle.mapping.proofs.Laws.{channel-below}
 
 abbrev at : ℕ → Cursor → Refusal
 at n c = record { number = n; place = c }

@@ -24,12 +24,12 @@ use Rattle.bits.specs.Field.{field}
 use Rattle.bits.proofs.Answers.{value-is, refused-is}
 use Rattle.bits.proofs.Steps.{wrote-refused, wrote-next, Rest, loop-start, loop-next, loop-refused, loop-done}
 use Rattle.bits.proofs.Written.{got, stopped}
-use Rattle.mappings.specs.Content.{Mapping}
-use Rattle.mappings.specs.declared.Known.{Known}
-use Rattle.mappings.specs.Reading.{submapCount, couplingCount, coupling, multiplexes, submap, parts, mapping}
-use Rattle.mappings.specs.Layout.{couplingRow, multiplexRow, submapRow, mappingRow, partsInto}
-use Rattle.mappings.proofs.SizeLaws.{parts-sizes}
-use Rattle.mappings.proofs.RowLaws.{mapping-wide, row-made}
+use Rattle.mapping.specs.Content.{Mapping}
+use Rattle.mapping.specs.declared.Known.{Known}
+use Rattle.mapping.specs.Reading.{submapCount, couplingCount, coupling, multiplexes, submap, parts, mapping}
+use Rattle.mapping.specs.Layout.{couplingRow, multiplexRow, submapRow, mappingRow, partsInto}
+use Rattle.mapping.proofs.SizeLaws.{parts-sizes}
+use Rattle.mapping.proofs.RowLaws.{mapping-wide, row-made}
 
 abbrev at : ℕ → Cursor → Refusal
 at n c = record { number = n; place = c }

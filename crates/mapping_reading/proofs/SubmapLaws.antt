@@ -22,9 +22,9 @@ use Rattle.bits.specs.Cursors.{position, outcome, Wrote}
 use Rattle.bits.specs.Field.{field}
 use Rattle.bits.proofs.Answers.{value-is, refused-is, value-below}
 use Rattle.bits.proofs.Steps.{wrote-refused, wrote-next}
-use Rattle.mappings.specs.declared.Known.{Known}
-use Rattle.mappings.specs.Reading.{multiplex, multiplexes, submap}
-use Rattle.mappings.specs.Layout.{multiplexRow, submapRow}
+use Rattle.mapping.specs.declared.Known.{Known}
+use Rattle.mapping.specs.Reading.{multiplex, multiplexes, submap}
+use Rattle.mapping.specs.Layout.{multiplexRow, submapRow}
 
 abbrev at : ℕ → Cursor → Refusal
 at n c = record { number = n; place = c }

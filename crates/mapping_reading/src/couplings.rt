@@ -3,7 +3,7 @@ use bits::Cursor;
 use bits::Field;
 use bits::Refusal;
 use bits::Step;
-use mappings::COUPLINGS_PLACE;
+use mapping::COUPLINGS_PLACE;
 ghost use Prim.Native.Nat.{_+_, _≤_};
 ghost use mathlib.Core.Path.{_≡_};
 ghost use lib.Seq.{sets};
@@ -11,8 +11,8 @@ ghost use Rattle.reading.specs.Lists.{rows};
 ghost use Rattle.reading.specs.Reader.{many, mapped, into1};
 ghost use Rattle.reading.specs.Table.{table, putRow};
 ghost use Rattle.bits.specs.Cursors.{position, outcome, Wrote};
-ghost use Rattle.mappings.specs.Reading.{channel, coupling};
-ghost use Rattle.mappings.specs.Layout.{couplingRow, mappingWidth, couplingsPlace};
+ghost use Rattle.mapping.specs.Reading.{channel, coupling};
+ghost use Rattle.mapping.specs.Layout.{couplingRow, mappingWidth, couplingsPlace};
 
 // A channel's number, in as many bits as the greatest one has.
 pub fn read_channel(packet: &[u8], from: Cursor, channels: u32) -> Field

@@ -7,16 +7,16 @@ use bits::Cursor;
 use bits::Field;
 use bits::Refusal;
 use bits::Step;
-use mappings::Known;
-use mappings::MAPPING_WIDTH;
+use mapping::Known;
+use mapping::MAPPING_WIDTH;
 ghost use Prim.Native.Nat.{_+_, _*_, _/_, _%_, _≤_};
 ghost use mathlib.Core.Path.{_≡_};
 ghost use lib.ListN.{set, replicate};
 ghost use Rattle.reading.specs.Reader.{many, mapped, into, into1};
 ghost use Rattle.reading.specs.Table.{table, putRow};
 ghost use Rattle.bits.specs.Cursors.{position, Wrote};
-ghost use Rattle.mappings.specs.Reading.{parts, mapping};
-ghost use Rattle.mappings.specs.Layout.{mappingRow, partsInto, mappingWidth};
+ghost use Rattle.mapping.specs.Reading.{parts, mapping};
+ghost use Rattle.mapping.specs.Layout.{mappingRow, partsInto, mappingWidth};
 
 // What follows a mapping's counts, into a row in which those stand.
 fn read_parts(
@@ -119,9 +119,9 @@ pub fn read_mapping(
                     place: from,
                 });
             }
-            match mappings::counts::read_submap_count(packet, at_submaps) {
+            match mapping::counts::read_submap_count(packet, at_submaps) {
                 Field::Refused(z) => Step::Refused(z),
-                Field::Value(submaps, at_steps) => match mappings::counts::read_coupling_count(
+                Field::Value(submaps, at_steps) => match mapping::counts::read_coupling_count(
                     packet,
                     at_steps,
                 ) {

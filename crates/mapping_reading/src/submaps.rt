@@ -3,17 +3,17 @@ use bits::Cursor;
 use bits::Field;
 use bits::Refusal;
 use bits::Step;
-use mappings::Known;
-use mappings::MULTIPLEX_PLACE;
-use mappings::SUBMAPS_PLACE;
+use mapping::Known;
+use mapping::MULTIPLEX_PLACE;
+use mapping::SUBMAPS_PLACE;
 ghost use Prim.Native.Nat.{_+_, _≤_};
 ghost use lib.Seq.{sets};
 ghost use Rattle.reading.specs.Lists.{rows};
 ghost use Rattle.reading.specs.Reader.{many, mapped, into1};
 ghost use Rattle.reading.specs.Table.{table, putRow};
 ghost use Rattle.bits.specs.Cursors.{position, Wrote};
-ghost use Rattle.mappings.specs.Reading.{multiplex, multiplexes, submap};
-ghost use Rattle.mappings.specs.Layout.{multiplexRow, submapRow, mappingWidth, multiplexPlace, submapsPlace};
+ghost use Rattle.mapping.specs.Reading.{multiplex, multiplexes, submap};
+ghost use Rattle.mapping.specs.Layout.{multiplexRow, submapRow, mappingWidth, multiplexPlace, submapsPlace};
 
 // One channel's submap, which is written at `at` plus one.
 pub fn read_multiplex(packet: &[u8], from: Cursor, submaps: u32, row: &mut [u8], at: usize) -> Step

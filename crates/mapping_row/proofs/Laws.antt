@@ -9,9 +9,9 @@ use Rattle.reading.specs.Lists.{rows}
 use Rattle.reading.specs.Pad.{pad}
 use Rattle.reading.proofs.Pads.{length-pad}
 use Rattle.reading.proofs.Stored.{Stored, stored-at, stored-left, stored-right, stored-first, stored-rest, stored-number, rows-stored-in, rows-stored}
-use Rattle.mappings.specs.Content.{Coupling, Submap, Mapping}
-use Rattle.mappings.specs.Layout.{mappingWidth, couplingsPlace, multiplexPlace, submapsPlace, couplingsRoom, multiplexRoom, submapsRoom, couplingRow, submapRow, mappingRow}
-use Rattle.mappings.proofs.RowLaws.{coupling-wide, submap-wide, mapping-wide}
+use Rattle.mapping.specs.Content.{Coupling, Submap, Mapping}
+use Rattle.mapping.specs.Layout.{mappingWidth, couplingsPlace, multiplexPlace, submapsPlace, couplingsRoom, multiplexRoom, submapsRoom, couplingRow, submapRow, mappingRow}
+use Rattle.mapping.proofs.RowLaws.{coupling-wide, submap-wide, mapping-wide}
 
 -- the numbers of a mapping that lies in a table
 pub record MappingStored (t : List ℕ) (at : ℕ) (m : Mapping) : Type 0 where

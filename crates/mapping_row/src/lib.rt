@@ -1,14 +1,14 @@
 // The numbers of a mapping, read from its row in the table: `mapping` is the mapping's number, its row begins at 804 * mapping. A place past the table's end
 // reads as 0.
-use mappings::COUPLINGS_PLACE;
-use mappings::MAPPING_WIDTH;
-use mappings::MULTIPLEX_PLACE;
-use mappings::SUBMAPS_PLACE;
+use mapping::COUPLINGS_PLACE;
+use mapping::MAPPING_WIDTH;
+use mapping::MULTIPLEX_PLACE;
+use mapping::SUBMAPS_PLACE;
 use reading::buffers::get_u8;
 ghost use Prim.Native.Nat.{_+_, _-_, _*_, _<_};
 ghost use mathlib.Core.Path.{_≡_};
 ghost use lib.ListN.{getD};
-ghost use Rattle.mappings.specs.Layout.{mappingWidth, couplingsPlace, multiplexPlace, submapsPlace};
+ghost use Rattle.mapping.specs.Layout.{mappingWidth, couplingsPlace, multiplexPlace, submapsPlace};
 
 // The number of coupling steps, which takes two places.
 pub fn two_places(low: u8, high: u8) -> usize

@@ -3,12 +3,12 @@ use Prim.Native.Nat.{ℕ, _≤_}
 use mathlib.Core.List.{List}
 use mathlib.Core.Path.{_≡_}
 use Rattle.reading.proofs.Encodes.{encodes-same}
-use Rattle.mappings.specs.declared.Known.{Known}
-use Rattle.mappings.specs.Decode.{decodeMapping}
-use Rattle.mappings.specs.Layout.{mappingRow}
-use Rattle.mappings.specs.Valid.{ValidMapping}
-use Rattle.mappings.proofs.Laws.{decode-mapping}
-use Rattle.mappings.proofs.RowLaws.{mapping-wide}
+use Rattle.mapping.specs.declared.Known.{Known}
+use Rattle.mapping.specs.Decode.{decodeMapping}
+use Rattle.mapping.specs.Layout.{mappingRow}
+use Rattle.mapping.specs.Valid.{ValidMapping}
+use Rattle.mapping.proofs.Laws.{decode-mapping}
+use Rattle.mapping.proofs.RowLaws.{mapping-wide}
 use Rattle.mapping_tables.specs.Recognised.{MappingsRecognised}
 
 -- no other mappings share a table

@@ -17,14 +17,14 @@ use Rattle.reading.specs.Encoding.{Zeros, Each, RowOf, Encodes}
 use Rattle.reading.proofs.Encodes.{iff-false, not-said, encodes-pad, Left, rows-start, rows-next, rows-stop, rows-end, encodes-long}
 use Rattle.reading.proofs.Pads.{length-pad}
 use Rattle.reading.proofs.PairRows.{pair-laws}
-use Rattle.mappings.specs.Content.{Coupling, Submap, Mapping}
-use Rattle.mappings.specs.declared.Known.{Known}
-use Rattle.mappings.specs.Layout.{couplingRow, multiplexRow, submapRow, mappingRow}
-use Rattle.mappings.specs.Valid.{ValidCoupling, ValidMultiplex, ValidSubmap, ValidMapping}
-use Rattle.mappings.specs.Decode.{couplingOf, submapOf}
+use Rattle.mapping.specs.Content.{Coupling, Submap, Mapping}
+use Rattle.mapping.specs.declared.Known.{Known}
+use Rattle.mapping.specs.Layout.{couplingRow, multiplexRow, submapRow, mappingRow}
+use Rattle.mapping.specs.Valid.{ValidCoupling, ValidMultiplex, ValidSubmap, ValidMapping}
+use Rattle.mapping.specs.Decode.{couplingOf, submapOf}
 use Rattle.mapping_tables.specs.Recognised.{MappingsRecognised, multiplexCount}
-use Rattle.mappings.proofs.RowLaws.{couplings-length, submaps-length, multiplex-rows, multiplex-length, multiplex-wide, mapping-wide, part-couplings, part-multiplex, part-submaps}
-use Rattle.mappings.proofs.Laws.{each-all, all-each, sized-none, sized-some, coupling-pairs, submap-pairs, multiplex-number, multiplex-most}
+use Rattle.mapping.proofs.RowLaws.{couplings-length, submaps-length, multiplex-rows, multiplex-length, multiplex-wide, mapping-wide, part-couplings, part-multiplex, part-submaps}
+use Rattle.mapping.proofs.Laws.{each-all, all-each, sized-none, sized-some, coupling-pairs, submap-pairs, multiplex-number, multiplex-most}
 
 -- the two numbers of a coupling step
 module _ (magnitude angle channels : ℕ) where

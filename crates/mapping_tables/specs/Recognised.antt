@@ -4,9 +4,9 @@ use mathlib.Core.List.{List}
 use mathlib.Core.Bool.{cond}
 use lib.Dec.{leb}
 use Rattle.reading.specs.Encoding.{Encodes}
-use Rattle.mappings.specs.declared.Known.{Known}
-use Rattle.mappings.specs.Layout.{mappingRow}
-use Rattle.mappings.specs.Valid.{ValidMapping}
+use Rattle.mapping.specs.declared.Known.{Known}
+use Rattle.mapping.specs.Layout.{mappingRow}
+use Rattle.mapping.specs.Valid.{ValidMapping}
 
 -- how many multiplex numbers there are: none where there is one submap
 abbrev pub multiplexCount : ℕ → ℕ → ℕ

@@ -1,9 +1,9 @@
 // Whether a table that is handed in is the writing-out of some mappings: row by row, each row part by part.
-use mappings::COUPLINGS_PLACE;
-use mappings::Known;
-use mappings::MAPPING_WIDTH;
-use mappings::MULTIPLEX_PLACE;
-use mappings::SUBMAPS_PLACE;
+use mapping::COUPLINGS_PLACE;
+use mapping::Known;
+use mapping::MAPPING_WIDTH;
+use mapping::MULTIPLEX_PLACE;
+use mapping::SUBMAPS_PLACE;
 ghost use Prim.Native.Nat.{_+_, _*_, _≤_, _<_};
 ghost use mathlib.Core.Bool.{true};
 ghost use mathlib.Core.List.{[], _∷_};
@@ -11,10 +11,10 @@ ghost use mathlib.Core.Logic.{_↔_};
 ghost use mathlib.Core.Path.{_≡_};
 ghost use lib.ListN.{length};
 ghost use Rattle.reading.specs.Encoding.{RowOf, Encodes};
-ghost use Rattle.mappings.specs.Decode.{couplingOf, submapOf};
-ghost use Rattle.mappings.specs.Layout.{couplingRow, multiplexRow, submapRow, mappingRow, mappingWidth};
+ghost use Rattle.mapping.specs.Decode.{couplingOf, submapOf};
+ghost use Rattle.mapping.specs.Layout.{couplingRow, multiplexRow, submapRow, mappingRow, mappingWidth};
 ghost use Rattle.mapping_tables.specs.Recognised.{MappingsRecognised, multiplexCount};
-ghost use Rattle.mappings.specs.Valid.{ValidCoupling, ValidMultiplex, ValidSubmap, ValidMapping};
+ghost use Rattle.mapping.specs.Valid.{ValidCoupling, ValidMultiplex, ValidSubmap, ValidMapping};
 
 // Whether the two numbers are a coupling step of so many channels.
 fn is_coupling(magnitude: u8, angle: u8, channels: u32) -> bool

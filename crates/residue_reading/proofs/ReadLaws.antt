@@ -21,15 +21,15 @@ use Rattle.bits.specs.declared.Step.{Step}
 use Rattle.bits.specs.declared.Step.the-variants.{Next, Refused}
 use Rattle.bits.specs.Cursors.{position, Wrote}
 use Rattle.bits.proofs.Steps.{wrote-ok, wrote-bad, wrote-next, wrote-refused}
-use Rattle.residues.specs.Reading.{Head, passes, planRow, placeFits, residueFits, withPlan, residueFrom}
-use Rattle.residues.specs.FromTable.{booksOf}
-use Rattle.residues.specs.Heads.{headNumbers}
-use Rattle.residues.specs.Layout.{Tables, headRow, planTable, putResidue}
-use Rattle.residues.specs.Plans.{Grid, headFits, tablesAt}
+use Rattle.residue.specs.Reading.{Head, passes, planRow, placeFits, residueFits, withPlan, residueFrom}
+use Rattle.residue.specs.FromTable.{booksOf}
+use Rattle.residue.specs.Heads.{headNumbers}
+use Rattle.residue.specs.Layout.{Tables, headRow, planTable, putResidue}
+use Rattle.residue.specs.Plans.{Grid, headFits, tablesAt}
 use Rattle.residue_reading.specs.Slots.{padWith}
-use Rattle.residues.specs.Valid.{Rows8}
-use Rattle.residues.proofs.RowsLaws.{pad-cat}
-use Rattle.residues.proofs.PlanSound.{row-read-long}
+use Rattle.residue.specs.Valid.{Rows8}
+use Rattle.residue.proofs.RowsLaws.{pad-cat}
+use Rattle.residue.proofs.PlanSound.{row-read-long}
 use Rattle.residue_reading.proofs.SlotLaws.{take-padWith, Filling, fill-start, fill-next, fill-refused, fill-done}
 
 pad-zero : (xs : List ℕ) → pad 0 xs ≡ []

@@ -14,17 +14,17 @@ use Rattle.bits.specs.declared.Step.{Step}
 use Rattle.bits.specs.declared.Step.the-variants.{Next, Refused}
 use Rattle.bits.specs.Cursors.{position, refusalOf, Wrote}
 use Rattle.bits.proofs.Steps.{wrote-ok, wrote-bad, wrote-refused, Rest, loop-start, loop-next, loop-refused, loop-done}
-use Rattle.residues.specs.Reading.{Books, Head, cascade, head, residue, residueFrom}
-use Rattle.residues.specs.FromTable.{booksOf}
-use Rattle.residues.specs.Heads.{headOf, headRead}
-use Rattle.residues.specs.Layout.{Tables, putResidue}
-use Rattle.residues.specs.Plans.{tablesAt}
+use Rattle.residue.specs.Reading.{Books, Head, cascade, head, residue, residueFrom}
+use Rattle.residue.specs.FromTable.{booksOf}
+use Rattle.residue.specs.Heads.{headOf, headRead}
+use Rattle.residue.specs.Layout.{Tables, putResidue}
+use Rattle.residue.specs.Plans.{tablesAt}
 use Rattle.residue_reading.specs.Slots.{padWith}
-use Rattle.residues.specs.declared.head.Head as D
-use Rattle.residues.specs.declared.head.HeadRead.{HeadRead}
-use Rattle.residues.specs.declared.head.HeadRead.the-variants as H
+use Rattle.residue.specs.declared.head.Head as D
+use Rattle.residue.specs.declared.head.HeadRead.{HeadRead}
+use Rattle.residue.specs.declared.head.HeadRead.the-variants as H
 use Rattle.residue_reading.proofs.SlotLaws.{length-padWith, take-padWith}
-use Rattle.residues.proofs.HeadSound.{head-sound}
+use Rattle.residue.proofs.HeadSound.{head-sound}
 
 module _ {r : HeadRead} {o : Outcome (Head × ℕ)} (p : headRead r ≡ o) where
   head-is : {h : D.Head} {c : Cursor} → r ≡ H.Value h c → o ≡ ok (headOf h, position c)

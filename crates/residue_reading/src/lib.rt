@@ -5,22 +5,22 @@ pub mod plan; // the plan: which book each class has at each pass
 use bits::Cursor;
 use bits::Refusal;
 use bits::Step;
-use residues::HEAD_WIDTH;
-use residues::PLAN_WIDTH;
-use residues::head::Head;
-use residues::head::HeadRead;
+use residue::HEAD_WIDTH;
+use residue::PLAN_WIDTH;
+use residue::head::Head;
+use residue::head::HeadRead;
 ghost use mathlib.Core.Path.{_≡_};
 ghost use Prim.Native.Nat.{_+_, _≤_};
 ghost use lib.ListN.{length, take};
 ghost use lib.Seq.{sets};
 ghost use Rattle.reading.specs.Reader.{many, into, into1};
 ghost use Rattle.bits.specs.Cursors.{position, Wrote};
-ghost use Rattle.residues.specs.Reading.{residue, residueFrom};
-ghost use Rattle.residues.specs.Layout.{putResidue};
-ghost use Rattle.residues.specs.FromTable.{booksOf};
-ghost use Rattle.residues.specs.Heads.{headOf, headNumbers};
-ghost use Rattle.residues.specs.Plans.{tablesAt};
-ghost use Rattle.residues.specs.Valid.{AcceptedValid};
+ghost use Rattle.residue.specs.Reading.{residue, residueFrom};
+ghost use Rattle.residue.specs.Layout.{putResidue};
+ghost use Rattle.residue.specs.FromTable.{booksOf};
+ghost use Rattle.residue.specs.Heads.{headOf, headNumbers};
+ghost use Rattle.residue.specs.Plans.{tablesAt};
+ghost use Rattle.residue.specs.Valid.{AcceptedValid};
 
 fn wide(x: u32) -> usize
     ensures { λ r. ⌜ r ≡ x ⌝ }
@@ -78,10 +78,10 @@ fn read_plan(
         }
         i = i + 1;
     }
-    if !residues::fits::head_fits(head, books) {
+    if !residue::fits::head_fits(head, books) {
         return Step::Refused(Refusal { number: 13, place });
     }
-    if !residues::fits::plan_fits(plan, classes, head.size, books) {
+    if !residue::fits::plan_fits(plan, classes, head.size, books) {
         return Step::Refused(Refusal { number: 13, place });
     }
     write_head(residues, HEAD_WIDTH * index, head);
@@ -102,7 +102,7 @@ pub fn read_residue(
     requires { ⌜ index ≤ 63 ⌝ }
     ensures { λ r. ⌜ Wrote (into1 putResidue (residue (booksOf count (now (books .entry))) (now (packet .entry)) (position from)) (tablesAt (now (residues .entry)) (now (plans .entry)) index)) r (tablesAt (now (residues .exit)) (now (plans .exit)) (index + 1)) ⌝ }
 {
-    match residues::head::read_head(packet, from, count) {
+    match residue::head::read_head(packet, from, count) {
         HeadRead::Refused(z) => Step::Refused(z),
         HeadRead::Value(head, at_cascades) => {
             let cascades = crate::cascade::read_cascades(

@@ -8,8 +8,8 @@ ghost use Prim.Native.Nat.{_≤_};
 ghost use lib.Seq.{sets};
 ghost use Rattle.reading.specs.Lists.{rows};
 ghost use Rattle.bits.specs.Cursors.{position, outcome, Wrote};
-ghost use Rattle.residues.specs.Reading.{planBook, planRow};
-ghost use Rattle.residues.specs.Plans.{Grid};
+ghost use Rattle.residue.specs.Reading.{planBook, planRow};
+ghost use Rattle.residue.specs.Plans.{Grid};
 
 // A class's row of the plan, and where reading goes on. On a refusal the row means nothing.
 pub struct Row {

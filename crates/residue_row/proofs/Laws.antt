@@ -10,14 +10,14 @@ use lib.Seq.{getD-append-add}
 use Rattle.reading.specs.Pad.{pad}
 use Rattle.reading.specs.Lists.{rows}
 use Rattle.reading.proofs.Stored.{Stored, stored-number, rows-stored}
-use Rattle.residues.specs.Content.{Residue}
-use Rattle.residues.specs.Reading.{Books}
-use Rattle.residues.specs.Layout.{headWidth, planWidth, headRow, planTable}
-use Rattle.residues.specs.Valid.{Rows8, ValidResidue}
-use Rattle.residues.specs.Decode.{headAt}
-use Rattle.residues.specs.Heads.{headOf}
-use Rattle.residues.specs.declared.head.Head as D
-use Rattle.residues.proofs.Laws.{length-headRow, length-planTable}
+use Rattle.residue.specs.Content.{Residue}
+use Rattle.residue.specs.Reading.{Books}
+use Rattle.residue.specs.Layout.{headWidth, planWidth, headRow, planTable}
+use Rattle.residue.specs.Valid.{Rows8, ValidResidue}
+use Rattle.residue.specs.Decode.{headAt}
+use Rattle.residue.specs.Heads.{headOf}
+use Rattle.residue.specs.declared.head.Head as D
+use Rattle.residue.proofs.Laws.{length-headRow, length-planTable}
 
 -- as the code asks
 pub head-made : (t : List ℕ) (i : ℕ) {a b c d e f : ℕ} → a ≡ getD t (6 * i + 0) 0 → b ≡ getD t (6 * i + 1) 0 → c ≡ getD t (6 * i + 2) 0 → d ≡ getD t (6 * i + 3) 0

@@ -1,15 +1,15 @@
 // The numbers of a residue, read from its rows in the tables: `residue` is the residue's number, its rows begin at 6 * residue and 512 * residue. A place
 // past a table's end reads as 0.
 use reading::widths::wide_u32;
-use residues::HEAD_WIDTH;
-use residues::PLAN_WIDTH;
-use residues::head::Head;
+use residue::HEAD_WIDTH;
+use residue::PLAN_WIDTH;
+use residue::head::Head;
 ghost use mathlib.Core.Path.{_≡_};
 ghost use Prim.Native.Nat.{_+_, _*_, _<_};
 ghost use lib.ListN.{getD};
-ghost use Rattle.residues.specs.Decode.{headAt};
-ghost use Rattle.residues.specs.Heads.{headOf};
-ghost use Rattle.residues.specs.Layout.{headWidth, planWidth};
+ghost use Rattle.residue.specs.Decode.{headAt};
+ghost use Rattle.residue.specs.Heads.{headOf};
+ghost use Rattle.residue.specs.Layout.{headWidth, planWidth};
 
 // Number `column` of a residue's row.
 fn number(residues: &[u32], residue: u32, column: usize) -> u32

@@ -14,13 +14,13 @@ use Rattle.reading.specs.Lists.{all}
 use Rattle.reading.specs.Encoding.{Zeros}
 use Rattle.reading.proofs.Least.{and-split}
 use Rattle.reading.proofs.Parts.{part-slice}
-use Rattle.residues.specs.Reading.{Books, Head, placeFits}
-use Rattle.residues.specs.FromTable.{booksOf}
-use Rattle.residues.specs.Heads.{headOf}
-use Rattle.residues.specs.Plans.{headFits}
-use Rattle.residues.specs.Decode.{headAt}
+use Rattle.residue.specs.Reading.{Books, Head, placeFits}
+use Rattle.residue.specs.FromTable.{booksOf}
+use Rattle.residue.specs.Heads.{headOf}
+use Rattle.residue.specs.Plans.{headFits}
+use Rattle.residue.specs.Decode.{headAt}
 use Rattle.residue_tables.specs.Recognised.{headTest, placesTest, residueTest, residuesTest}
-use Rattle.residues.specs.declared.head.Head as D
+use Rattle.residue.specs.declared.head.Head as D
 
 -- the fields before the plan, one law for each way out
 module _ (count : ℕ) (t : List ℕ) (h : D.Head) where

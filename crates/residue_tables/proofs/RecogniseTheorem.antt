@@ -12,15 +12,15 @@ use lib.Seq.{take-at, drop-at, take-add, length-take-le}
 use Rattle.reading.specs.Pad.{pad}
 use Rattle.reading.specs.Lists.{all, rows}
 use Rattle.reading.proofs.Pads.{length-pad}
-use Rattle.residues.specs.Content.{Residue}
-use Rattle.residues.specs.Reading.{Books, Head, placeFits, residueFits}
-use Rattle.residues.specs.Layout.{headRow, planTable}
-use Rattle.residues.specs.Valid.{Rows8, ValidResidue, AllValid}
-use Rattle.residues.specs.Plans.{headFits}
-use Rattle.residues.specs.Decode.{chunks, headAt, decodeResidue, decodeResidues}
+use Rattle.residue.specs.Content.{Residue}
+use Rattle.residue.specs.Reading.{Books, Head, placeFits, residueFits}
+use Rattle.residue.specs.Layout.{headRow, planTable}
+use Rattle.residue.specs.Valid.{Rows8, ValidResidue, AllValid}
+use Rattle.residue.specs.Plans.{headFits}
+use Rattle.residue.specs.Decode.{chunks, headAt, decodeResidue, decodeResidues}
 use Rattle.residue_tables.specs.Recognised.{Holds, ResiduesRecognised, OneContent, headTest, placesTest, residueTest, residuesTest}
-use Rattle.residues.proofs.Laws.{length-headRow, length-planTable, rows8-long, planTable-is, decode-rows}
-use Rattle.residues.proofs.RowsLaws.{pad-cat}
+use Rattle.residue.proofs.Laws.{length-headRow, length-planTable, rows8-long, planTable-is, decode-rows}
+use Rattle.residue.proofs.RowsLaws.{pad-cat}
 
 and-true : (a b : Bool) → a && b ≡ true → (a ≡ true) × (b ≡ true)
 and-true true b e = (refl, e)

@@ -7,12 +7,12 @@ use lib.Dec.{eqb, leb, ltb}
 use lib.ListN.{length, take, drop}
 use Rattle.reading.specs.Pad.{pad}
 use Rattle.reading.specs.Lists.{all, rows}
-use Rattle.residues.specs.Content.{Residue}
-use Rattle.residues.specs.Reading.{Books, Head, placeFits}
-use Rattle.residues.specs.Layout.{headWidth, planWidth, headRow, planTable}
-use Rattle.residues.specs.Valid.{AllValid}
-use Rattle.residues.specs.Plans.{headFits}
-use Rattle.residues.specs.Decode.{headAt, decodeResidues}
+use Rattle.residue.specs.Content.{Residue}
+use Rattle.residue.specs.Reading.{Books, Head, placeFits}
+use Rattle.residue.specs.Layout.{headWidth, planWidth, headRow, planTable}
+use Rattle.residue.specs.Valid.{AllValid}
+use Rattle.residue.specs.Plans.{headFits}
+use Rattle.residue.specs.Decode.{headAt, decodeResidues}
 
 -- the tables hold a content's rows, and zeros behind them whatever length was lent
 pub record Holds (books : Books) (n : ℕ) (residues plans : List ℕ) (content : List Residue) : Type 0 where

@@ -1,9 +1,9 @@
 // Whether tables that are handed in are the writing-out of residues that meet every rule (01, "What the reader takes and gives").
 use reading::widths::u32_from_u16;
 use reading::widths::wide_u32;
-use residues::HEAD_WIDTH;
-use residues::PLAN_WIDTH;
-use residues::head::Head;
+use residue::HEAD_WIDTH;
+use residue::PLAN_WIDTH;
+use residue::head::Head;
 ghost use mathlib.Core.Path.{_≡_};
 ghost use mathlib.Core.Bool.{true};
 ghost use mathlib.Core.Logic.{_↔_};
@@ -11,10 +11,10 @@ ghost use Prim.Native.Nat.{_-_, _*_, _≤_};
 ghost use lib.Dec.{leb};
 ghost use lib.ListN.{length, take, drop};
 ghost use Rattle.reading.specs.Lists.{all};
-ghost use Rattle.residues.specs.FromTable.{booksOf};
-ghost use Rattle.residues.specs.Heads.{headOf};
+ghost use Rattle.residue.specs.FromTable.{booksOf};
+ghost use Rattle.residue.specs.Heads.{headOf};
 ghost use Rattle.residue_tables.specs.Recognised.{headTest, residueTest, ResiduesRecognised, OneContent};
-ghost use Rattle.residues.specs.Layout.{headWidth, planWidth};
+ghost use Rattle.residue.specs.Layout.{headWidth, planWidth};
 
 // The places from `from` up to `to` name books that are set up.
 fn places_set_up(places: &[u16], from: usize, to: usize, count: u32) -> bool
@@ -63,7 +63,7 @@ fn is_head(head: Head, count: u32, books: &[u32]) -> bool
     if count <= head.classbook {
         return false;
     }
-    residues::fits::head_fits(head, books)
+    residue::fits::head_fits(head, books)
 }
 
 // Residue `index` of the tables meets every rule.
@@ -81,7 +81,7 @@ fn is_residue(residues: &[u32], plans: &[u16], index: u32, count: u32, books: &[
     if !places_set_up(plans, first, last, count) {
         return false;
     }
-    if !residues::fits::places_fit(plans, first, last, head.size, books) {
+    if !residue::fits::places_fit(plans, first, last, head.size, books) {
         return false;
     }
     reading::zeros::zeros_u16(&plans[first..first + PLAN_WIDTH], used)

@@ -12,10 +12,10 @@ use Rattle.reading.proofs.Least.{lt-or-le}
 use Rattle.book.specs.Content.{Book}
 use Rattle.book.specs.Layout.{bookWidth, bookRow, numberAt}
 use Rattle.book_head.specs.Reading.{Before}
-use Rattle.books.specs.Rows.{bookRows, andThese}
-use Rattle.books.proofs.BooksStored.{rows-length, row-at}
-use Rattle.residues.specs.Reading.{Books}
-use Rattle.residues.specs.FromTable.{booksOf}
+use Rattle.book_reading.specs.Rows.{bookRows, andThese}
+use Rattle.book_reading.proofs.BooksStored.{rows-length, row-at}
+use Rattle.residue.specs.Reading.{Books}
+use Rattle.residue.specs.FromTable.{booksOf}
 use Rattle.setup.specs.Content.{booksKnown}
 
 abbrev none : Before

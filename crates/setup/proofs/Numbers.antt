@@ -22,20 +22,20 @@ use Rattle.book.specs.Content.{Book}
 use Rattle.book_head.specs.Reading as H
 use Rattle.book_lengths.specs.Reading as L
 use Rattle.book_lookup.specs.Reading as U
-use Rattle.books.specs.Reading as K
+use Rattle.book_reading.specs.Reading as K
 use Rattle.floor_class.specs.Content.{Class}
 use Rattle.floor_class.specs.Reading as C
 use Rattle.floor_x_list.specs.Content.{xList}
 use Rattle.floor_x_list.specs.Reading as X
-use Rattle.floors.specs.Content.{Floor, classCount, valueCount}
-use Rattle.floors.specs.Reading as F
-use Rattle.residues.specs.Content.{Residue}
-use Rattle.residues.specs.Reading as R
-use Rattle.mappings.specs.Content.{Coupling, Submap, Mapping}
-use Rattle.mappings.specs.declared.Known.{Known}
-use Rattle.mappings.specs.Reading as M
-use Rattle.modes.specs.Content.{Mode}
-use Rattle.modes.specs.Reading as O
+use Rattle.floor.specs.Content.{Floor, classCount, valueCount}
+use Rattle.floor.specs.Reading as F
+use Rattle.residue.specs.Content.{Residue}
+use Rattle.residue.specs.Reading as R
+use Rattle.mapping.specs.Content.{Coupling, Submap, Mapping}
+use Rattle.mapping.specs.declared.Known.{Known}
+use Rattle.mapping.specs.Reading as M
+use Rattle.mode.specs.Content.{Mode}
+use Rattle.mode.specs.Reading as O
 use Rattle.setup.specs.Content.{Setup, booksKnown, known}
 use Rattle.setup.specs.Reading.{bookSection, section, timeValue, sections, setup}
 use Rattle.setup.specs.Layout.{Tables, hasRoom}

@@ -15,20 +15,20 @@ use Rattle.rules.specs.Rules as Rule
 use Rattle.book_lengths.proofs.Verdict.{accepted-meets, meets-accepted}
 use Rattle.book.specs.Content.{Book}
 use Rattle.book_head.specs.Reading.{Before}
-use Rattle.books.specs.Reading.{andThis}
-use Rattle.books.specs.Valid.{ValidBook, ValidBooks}
+use Rattle.book_reading.specs.Reading.{andThis}
+use Rattle.book_reading.specs.Valid.{ValidBook, ValidBooks}
 use Rattle.floor_class.specs.Content.{Class}
-use Rattle.floors.specs.Content.{Floor}
+use Rattle.floor.specs.Content.{Floor}
 use Rattle.floor_class.specs.Valid.{ValidClass, ValidClasses}
-use Rattle.floors.specs.Valid.{ValidFloor}
-use Rattle.residues.specs.Content.{Residue}
-use Rattle.residues.specs.Reading.{Books}
-use Rattle.residues.specs.Valid.{ValidResidue}
-use Rattle.mappings.specs.Content.{Coupling, Submap, Mapping}
-use Rattle.mappings.specs.declared.Known.{Known}
-use Rattle.mappings.specs.Valid.{ValidCoupling, ValidSubmap, ValidMapping}
-use Rattle.modes.specs.Content.{Mode}
-use Rattle.modes.specs.Valid.{ValidMode}
+use Rattle.floor.specs.Valid.{ValidFloor}
+use Rattle.residue.specs.Content.{Residue}
+use Rattle.residue.specs.Reading.{Books}
+use Rattle.residue.specs.Valid.{ValidResidue}
+use Rattle.mapping.specs.Content.{Coupling, Submap, Mapping}
+use Rattle.mapping.specs.declared.Known.{Known}
+use Rattle.mapping.specs.Valid.{ValidCoupling, ValidSubmap, ValidMapping}
+use Rattle.mode.specs.Content.{Mode}
+use Rattle.mode.specs.Valid.{ValidMode}
 use Rattle.setup.specs.Content.{Setup, booksKnown, known}
 use Rattle.setup.specs.Carried.{Counted, CarriedBook, CarriedClass, CarriedFloor, CarriedResidue, CarriedMapping, CarriedMode, Carried}
 use Rattle.setup.specs.Rules.{Rule6, Rule7, Rule8, Rule10, Class11, Residue11, Coupling11, Submap11, Mapping11, Mode11, Rule11, Rule12, Rule13, entriesInAll, multiplicandsInAll, Rule14, MeetsRules}

@@ -20,21 +20,21 @@ use Rattle.limits.specs.declared.Limits.{Limits}
 use Rattle.identification.specs.declared.Identity.{Identity}
 use Rattle.identification.specs.Sound.{isSound}
 use Rattle.book.specs.Content.{Book}
-use Rattle.books.specs.Reading.{books}
-use Rattle.books.specs.Valid.{ValidBooks}
-use Rattle.books.proofs.Accepted.{books-valid}
-use Rattle.floors.specs.Content.{Floor}
-use Rattle.floors.specs.Reading.{floor}
-use Rattle.floors.specs.Valid.{ValidFloor, ValidFloors}
-use Rattle.floors.proofs.Laws.{floors-valid}
-use Rattle.residues.specs.Content.{Residue}
-use Rattle.residues.specs.Reading.{Books, residue}
-use Rattle.residues.specs.Valid.{ValidResidue, AllValid}
-use Rattle.residues.proofs.Laws.{residues-valid}
-use Rattle.mappings.specs.Reading.{mapping}
-use Rattle.mappings.proofs.Laws.{mappings-valid}
-use Rattle.modes.specs.Reading.{mode}
-use Rattle.modes.proofs.Laws.{modes-valid}
+use Rattle.book_reading.specs.Reading.{books}
+use Rattle.book_reading.specs.Valid.{ValidBooks}
+use Rattle.book_reading.proofs.Accepted.{books-valid}
+use Rattle.floor.specs.Content.{Floor}
+use Rattle.floor.specs.Reading.{floor}
+use Rattle.floor.specs.Valid.{ValidFloor, ValidFloors}
+use Rattle.floor.proofs.Laws.{floors-valid}
+use Rattle.residue.specs.Content.{Residue}
+use Rattle.residue.specs.Reading.{Books, residue}
+use Rattle.residue.specs.Valid.{ValidResidue, AllValid}
+use Rattle.residue.proofs.Laws.{residues-valid}
+use Rattle.mapping.specs.Reading.{mapping}
+use Rattle.mapping.proofs.Laws.{mappings-valid}
+use Rattle.mode.specs.Reading.{mode}
+use Rattle.mode.proofs.Laws.{modes-valid}
 use Rattle.setup.specs.Content.{Setup, booksKnown, known}
 use Rattle.setup.specs.Reading.{bookSection, section, timeValue, sections, setup}
 use Rattle.setup.specs.Layout.{Tables, layout, hasRoom, writtenOut, cleared}

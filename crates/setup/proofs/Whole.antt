@@ -6,10 +6,10 @@ use lib.ListN.{length}
 use Rattle.reading.specs.Outcome.{Refusal, Outcome, ok, bad, then}
 use Rattle.header.specs.Header.{commonHeader, framing}
 use Rattle.limits.specs.declared.Limits.{Limits}
-use Rattle.floors.specs.Reading.{floor}
-use Rattle.residues.specs.Reading.{residue}
-use Rattle.mappings.specs.Reading.{mapping}
-use Rattle.modes.specs.Reading.{mode}
+use Rattle.floor.specs.Reading.{floor}
+use Rattle.residue.specs.Reading.{residue}
+use Rattle.mapping.specs.Reading.{mapping}
+use Rattle.mode.specs.Reading.{mode}
 use Rattle.setup.specs.Content.{booksKnown, known}
 use Rattle.setup.specs.Reading.{bookSection, section, timeValue, sections, setup}
 use Rattle.setup.specs.Parts.{bookPart, floorPart, mappingPart, afterBooks, restPart, afterHeader, packetPart}

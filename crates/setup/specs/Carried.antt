@@ -9,13 +9,13 @@ use lib.ListN.{length}
 use Rattle.reading.specs.Lists.{all}
 use Rattle.reading.specs.Encoding.{Each}
 use Rattle.book.specs.Content.{Book}
-use Rattle.books.specs.Valid.{NoLookup, SomeLookup}
+use Rattle.book_reading.specs.Valid.{NoLookup, SomeLookup}
 use Rattle.floor_class.specs.Content.{Class}
-use Rattle.floors.specs.Content.{Floor, classCount, valueCount}
-use Rattle.residues.specs.Content.{Residue}
-use Rattle.residues.specs.Valid.{Rows8}
-use Rattle.mappings.specs.Content.{Mapping}
-use Rattle.modes.specs.Content.{Mode}
+use Rattle.floor.specs.Content.{Floor, classCount, valueCount}
+use Rattle.residue.specs.Content.{Residue}
+use Rattle.residue.specs.Valid.{Rows8}
+use Rattle.mapping.specs.Content.{Mapping}
+use Rattle.mode.specs.Content.{Mode}
 use Rattle.setup.specs.Content.{Setup}
 
 -- a count that a field less one carries, up to so many

@@ -3,12 +3,12 @@ use Prim.Native.Nat.{ℕ}
 use mathlib.Core.List.{List, map}
 use lib.ListN.{length, getD}
 use Rattle.book.specs.Content.{Book}
-use Rattle.floors.specs.Content.{Floor}
-use Rattle.residues.specs.Content.{Residue}
-use Rattle.residues.specs.Reading.{Books}
-use Rattle.mappings.specs.Content.{Mapping}
-use Rattle.mappings.specs.declared.Known.{Known}
-use Rattle.modes.specs.Content.{Mode}
+use Rattle.floor.specs.Content.{Floor}
+use Rattle.residue.specs.Content.{Residue}
+use Rattle.residue.specs.Reading.{Books}
+use Rattle.mapping.specs.Content.{Mapping}
+use Rattle.mapping.specs.declared.Known.{Known}
+use Rattle.mode.specs.Content.{Mode}
 
 pub record Setup : Type 0 where
   pub books : List Book

@@ -8,11 +8,11 @@ use Rattle.reading.specs.Lists.{rows}
 use Rattle.reading.specs.Pad.{pad}
 use Rattle.limits.specs.declared.Limits.{Limits}
 use Rattle.book.specs.Layout.{booksNeed}
-use Rattle.books.specs.Rows.{bookRows, allLengths, allCodewords, allMultiplicands}
-use Rattle.floors.specs.Layout.{floorRow}
-use Rattle.residues.specs.Layout.{headRow, planTable}
-use Rattle.mappings.specs.Layout.{mappingRow}
-use Rattle.modes.specs.Layout.{modeRow}
+use Rattle.book_reading.specs.Rows.{bookRows, allLengths, allCodewords, allMultiplicands}
+use Rattle.floor.specs.Layout.{floorRow}
+use Rattle.residue.specs.Layout.{headRow, planTable}
+use Rattle.mapping.specs.Layout.{mappingRow}
+use Rattle.mode.specs.Layout.{modeRow}
 use Rattle.setup.specs.Content.{Setup}
 
 pub record Tables : Type 0 where

@@ -16,21 +16,21 @@ use Rattle.limits.specs.declared.Limits.{Limits}
 use Rattle.identification.specs.declared.Identity.{Identity}
 use Rattle.identification.specs.Sound.{isSound}
 use Rattle.book.specs.Content.{Book}
-use Rattle.books.specs.BookBuffers.{BookBuffers}
-use Rattle.books.specs.Rows.{bookRows, allLengths, allCodewords, allMultiplicands}
-use Rattle.floors.specs.Content.{Floor}
-use Rattle.floors.specs.Layout.{floorRow}
-use Rattle.floors.specs.Reading.{floor}
-use Rattle.residues.specs.Content.{Residue}
-use Rattle.residues.specs.Layout.{headRow, planTable}
-use Rattle.residues.specs.Reading.{Books, residue}
-use Rattle.mappings.specs.Content.{Mapping}
-use Rattle.mappings.specs.Layout.{mappingRow}
-use Rattle.mappings.specs.Reading.{mapping}
-use Rattle.mappings.specs.declared.Known.{Known}
-use Rattle.modes.specs.Content.{Mode}
-use Rattle.modes.specs.Layout.{modeRow}
-use Rattle.modes.specs.Reading.{mode}
+use Rattle.book_reading.specs.BookBuffers.{BookBuffers}
+use Rattle.book_reading.specs.Rows.{bookRows, allLengths, allCodewords, allMultiplicands}
+use Rattle.floor.specs.Content.{Floor}
+use Rattle.floor.specs.Layout.{floorRow}
+use Rattle.floor.specs.Reading.{floor}
+use Rattle.residue.specs.Content.{Residue}
+use Rattle.residue.specs.Layout.{headRow, planTable}
+use Rattle.residue.specs.Reading.{Books, residue}
+use Rattle.mapping.specs.Content.{Mapping}
+use Rattle.mapping.specs.Layout.{mappingRow}
+use Rattle.mapping.specs.Reading.{mapping}
+use Rattle.mapping.specs.declared.Known.{Known}
+use Rattle.mode.specs.Content.{Mode}
+use Rattle.mode.specs.Layout.{modeRow}
+use Rattle.mode.specs.Reading.{mode}
 use Rattle.setup.specs.Content.{Setup, booksKnown, known}
 use Rattle.setup.specs.Reading.{bookSection, section, timeValue}
 use Rattle.setup.specs.Layout.{Tables, hasRoom, writtenOut, cleared}

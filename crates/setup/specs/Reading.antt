@@ -10,15 +10,15 @@ use Rattle.rules.specs.Rules as Rule
 use Rattle.header.specs.Header.{commonHeader, framing}
 use Rattle.limits.specs.declared.Limits.{Limits}
 use Rattle.book.specs.Content.{Book}
-use Rattle.books.specs.Reading.{books}
-use Rattle.floors.specs.Content.{Floor}
-use Rattle.floors.specs.Reading.{floor}
-use Rattle.residues.specs.Content.{Residue}
-use Rattle.residues.specs.Reading.{residue}
-use Rattle.mappings.specs.Content.{Mapping}
-use Rattle.mappings.specs.Reading.{mapping}
-use Rattle.modes.specs.Content.{Mode}
-use Rattle.modes.specs.Reading.{mode}
+use Rattle.book_reading.specs.Reading.{books}
+use Rattle.floor.specs.Content.{Floor}
+use Rattle.floor.specs.Reading.{floor}
+use Rattle.residue.specs.Content.{Residue}
+use Rattle.residue.specs.Reading.{residue}
+use Rattle.mapping.specs.Content.{Mapping}
+use Rattle.mapping.specs.Reading.{mapping}
+use Rattle.mode.specs.Content.{Mode}
+use Rattle.mode.specs.Reading.{mode}
 use Rattle.setup.specs.Content.{Setup, booksKnown, known}
 
 -- 8 bits plus one books

@@ -13,12 +13,12 @@ use Rattle.codeword_assignment.specs.Book.{used, firstRefused, freeAfter, isLon
 use Rattle.rules.specs.Rules as Rule
 use Rattle.book.specs.Content.{Book}
 use Rattle.floor_class.specs.Content.{Class}
-use Rattle.floors.specs.Content.{Floor}
+use Rattle.floor.specs.Content.{Floor}
 use Rattle.floor_x_list.specs.Content.{xList}
-use Rattle.residues.specs.Content.{Residue}
-use Rattle.residues.specs.Reading.{Books, residueFits}
-use Rattle.mappings.specs.Content.{Coupling, Submap, Mapping}
-use Rattle.modes.specs.Content.{Mode}
+use Rattle.residue.specs.Content.{Residue}
+use Rattle.residue.specs.Reading.{Books, residueFits}
+use Rattle.mapping.specs.Content.{Coupling, Submap, Mapping}
+use Rattle.mode.specs.Content.{Mode}
 use Rattle.setup.specs.Content.{Setup, booksKnown}
 
 -- 6, of a book

@@ -4,11 +4,11 @@ use Prim.Native.Nat.{ℕ}
 use lib.ListN.{length}
 use Rattle.reading.specs.Encoding.{Each}
 use Rattle.limits.specs.declared.Limits.{Limits}
-use Rattle.books.specs.Valid.{ValidBooks}
-use Rattle.floors.specs.Valid.{ValidFloor}
-use Rattle.residues.specs.Valid.{ValidResidue}
-use Rattle.mappings.specs.Valid.{ValidMapping}
-use Rattle.modes.specs.Valid.{ValidMode}
+use Rattle.book_reading.specs.Valid.{ValidBooks}
+use Rattle.floor.specs.Valid.{ValidFloor}
+use Rattle.residue.specs.Valid.{ValidResidue}
+use Rattle.mapping.specs.Valid.{ValidMapping}
+use Rattle.mode.specs.Valid.{ValidMode}
 use Rattle.setup.specs.Content.{Setup, booksKnown, known}
 use Rattle.setup.specs.Carried.{Counted}
 

@@ -16,8 +16,8 @@ use Rattle.bits.specs.Cursors.{position, outcome}
 use Rattle.limits.specs.declared.Limits.{Limits}
 use Rattle.identification.specs.declared.Identity.{Identity}
 use Rattle.identification.specs.Sound as I
-use Rattle.codebook.specs.Codeword.{codeword}
-use Rattle.codebook.specs.Claims.{Settled}
+use Rattle.codeword.specs.Codeword.{codeword}
+use Rattle.codeword.specs.Claims.{Settled}
 use Rattle.book_codeword.specs.Stored.{entriesOf, BookStored}
 use Rattle.setup.specs.Layout.{Tables}
 use Rattle.setup.specs.Parts.{Small}

@@ -18,12 +18,12 @@ use Rattle.codeword_assignment.specs.Book.{used, ledgerCodewords, verdict, Begi
 use Rattle.codeword_assignment.specs.declared.book.Assigned.the-variants.{Accepted}
 use Rattle.codespace.proofs.Claimed.{balanced}
 use Rattle.codeword_assignment.proofs.Laws.{exactly-one-entry}
-use Rattle.codebook.specs.Codeword.{codeword}
-use Rattle.codebook.proofs.Laws.{read-whole, read-lone}
+use Rattle.codeword.specs.Codeword.{codeword}
+use Rattle.codeword.proofs.Laws.{read-whole, read-lone}
 use Rattle.book.specs.Content.{Book}
 use Rattle.book_head.specs.Reading.{Before}
-use Rattle.books.specs.Reading.{andThis}
-use Rattle.books.specs.Valid.{ValidBooks}
+use Rattle.book_reading.specs.Reading.{andThis}
+use Rattle.book_reading.specs.Valid.{ValidBooks}
 use Rattle.setup.specs.Content.{Setup}
 use Rattle.setup.specs.Layout.{Tables, writtenOut}
 use Rattle.setup.specs.Call.{setupOf, setupCall, answered}

@@ -7,7 +7,7 @@ use Rattle.reading.specs.Outcome.{refusal, Outcome, bad}
 use Rattle.limits.specs.declared.Limits.{Limits}
 use Rattle.identification.specs.declared.Identity.{Identity}
 use Rattle.identification.specs.Sound as I
-use Rattle.codebook.specs.Codeword.{codeword}
+use Rattle.codeword.specs.Codeword.{codeword}
 use Rattle.setup.specs.Content.{Setup}
 use Rattle.setup.specs.Layout.{Tables}
 use Rattle.setup.specs.Sound as T

@@ -13,7 +13,7 @@ use Rattle.codespace.specs.Ledger.{answers}
 use Rattle.codespace.specs.Claims.{Balanced}
 use Rattle.codeword_assignment.specs.Book.{used, isLone, firstUsed, freeAfter, ledgerCodewords, verdict, Begins}
 use Rattle.codeword_assignment.specs.declared.book.Assigned.the-variants.{Accepted}
-use Rattle.codebook.specs.Codeword.{bitsAt}
+use Rattle.codeword.specs.Codeword.{bitsAt}
 use Rattle.setup.specs.Content.{Setup}
 use Rattle.setup.specs.Layout.{Tables}
 use Rattle.setup.specs.Call.{setupOf, setupCall}

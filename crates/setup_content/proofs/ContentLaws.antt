@@ -12,9 +12,9 @@ use Rattle.bits.specs.declared.Step.{Step}
 use Rattle.bits.specs.declared.Step.the-variants as S
 use Rattle.bits.specs.Cursors.{position}
 use Rattle.limits.specs.declared.Limits.{Limits}
-use Rattle.books.specs.BookBuffers.{BookBuffers}
-use Rattle.residues.specs.Reading.{Books}
-use Rattle.residues.specs.FromTable.{booksOf}
+use Rattle.book_reading.specs.BookBuffers.{BookBuffers}
+use Rattle.residue.specs.Reading.{Books}
+use Rattle.residue.specs.FromTable.{booksOf}
 use Rattle.setup.specs.Content.{Setup, booksKnown}
 use Rattle.setup.specs.Layout.{tables, layout, hasRoom, writtenOut}
 use Rattle.setup.specs.Parts.{ReadInto, BooksStored, ClearedBookBuffers, RestStored, Small, WrittenOut, bookPart, restPart, setupWith, afterHeader}

@@ -17,7 +17,7 @@ use Rattle.bits.specs.declared.Step.the-variants as S
 use Rattle.bits.specs.Cursors.{position, outcome, stepped}
 use Rattle.bits.proofs.Answers.{value-is, refused-is}
 use Rattle.header.specs.Header.{framing}
-use Rattle.residues.specs.Reading.{Books}
+use Rattle.residue.specs.Reading.{Books}
 use Rattle.setup.specs.Parts.{ReadInto, RowsStored, AfterBooksStored, RestStored, afterBooks, restPart}
 use Rattle.setup_buffers.specs.Blank.{Blank}
 use Rattle.setup_buffers.proofs.BlankLaws.{pad-to-buffer}

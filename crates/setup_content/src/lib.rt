@@ -12,7 +12,7 @@ ghost use mathlib.Core.Bool.{true};
 ghost use mathlib.Core.Path.{_≡_};
 ghost use Prim.Native.Nat.{_≤_};
 ghost use Rattle.bits.specs.Cursors.{position};
-ghost use Rattle.books.specs.BookBuffers.{BookBuffers};
+ghost use Rattle.book_reading.specs.BookBuffers.{BookBuffers};
 ghost use Rattle.setup.specs.Layout.{hasRoom, tables};
 ghost use Rattle.setup.specs.Parts.{ReadInto, BooksStored, Small, WrittenOut, bookPart, afterHeader};
 

@@ -15,7 +15,7 @@ ghost use Rattle.reading.specs.Outcome.{ok, then};
 ghost use Rattle.reading.specs.Pad.{pad};
 ghost use Rattle.bits.specs.Cursors.{position, stepped};
 ghost use Rattle.header.specs.Header.{framing};
-ghost use Rattle.residues.specs.FromTable.{booksOf};
+ghost use Rattle.residue.specs.FromTable.{booksOf};
 ghost use Rattle.setup.specs.Parts.{ReadInto, AfterBooksStored, RestStored, afterBooks, restPart};
 
 // How many there are of each, from the front of the table of counts.

@@ -23,13 +23,13 @@ use Rattle.codeword_assignment.proofs.Computed.{verdictBy, verdict-is}
 use Rattle.book_head.specs.Reading as H
 use Rattle.book_lengths.specs.Reading as L
 use Rattle.book_lookup.specs.Reading as U
-use Rattle.books.specs.Reading as K
+use Rattle.book_reading.specs.Reading as K
 use Rattle.floor_x_list.specs.Reading as X
-use Rattle.floors.specs.Content.{classCount, valueCount}
-use Rattle.floors.specs.Reading as F
-use Rattle.residues.specs.Reading as R
-use Rattle.mappings.specs.Reading as M
-use Rattle.modes.specs.Reading as O
+use Rattle.floor.specs.Content.{classCount, valueCount}
+use Rattle.floor.specs.Reading as F
+use Rattle.residue.specs.Reading as R
+use Rattle.mapping.specs.Reading as M
+use Rattle.mode.specs.Reading as O
 use Rattle.setup.specs.Content.{booksKnown, known}
 use Rattle.setup.specs.Reading.{bookSection, section, timeValue, sections, setup}
 use Rattle.setup.specs.Rules.{entriesInAll, multiplicandsInAll}

@@ -23,15 +23,15 @@ use Rattle.book.specs.Content.{Book}
 use Rattle.book_head.specs.Reading.{Before}
 use Rattle.book_lengths.specs.Reading.{lengths, entered}
 use Rattle.book_lookup.specs.Reading.{Lookup}
-use Rattle.books.specs.Reading.{book, andThis, books}
-use Rattle.floors.specs.Content.{Floor}
-use Rattle.floors.specs.Reading.{floor}
-use Rattle.residues.specs.Content.{Residue}
-use Rattle.residues.specs.Reading.{residue}
-use Rattle.mappings.specs.Content.{Mapping}
-use Rattle.mappings.specs.Reading.{mapping}
-use Rattle.modes.specs.Content.{Mode}
-use Rattle.modes.specs.Reading.{mode}
+use Rattle.book_reading.specs.Reading.{book, andThis, books}
+use Rattle.floor.specs.Content.{Floor}
+use Rattle.floor.specs.Reading.{floor}
+use Rattle.residue.specs.Content.{Residue}
+use Rattle.residue.specs.Reading.{residue}
+use Rattle.mapping.specs.Content.{Mapping}
+use Rattle.mapping.specs.Reading.{mapping}
+use Rattle.mode.specs.Content.{Mode}
+use Rattle.mode.specs.Reading.{mode}
 use Rattle.setup.specs.Content.{Setup, booksKnown, known}
 use Rattle.setup.specs.Reading.{bookSection, timeValue, sections, setup}
 use Rattle.setup.specs.Rules.{entriesInAll, multiplicandsInAll}

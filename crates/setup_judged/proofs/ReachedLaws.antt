@@ -15,12 +15,12 @@ use Rattle.book.specs.Content.{Book}
 use Rattle.book_head.specs.Reading.{Before, Head, head}
 use Rattle.book_lengths.specs.Reading.{lengths, entered}
 use Rattle.book_lookup.specs.Reading.{lookup}
-use Rattle.books.specs.Reading.{book, andThis, books}
-use Rattle.books.proofs.Accepted.{books-valid}
-use Rattle.floors.specs.Reading.{floor}
-use Rattle.residues.specs.Reading.{residue}
-use Rattle.mappings.specs.Reading.{mapping}
-use Rattle.modes.specs.Reading.{mode}
+use Rattle.book_reading.specs.Reading.{book, andThis, books}
+use Rattle.book_reading.proofs.Accepted.{books-valid}
+use Rattle.floor.specs.Reading.{floor}
+use Rattle.residue.specs.Reading.{residue}
+use Rattle.mapping.specs.Reading.{mapping}
+use Rattle.mode.specs.Reading.{mode}
 use Rattle.setup.specs.Content.{Setup, booksKnown, known}
 use Rattle.setup.specs.Reading.{bookSection, section, timeValue, sections, setup}
 use Rattle.setup.specs.Layout.{Tables}

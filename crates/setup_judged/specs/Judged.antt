@@ -17,7 +17,7 @@ use Rattle.codeword_assignment.specs.Book.{used, isLone, firstRefused, freeAfte
 use Rattle.book.specs.Content.{Book}
 use Rattle.book_head.specs.Reading.{Before, Head, head}
 use Rattle.book_lengths.specs.Reading.{lengths}
-use Rattle.books.specs.Reading.{books}
+use Rattle.book_reading.specs.Reading.{books}
 use Rattle.setup.specs.Layout.{Tables, hasRoom}
 use Rattle.setup.specs.Rules.{entriesInAll, multiplicandsInAll}
 use Rattle.setup.specs.Call.{setupOf, setupCall}

@@ -14,14 +14,14 @@ use Rattle.bits.specs.declared.Step.the-variants as S
 use Rattle.bits.specs.Cursors.{position, stepped}
 use Rattle.limits.specs.declared.Limits.{Limits}
 use Rattle.book.specs.Content.{Book}
-use Rattle.floors.specs.Layout.{floorRow}
-use Rattle.floors.specs.Reading.{floor}
-use Rattle.residues.specs.Reading.{Books, residue}
-use Rattle.mappings.specs.declared.Known.{Known}
-use Rattle.mappings.specs.Layout.{mappingRow}
-use Rattle.mappings.specs.Reading.{mapping}
-use Rattle.modes.specs.Layout.{modeRow}
-use Rattle.modes.specs.Reading.{mode}
+use Rattle.floor.specs.Layout.{floorRow}
+use Rattle.floor.specs.Reading.{floor}
+use Rattle.residue.specs.Reading.{Books, residue}
+use Rattle.mapping.specs.declared.Known.{Known}
+use Rattle.mapping.specs.Layout.{mappingRow}
+use Rattle.mapping.specs.Reading.{mapping}
+use Rattle.mode.specs.Layout.{modeRow}
+use Rattle.mode.specs.Reading.{mode}
 use Rattle.setup.specs.Content.{known}
 use Rattle.setup.specs.Reading.{bookSection, section, timeValue}
 use Rattle.setup.specs.Parts.{ReadInto, RowsStored, ResiduesStored, FloorsStored, MappingsStored, AfterBooksStored, bookPart, floorPart, mappingPart, afterBooks}

@@ -26,16 +26,16 @@ use Rattle.bits.proofs.Steps.{next-is, stop-is}
 use Rattle.limits.specs.declared.Limits.{Limits}
 use Rattle.book.specs.Content.{Book}
 use Rattle.book_head.specs.Reading.{Before}
-use Rattle.books.specs.Layout.{tables, putBook}
-use Rattle.books.specs.Layout as B
-use Rattle.books.specs.Parts as P
-use Rattle.books.specs.Reading.{books}
-use Rattle.books.specs.Rows.{bookRows, allLengths, allCodewords, allMultiplicands, andThese}
-use Rattle.books.proofs.BooksStored.{cleared-stored}
-use Rattle.residues.specs.Content.{Residue}
-use Rattle.residues.specs.Layout.{headRow, planTable, putResidue}
-use Rattle.residues.specs.Layout as R
-use Rattle.residues.specs.Plans.{tablesAt}
+use Rattle.book_reading.specs.Layout.{tables, putBook}
+use Rattle.book_reading.specs.Layout as B
+use Rattle.book_reading.specs.Parts as P
+use Rattle.book_reading.specs.Reading.{books}
+use Rattle.book_reading.specs.Rows.{bookRows, allLengths, allCodewords, allMultiplicands, andThese}
+use Rattle.book_reading.proofs.BooksStored.{cleared-stored}
+use Rattle.residue.specs.Content.{Residue}
+use Rattle.residue.specs.Layout.{headRow, planTable, putResidue}
+use Rattle.residue.specs.Layout as R
+use Rattle.residue.specs.Plans.{tablesAt}
 use Rattle.setup.specs.Reading.{bookSection, section, timeValue}
 use Rattle.setup.specs.Parts.{ReadInto, RowsStored, BooksStored, ResiduesStored, ClearedBookBuffers}
 use Rattle.setup.proofs.ReadIntoLaws.{read-into-refused, read-into-wrote, many-counted, rows-stored}

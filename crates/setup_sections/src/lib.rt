@@ -6,21 +6,21 @@ use bits::Field;
 use bits::Refusal;
 use bits::Step;
 use limits::Limits;
-use mappings::Known;
+use mapping::Known;
 ghost use mathlib.Core.Path.{_≡_};
 ghost use Prim.Native.Nat.{_≤_};
 ghost use Rattle.reading.specs.Outcome.{ok, then};
 ghost use Rattle.reading.specs.Reader.{many};
 ghost use Rattle.reading.specs.Encoding.{Zeros};
 ghost use Rattle.bits.specs.Cursors.{position, stepped};
-ghost use Rattle.floors.specs.Layout.{floorRow};
-ghost use Rattle.floors.specs.Reading.{floor};
-ghost use Rattle.residues.specs.FromTable.{booksOf};
-ghost use Rattle.residues.specs.Reading.{residue};
-ghost use Rattle.mappings.specs.Layout.{mappingRow};
-ghost use Rattle.mappings.specs.Reading.{mapping};
-ghost use Rattle.modes.specs.Layout.{modeRow};
-ghost use Rattle.modes.specs.Reading.{mode};
+ghost use Rattle.floor.specs.Layout.{floorRow};
+ghost use Rattle.floor.specs.Reading.{floor};
+ghost use Rattle.residue.specs.FromTable.{booksOf};
+ghost use Rattle.residue.specs.Reading.{residue};
+ghost use Rattle.mapping.specs.Layout.{mappingRow};
+ghost use Rattle.mapping.specs.Reading.{mapping};
+ghost use Rattle.mode.specs.Layout.{modeRow};
+ghost use Rattle.mode.specs.Reading.{mode};
 ghost use Rattle.setup.specs.Reading.{bookSection, section, timeValue};
 ghost use Rattle.setup.specs.Parts.{ReadInto, RowsStored, BooksStored, ResiduesStored, ClearedBookBuffers};
 
@@ -56,7 +56,7 @@ pub fn read_book_section(
         },
         Field::Value(less_one, next) => {
             let count = less_one + 1;
-            let read = books::read::read_books(
+            let read = book_reading::read::read_books(
                 packet,
                 next,
                 count,
@@ -132,7 +132,7 @@ pub fn read_floor_section(packet: &[u8], from: Cursor, books: u32, floors: &mut 
         },
         Field::Value(less_one, next) => {
             let count = less_one + 1;
-            let step = floors::floor::read_floors(packet, next, wide(count), books, floors);
+            let step = floor::floor::read_floors(packet, next, wide(count), books, floors);
             Section { count, step }
         }
     }
@@ -211,7 +211,7 @@ pub fn read_mode_section(packet: &[u8], from: Cursor, mappings: u32, modes: &mut
         },
         Field::Value(less_one, next) => {
             let count = less_one + 1;
-            let step = modes::read_modes(packet, next, wide(count), mappings, modes);
+            let step = mode::read_modes(packet, next, wide(count), mappings, modes);
             Section { count, step }
         }
     }

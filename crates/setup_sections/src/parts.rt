@@ -2,7 +2,7 @@
 use bits::Cursor;
 use bits::Step;
 use limits::Limits;
-use mappings::Known;
+use mapping::Known;
 use crate::Section;
 use crate::read_book_section;
 use crate::read_floor_section;
@@ -14,7 +14,7 @@ ghost use mathlib.Core.Path.{_≡_};
 ghost use Prim.Native.Nat.{_≤_};
 ghost use Rattle.reading.specs.Encoding.{Zeros};
 ghost use Rattle.bits.specs.Cursors.{position};
-ghost use Rattle.residues.specs.FromTable.{booksOf};
+ghost use Rattle.residue.specs.FromTable.{booksOf};
 ghost use Rattle.setup.specs.Parts.{ReadInto, BooksStored, ClearedBookBuffers, FloorsStored, MappingsStored, AfterBooksStored, bookPart, floorPart, mappingPart, afterBooks};
 
 // The books, and behind them the time values.

@@ -11,10 +11,10 @@ use Rattle.limits.specs.declared.Limits.{Limits}
 use Rattle.book_tables.specs.Recognised.{Countable, BooksRecognised}
 use Rattle.book_tables.proofs.TestLaws.{refuted, shown}
 use Rattle.floor_tables.specs.Recognised.{FloorsRecognised}
-use Rattle.residues.specs.FromTable.{booksOf}
+use Rattle.residue.specs.FromTable.{booksOf}
 use Rattle.residue_tables.specs.Recognised.{ResiduesRecognised}
 use Rattle.mapping_tables.specs.Recognised.{MappingsRecognised}
-use Rattle.modes.specs.Recognised.{ModesRecognised}
+use Rattle.mode.specs.Recognised.{ModesRecognised}
 use Rattle.setup.specs.Layout.{hasRoom, tables}
 use Rattle.setup.specs.Parts.{Small}
 use Rattle.setup.specs.Sound.{Sound}

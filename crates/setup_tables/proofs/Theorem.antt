@@ -13,31 +13,31 @@ use Rattle.limits.specs.declared.Limits.{Limits}
 use Rattle.book.specs.Content.{Book}
 use Rattle.book.specs.Layout.{booksNeed}
 use Rattle.book_head.specs.Answers.{totals}
-use Rattle.books.specs.Rows.{bookRows}
+use Rattle.book_reading.specs.Rows.{bookRows}
 use Rattle.book_tables.specs.Recognised.{Countable, BooksRecognised}
 use Rattle.book_tables.proofs.HeldLaws as BookLaws
-use Rattle.floors.specs.Content.{Floor}
-use Rattle.floors.specs.Decode.{decodeFloor}
-use Rattle.floors.specs.Layout.{floorRow}
-use Rattle.floors.specs.Valid.{ValidFloor, ValidFloors}
-use Rattle.floors.proofs.Decoded.{floor-long, floor-decoded}
+use Rattle.floor.specs.Content.{Floor}
+use Rattle.floor.specs.Decode.{decodeFloor}
+use Rattle.floor.specs.Layout.{floorRow}
+use Rattle.floor.specs.Valid.{ValidFloor, ValidFloors}
+use Rattle.floor.proofs.Decoded.{floor-long, floor-decoded}
 use Rattle.floor_tables.specs.Recognised.{FloorsRecognised}
-use Rattle.residues.specs.Content.{Residue}
-use Rattle.residues.specs.FromTable.{booksOf}
-use Rattle.residues.specs.Reading.{Books}
-use Rattle.residues.specs.Valid.{ValidResidue, AllValid}
+use Rattle.residue.specs.Content.{Residue}
+use Rattle.residue.specs.FromTable.{booksOf}
+use Rattle.residue.specs.Reading.{Books}
+use Rattle.residue.specs.Valid.{ValidResidue, AllValid}
 use Rattle.residue_tables.specs.Recognised.{ResiduesRecognised}
 use Rattle.residue_tables.proofs.RecogniseTheorem as ResidueLaws
-use Rattle.mappings.specs.declared.Known.{Known}
-use Rattle.mappings.specs.Layout.{mappingRow}
-use Rattle.mappings.specs.Valid.{ValidMapping}
-use Rattle.mappings.proofs.RowLaws.{mapping-wide}
+use Rattle.mapping.specs.declared.Known.{Known}
+use Rattle.mapping.specs.Layout.{mappingRow}
+use Rattle.mapping.specs.Valid.{ValidMapping}
+use Rattle.mapping.proofs.RowLaws.{mapping-wide}
 use Rattle.mapping_tables.specs.Recognised.{MappingsRecognised}
 use Rattle.mapping_tables.proofs.Laws as MappingLaws
-use Rattle.modes.specs.Layout.{modeRow}
-use Rattle.modes.specs.Valid.{ValidMode}
-use Rattle.modes.specs.Recognised.{ModesRecognised}
-use Rattle.modes.proofs.Laws as ModeLaws
+use Rattle.mode.specs.Layout.{modeRow}
+use Rattle.mode.specs.Valid.{ValidMode}
+use Rattle.mode.specs.Recognised.{ModesRecognised}
+use Rattle.mode.proofs.Laws as ModeLaws
 use Rattle.setup.specs.Content.{Setup, booksKnown, known}
 use Rattle.setup.specs.Layout.{Tables, layout, writtenOut, tables}
 use Rattle.setup.specs.Parts.{Small}

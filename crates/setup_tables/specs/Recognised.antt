@@ -9,11 +9,11 @@ use Rattle.reading.specs.Encoding.{Zeros}
 use Rattle.limits.specs.declared.Limits.{Limits}
 use Rattle.book_tables.specs.Recognised.{BooksRecognised}
 use Rattle.floor_tables.specs.Recognised.{FloorsRecognised}
-use Rattle.residues.specs.FromTable.{booksOf}
+use Rattle.residue.specs.FromTable.{booksOf}
 use Rattle.residue_tables.specs.Recognised.{ResiduesRecognised}
-use Rattle.mappings.specs.declared.Known.{Known}
+use Rattle.mapping.specs.declared.Known.{Known}
 use Rattle.mapping_tables.specs.Recognised.{MappingsRecognised}
-use Rattle.modes.specs.Recognised.{ModesRecognised}
+use Rattle.mode.specs.Recognised.{ModesRecognised}
 use Rattle.setup.specs.Layout.{Tables, hasRoom}
 use Rattle.setup.specs.Carried.{Counted}
 use Rattle.setup.specs.Sound.{Sound}

@@ -1,19 +1,19 @@
 // The tables of a setup kind by kind: the counts, and with them books, floors, residues, mappings, modes.
 use book_tables::row::wide;
 use limits::Limits;
-use mappings::Known;
+use mapping::Known;
 use reading::buffers::get_u32;
 ghost use mathlib.Core.Bool.{true};
 ghost use mathlib.Core.Logic.{_↔_};
 ghost use mathlib.Core.Path.{_≡_};
 ghost use Prim.Native.Nat.{_≤_};
 ghost use lib.ListN.{getD};
-ghost use Rattle.residues.specs.FromTable.{booksOf};
+ghost use Rattle.residue.specs.FromTable.{booksOf};
 ghost use Rattle.book_tables.specs.Recognised.{BooksRecognised};
 ghost use Rattle.floor_tables.specs.Recognised.{FloorsRecognised};
 ghost use Rattle.residue_tables.specs.Recognised.{ResiduesRecognised};
 ghost use Rattle.mapping_tables.specs.Recognised.{MappingsRecognised};
-ghost use Rattle.modes.specs.Recognised.{ModesRecognised};
+ghost use Rattle.mode.specs.Recognised.{ModesRecognised};
 ghost use Rattle.setup.specs.Parts.{Small};
 ghost use Rattle.setup.specs.Carried.{Counted};
 ghost use Rattle.setup_tables.specs.Recognised.{CountsRecognised, FrontRecognised, BackRecognised, knownBy};
@@ -107,7 +107,7 @@ fn are_modes(counts: &[u32], modes: &[u8]) -> bool
     requires { ⌜ CountsRecognised (now counts) ⌝ }
     ensures { λ r. ⌜ (r ≡ true) ↔ ModesRecognised (getD (now (counts .entry)) 3 0) (getD (now (counts .entry)) 4 0) (now (modes .entry)) ⌝ }
 {
-    modes::recognise::are_modes(modes, wide(get_u32(counts, 4)), get_u32(counts, 3))
+    mode::recognise::are_modes(modes, wide(get_u32(counts, 4)), get_u32(counts, 3))
 }
 
 // Books and floors.

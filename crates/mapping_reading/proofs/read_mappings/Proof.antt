@@ -5,8 +5,8 @@ use lib.ListN.{length}
 use Rattle.reading.specs.Reader.{many, into}
 use Rattle.reading.specs.Table.{table, putRow}
 use Rattle.bits.specs.Cursors.{position}
-use Rattle.mappings.specs.Reading.{mapping}
-use Rattle.mappings.specs.Layout.{mappingRow}
+use Rattle.mapping.specs.Reading.{mapping}
+use Rattle.mapping.specs.Layout.{mappingRow}
 use Rattle.mapping_reading.proofs.MappingLaws.{Reading, mappings-laws}
 use borrow.Author.Needs.{needs}
 use Rattle.mapping_reading.proofs.read_mappings.Statement.{statement}

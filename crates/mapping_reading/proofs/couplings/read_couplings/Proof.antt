@@ -2,8 +2,8 @@
 use Prim.Native.Nat.{_+_, _*_, _-_, _≤_}
 use mathlib.Core.Path.{_≡_}
 use Rattle.mapping_reading.proofs.Fillings.{Filling, filling, fill-refused, fill-next, fill-done}
-use Rattle.mappings.specs.Reading.{coupling}
-use Rattle.mappings.specs.Layout.{couplingRow}
+use Rattle.mapping.specs.Reading.{coupling}
+use Rattle.mapping.specs.Layout.{couplingRow}
 use borrow.Author.Needs.{needs}
 use Rattle.mapping_reading.proofs.couplings.read_couplings.Statement.{statement}
 use Rattle.mapping_reading.proofs.couplings.read_couplings.Tie as tie

@@ -2,8 +2,8 @@
 use Prim.Native.Nat.{_+_, _-_, _≤_}
 use mathlib.Core.Path.{_≡_}
 use Rattle.mapping_reading.proofs.Fillings.{Filling, filling, fill-refused, fill-next, fill-done}
-use Rattle.mappings.specs.Reading.{multiplex}
-use Rattle.mappings.specs.Layout.{multiplexRow}
+use Rattle.mapping.specs.Reading.{multiplex}
+use Rattle.mapping.specs.Layout.{multiplexRow}
 use borrow.Author.Needs.{needs}
 use Rattle.mapping_reading.proofs.submaps.read_channels.Statement.{statement}
 use Rattle.mapping_reading.proofs.submaps.read_channels.Tie as tie

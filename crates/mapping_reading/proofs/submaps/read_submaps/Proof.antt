@@ -2,8 +2,8 @@
 use Prim.Native.Nat.{_+_, _*_, _-_, _≤_}
 use mathlib.Core.Path.{_≡_}
 use Rattle.mapping_reading.proofs.Fillings.{Filling, filling, fill-refused, fill-next, fill-done}
-use Rattle.mappings.specs.Reading.{submap}
-use Rattle.mappings.specs.Layout.{submapRow}
+use Rattle.mapping.specs.Reading.{submap}
+use Rattle.mapping.specs.Layout.{submapRow}
 use borrow.Author.Needs.{needs}
 use Rattle.mapping_reading.proofs.submaps.read_submaps.Statement.{statement}
 use Rattle.mapping_reading.proofs.submaps.read_submaps.Tie as tie

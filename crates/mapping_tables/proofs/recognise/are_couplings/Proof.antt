@@ -1,9 +1,9 @@
 -- `mapping_tables::recognise::are_couplings` meets its contract, by RecogniseLaws, mappings's Laws and reading's PairRows. Assumes nothing.
 use Prim.Native.Nat.{_-_, _≤_}
 use Rattle.mapping_tables.proofs.RecogniseLaws.{coupling-recognise-laws}
-use Rattle.mappings.proofs.Laws.{coupling-pairs}
+use Rattle.mapping.proofs.Laws.{coupling-pairs}
 use Rattle.reading.proofs.PairRows.{Finding}
-use Rattle.mappings.specs.Valid.{ValidCoupling}
+use Rattle.mapping.specs.Valid.{ValidCoupling}
 use borrow.Author.Needs.{needs}
 use Rattle.mapping_tables.proofs.recognise.are_couplings.Statement.{statement}
 use Rattle.mapping_tables.proofs.recognise.are_couplings.Tie as tie

@@ -1,9 +1,9 @@
 -- `mapping_tables::recognise::are_submaps` meets its contract, by RecogniseLaws, mappings's Laws and reading's PairRows. Assumes nothing.
 use Prim.Native.Nat.{_-_, _≤_}
 use Rattle.mapping_tables.proofs.RecogniseLaws.{submap-recognise-laws}
-use Rattle.mappings.proofs.Laws.{submap-pairs}
+use Rattle.mapping.proofs.Laws.{submap-pairs}
 use Rattle.reading.proofs.PairRows.{Finding}
-use Rattle.mappings.specs.Valid.{ValidSubmap}
+use Rattle.mapping.specs.Valid.{ValidSubmap}
 use borrow.Author.Needs.{needs}
 use Rattle.mapping_tables.proofs.recognise.are_submaps.Statement.{statement}
 use Rattle.mapping_tables.proofs.recognise.are_submaps.Tie as tie

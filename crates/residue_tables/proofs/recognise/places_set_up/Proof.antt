@@ -1,6 +1,6 @@
 -- `residue_tables::recognise::places_set_up` meets its contract, by residues's FitsLaws. Assumes nothing.
 use Prim.Native.Nat.{_-_}
-use Rattle.residues.proofs.FitsLaws.{Testing, testing-laws}
+use Rattle.residue.proofs.FitsLaws.{Testing, testing-laws}
 use lib.Dec.{leb}
 use borrow.Author.Needs.{needs}
 use Rattle.residue_tables.proofs.recognise.places_set_up.Statement.{statement}

@@ -1,0 +1,38 @@
+-- `book_reading::read::finish_book` meets its contract, by BookLaws. Assumes nothing.
+use Rattle.book_reading.proofs.BookLaws.{finish-whole}
+use borrow.Author.Needs.{needs}
+use Rattle.book_reading.proofs.read.finish_book.Statement.{statement}
+use Rattle.book_reading.proofs.read.finish_book.Tie as tie
+
+read-lookup-requires : tie.Need-read-lookup-requires
+read-lookup-requires c κs = search needs
+
+write-row-requires : tie.Need-write-row-requires
+write-row-requires c κs = search needs
+
+add-t19 : tie.Need-add-t19
+add-t19 c = search needs
+
+add-t20 : tie.Need-add-t20
+add-t20 c = search needs
+
+same-length : tie.Need-same-length
+same-length c = search needs
+
+same-length-2 : tie.Need-same-length-2
+same-length-2 c = search needs
+
+returns : tie.Need-returns
+returns c = (finish-whole _ _ _ _ _ _ _ _ (c .before .before .before .before .before .before .before .before .read-lookup .ensures .0) (c .before .before .before .before .write-row .ensures), (search needs, c .before .before .before .before .before .before .before .before .read-lookup .ensures .1))
+
+pub finish-book-spec : {M : Type 1} → statement M
+finish-book-spec =
+    tie.close
+    (tie.spec
+    read-lookup-requires
+    write-row-requires
+    add-t19
+    add-t20
+    same-length
+    same-length-2
+    returns)

@@ -1,0 +1,125 @@
+// Reading one codeword of a packet, bit by bit (01, "Bits and books"; 002, "Using a codebook").
+use bits::Cursor;
+use bits::Field;
+use bits::Refusal;
+ghost use mathlib.Core.Path.{_≡_};
+ghost use Prim.Native.Nat.{_+_, _*_, _<_};
+ghost use lib.Dec.{ltb};
+ghost use lib.ListN.{length};
+ghost use Rattle.reading.specs.Outcome.{refusal, bad};
+ghost use Rattle.reading.specs.Reader.{mapped};
+ghost use Rattle.bits.specs.Field.{bitAt, field};
+ghost use Rattle.bits.specs.Cursors.{position, outcome};
+ghost use Rattle.codeword_assignment.specs.Book.{loneMark};
+ghost use Rattle.codeword.specs.Codeword.{codeword, loneBits, matching};
+ghost use Rattle.codeword.specs.Book.{Codebook};
+ghost use Rattle.codeword.specs.Claims.{Settled};
+
+// The entry whose codeword stands at the cursor, with the position behind it; or the cut, where the packet ends within the codeword. `lone` is the
+// number of the book's sole used entry of length 1 plus one, or 0 where it has none.
+pub fn read_codeword(packet: &[u8], from: Cursor, lone: u32, lengths: &[u8], codewords: &[u32]) -> Field
+    requires { ⌜ Codebook (now lengths) (now codewords) × (lone ≡ loneMark (now lengths)) ⌝ }
+    ensures { λ r. ⌜ outcome r ≡ codeword (now (lengths .entry)) (now (packet .entry)) (position from) ⌝ }
+    ensures { λ _. ⌜ Settled (now (lengths .entry)) ⌝ }
+{
+    if lone != 0 {
+        return lone_entry(packet, from, lone - 1);
+    }
+    match_codeword(packet, from, lengths, codewords)
+}
+
+// A sole used entry takes no bits.
+fn lone_entry(packet: &[u8], from: Cursor, entry: u32) -> Field
+    ensures { λ r. ⌜ outcome r ≡ mapped (λ _. entry) (field loneBits (now (packet .entry)) (position from)) ⌝ }
+{
+    match from.field(packet, 0) {
+        Field::Refused(z) => Field::Refused(z),
+        Field::Value(_, next) => Field::Value(entry, next),
+    }
+}
+
+// Bits are taken one at a time until they are an entry's codeword. An entry whose codeword does not begin with the bits taken so far does not
+// begin with more of them either, so the entry search goes on where it stopped: it passes each entry once a codeword, not once a bit.
+fn match_codeword(packet: &[u8], from: Cursor, lengths: &[u8], codewords: &[u32]) -> Field
+    requires { ⌜ Codebook (now lengths) (now codewords) ⌝ }
+    ensures { λ r. ⌜ outcome r ≡ matching (now (lengths .entry)) 0 32 (now (packet .entry)) (position from) ⌝ }
+{
+    let mut word: u32 = 0;
+    let mut taken: usize = 0;
+    let mut entry: usize = 0;
+    'word: loop {
+        if taken == 32 {
+            break 'word cut(from);
+        }
+        if !has_bit(packet, from, taken) {
+            break 'word cut(from);
+        }
+        word = word * 2 + bit(packet, from, taken);
+        taken = taken + 1;
+        'entry: loop {
+            if entry == lengths.len() {
+                break 'word cut(from);
+            }
+            let length = wide(lengths[entry]);
+            if taken <= length {
+                if codewords[entry] >> (length - taken) == word {
+                    if taken == length {
+                        break 'word Field::Value(entry as u32, after(from, taken));
+                    }
+                    continue 'word;
+                }
+            }
+            entry = entry + 1;
+        }
+    }
+}
+
+// The cut: refusal 1 at the codeword's first bit.
+fn cut(from: Cursor) -> Field
+    ensures { λ r. ⌜ outcome r ≡ bad (refusal 1 (position from)) ⌝ }
+{
+    Field::Refused(Refusal {
+        number: 1,
+        place: from,
+    })
+}
+
+fn wide(x: u8) -> usize
+    ensures { λ r. ⌜ r ≡ x ⌝ }
+{
+    x as usize
+}
+
+// Whether the packet has the bit `taken` bits behind the cursor.
+fn has_bit(packet: &[u8], from: Cursor, taken: usize) -> bool
+    requires { ⌜ taken < 32 ⌝ }
+    ensures { λ r. ⌜ r ≡ ltb (position from + taken) (8 * length (now (packet .entry))) ⌝ }
+{
+    let byte = from.byte;
+    if packet.len() <= byte {
+        return false;
+    }
+    (wide(from.bit) + taken) / 8 < packet.len() - byte
+}
+
+// The bit `taken` bits behind the cursor.
+fn bit(packet: &[u8], from: Cursor, taken: usize) -> u32
+    requires { ⌜ (taken < 32) × (position from + taken < 8 * length (now packet)) ⌝ }
+    ensures { λ r. ⌜ r ≡ bitAt (now (packet .entry)) (position from + taken) ⌝ }
+{
+    let bit = wide(from.bit) + taken;
+    let byte = from.byte + bit / 8;
+    ((packet[byte] >> (bit % 8)) % 2) as u32
+}
+
+// The position `taken` bits behind the cursor.
+fn after(from: Cursor, taken: usize) -> Cursor
+    requires { ⌜ (taken < 33) × (from .byte < 9223372036854775808) ⌝ }
+    ensures { λ r. ⌜ position r ≡ position from + taken ⌝ }
+{
+    let bit = wide(from.bit) + taken;
+    Cursor {
+        byte: from.byte + bit / 8,
+        bit: (bit % 8) as u8,
+    }
+}

@@ -1,0 +1,240 @@
+// A floor of type 1 (004, "header decode"; 01, "Setup order"). Its row is put together from three buffers: partitions, classes, X list.
+use crate::CLASSES_PLACE;
+use crate::CLASSES_ROOM;
+use crate::FLOOR_WIDTH;
+use crate::PARTITIONS_ROOM;
+use bits::Cursor;
+use bits::Field;
+use bits::Refusal;
+use bits::Step;
+use floor_class::CLASS_WIDTH;
+use floor_x_list::X_LIST_ROOM;
+use reading::buffers;
+ghost use mathlib.Core.Path.{_≡_};
+ghost use mathlib.Core.List.{_++_};
+ghost use Prim.Native.Nat.{_+_, _*_, _<_, _≤_, max};
+ghost use lib.ListN.{length, take};
+ghost use lib.Seq.{sets};
+ghost use Rattle.reading.specs.Reader.{many, into, into1};
+ghost use Rattle.reading.specs.Table.{table, putRow};
+ghost use Rattle.bits.specs.Cursors.{position, outcome, Wrote};
+ghost use Rattle.floor_x_list.specs.Reading.{ends};
+ghost use Rattle.floor.specs.Layout.{floorRow, partitionsRoom, classesRoom, floorWidth};
+ghost use Rattle.floor.specs.Reading.{floorType, floor1, floor, floorFrom};
+ghost use Rattle.floor.specs.Pieces.{classesTo, valuesTo, rowOf, Partitions};
+
+// The type field: 0 is refusal 14, above 1 is 10.
+pub fn read_type(packet: &[u8], from: Cursor) -> Field
+    ensures { λ r. ⌜ outcome r ≡ floorType (now (packet .entry)) (position from) ⌝ }
+{
+    match from.field(packet, 16) {
+        Field::Refused(z) => Field::Refused(z),
+        Field::Value(number, next) => {
+            if number == 0 {
+                return Field::Refused(Refusal {
+                    number: 14,
+                    place: from,
+                });
+            }
+            if 1 < number {
+                return Field::Refused(Refusal {
+                    number: 10,
+                    place: from,
+                });
+            }
+            Field::Value(number, next)
+        }
+    }
+}
+
+fn larger(a: usize, b: usize) -> usize
+    ensures { λ r. ⌜ r ≡ max a b ⌝ }
+{
+    if a < b {
+        return b;
+    }
+    a
+}
+
+// One more than the greatest class that the first `count` partitions name; 0 where there is none.
+pub fn class_count(partitions: &[u16], count: usize) -> usize
+    ensures { λ r. ⌜ r ≡ classesTo (now (partitions .entry)) count ⌝ }
+{
+    let mut most: usize = 0;
+    let mut i: usize = 0;
+    while i < count {
+        most = larger(most, numbers::wide(buffers::get_u16(partitions, i)) + 1);
+        i = i + 1;
+    }
+    most
+}
+
+// The dimensions of the first `count` partitions' classes together.
+pub fn value_count(partitions: &[u16], count: usize, classes: &[u16]) -> usize
+    requires { ⌜ count ≤ 31 ⌝ }
+    ensures { λ r. ⌜ r ≡ valuesTo (now (classes .entry)) (now (partitions .entry)) count ⌝ }
+{
+    let mut sum: usize = 0;
+    let mut i: usize = 0;
+    while i < count {
+        let class = numbers::wide(buffers::get_u16(partitions, i));
+        sum = sum + numbers::wide(buffers::get_u16(classes, CLASS_WIDTH * class));
+        i = i + 1;
+    }
+    sum
+}
+
+// A floor's row, from place `at` on.
+pub fn write_row(
+    floors: &mut [u16],
+    at: usize,
+    head: &[u16],
+    partitions: &[u16],
+    classes: &[u16],
+    list: &[u16],
+)
+    requires { ⌜ (at ≤ 17728) × (length (now head) ≡ 5) × (length (now partitions) ≡ partitionsRoom) × (length (now classes) ≡ classesRoom) ⌝ }
+    ensures { λ _. ⌜ now (floors .exit) ≡ sets (now (floors .entry)) at ((now (head .entry) ++ now (partitions .entry)) ++ (now (classes .entry) ++ now (list .entry))) ⌝ }
+{
+    numbers::write_pair(floors, at, head, partitions);
+    numbers::write_pair(floors, at + CLASSES_PLACE, classes, list);
+}
+
+// The rest of a floor whose partitions and classes are read, and with it the row.
+pub fn read_after_classes(
+    packet: &[u8],
+    from: Cursor,
+    place: Cursor,
+    partitions: &[u16],
+    count: usize,
+    classes: &[u16],
+    named: usize,
+    floors: &mut [u16],
+    at: usize,
+) -> Step
+    requires { ⌜ (count ≤ 31) × (named ≤ 16) × (at ≤ 17728) × (length (now partitions) ≡ partitionsRoom) × (length (now classes) ≡ classesRoom) ⌝ }
+    ensures { λ r. ⌜ Wrote (into1 (putRow (rowOf count named (now (partitions .entry)) (now (classes .entry)))) (ends (position place) (valuesTo (now (classes .entry)) (now (partitions .entry)) count) (now (packet .entry)) (position from)) (table (now (floors .entry)) at)) r (table (now (floors .exit)) (at + floorWidth)) ⌝ }
+{
+    let values = value_count(partitions, count, classes);
+    let mut list = [0u16; X_LIST_ROOM];
+    let ends = floor_x_list::read_ends(packet, from, place, values, &mut list);
+    let step = ends.step;
+    match step {
+        Step::Refused(z) => Step::Refused(z),
+        Step::Next(next) => {
+            let head = [
+                numbers::short(count),
+                numbers::short(named),
+                numbers::narrow(ends.multiplier),
+                numbers::narrow(ends.rangebits),
+                numbers::short(2 + values),
+            ];
+            write_row(floors, at, &head, partitions, classes, &list);
+            Step::Next(next)
+        }
+    }
+}
+
+// The rest of a floor whose partitions are read.
+pub fn read_after_partitions(
+    packet: &[u8],
+    from: Cursor,
+    place: Cursor,
+    books: u32,
+    partitions: &[u16],
+    count: usize,
+    floors: &mut [u16],
+    at: usize,
+) -> Step
+    requires { ⌜ (books ≤ 256) × (at ≤ 17728) × Partitions count (now partitions) ⌝ }
+    ensures { λ r. ⌜ Wrote (into1 (putRow floorRow) (floorFrom books (position place) (take count (now (partitions .entry))) (now (packet .entry)) (position from)) (table (now (floors .entry)) at)) r (table (now (floors .exit)) (at + floorWidth)) ⌝ }
+{
+    let named = class_count(partitions, count);
+    let mut classes = [0u16; CLASSES_ROOM];
+    match floor_class::read_classes(packet, from, books, named, &mut classes) {
+        Step::Refused(z) => Step::Refused(z),
+        Step::Next(next) => read_after_classes(
+            packet,
+            next,
+            place,
+            partitions,
+            count,
+            &classes,
+            named,
+            floors,
+            at,
+        ),
+    }
+}
+
+// A floor behind its type, which stands at `place`.
+pub fn read_floor1(
+    packet: &[u8],
+    from: Cursor,
+    place: Cursor,
+    books: u32,
+    floors: &mut [u16],
+    at: usize,
+) -> Step
+    requires { ⌜ (books ≤ 256) × (at ≤ 17728) ⌝ }
+    ensures { λ r. ⌜ Wrote (into1 (putRow floorRow) (floor1 books (position place) (now (packet .entry)) (position from)) (table (now (floors .entry)) at)) r (table (now (floors .exit)) (at + floorWidth)) ⌝ }
+{
+    match from.field(packet, 5) {
+        Field::Refused(z) => Step::Refused(z),
+        Field::Value(field, next) => {
+            let count = numbers::long(field);
+            let mut partitions = [0u16; PARTITIONS_ROOM];
+            match numbers::read_numbers(packet, next, 4, count, &mut partitions, 0) {
+                Step::Refused(z) => Step::Refused(z),
+                Step::Next(after) => read_after_partitions(
+                    packet,
+                    after,
+                    place,
+                    books,
+                    &partitions,
+                    count,
+                    floors,
+                    at,
+                ),
+            }
+        }
+    }
+}
+
+// A floor, its row from place `at` on. `books` is how many codebooks are set up.
+pub fn read_floor(packet: &[u8], from: Cursor, books: u32, floors: &mut [u16], at: usize) -> Step
+    requires { ⌜ (books ≤ 256) × (at ≤ 17728) ⌝ }
+    ensures { λ r. ⌜ Wrote (into1 (putRow floorRow) (floor books (now (packet .entry)) (position from)) (table (now (floors .entry)) at)) r (table (now (floors .exit)) (at + floorWidth)) ⌝ }
+{
+    match read_type(packet, from) {
+        Field::Refused(z) => Step::Refused(z),
+        Field::Value(_, next) => read_floor1(packet, next, from, books, floors, at),
+    }
+}
+
+// `count` floors, their rows one after the other.
+pub fn read_floors(
+    packet: &[u8],
+    from: Cursor,
+    count: usize,
+    books: u32,
+    floors: &mut [u16],
+) -> Step
+    requires { ⌜ (count ≤ 64) × (books ≤ 256) ⌝ }
+    ensures { λ r. ⌜ Wrote (into (putRow floorRow) (many (floor books) count (now (packet .entry)) (position from)) (table (now (floors .entry)) 0)) r (table (now (floors .exit)) (floorWidth * count)) ⌝ }
+{
+    let mut next = from;
+    let mut i: usize = 0;
+    while i < count {
+        match read_floor(packet, next, books, floors, FLOOR_WIDTH * i) {
+            Step::Refused(z) => {
+                return Step::Refused(z);
+            }
+            Step::Next(after) => {
+                next = after;
+            }
+        }
+        i = i + 1;
+    }
+    Step::Next(next)
+}

@@ -1,0 +1,112 @@
+-- `mode::read_mode` meets its contract, by ReadLaws. Assumes nothing.
+use Rattle.mode.proofs.ReadLaws.{mode-laws, mode-whole}
+use borrow.Author.Needs.{needs}
+use Rattle.mode.proofs.read_mode.Statement.{statement}
+use Rattle.mode.proofs.read_mode.Tie as tie
+
+bit-requires : tie.Need-bit-requires
+bit-requires c κs = search needs
+
+enum-known-z : tie.Need-enum-known-z
+enum-known-z c = search needs
+
+enum-known-blockflag : tie.Need-enum-known-blockflag
+enum-known-blockflag c = search needs
+
+field-requires : tie.Need-field-requires
+field-requires c κs = search needs
+
+enum-known-z-2 : tie.Need-enum-known-z-2
+enum-known-z-2 c = search needs
+
+enum-known-window : tie.Need-enum-known-window
+enum-known-window c = search needs
+
+returns : tie.Need-returns
+returns c = search mode-laws
+
+field-requires-2 : tie.Need-field-requires-2
+field-requires-2 c κs = search needs
+
+enum-known-z-3 : tie.Need-enum-known-z-3
+enum-known-z-3 c = search needs
+
+enum-known-transform : tie.Need-enum-known-transform
+enum-known-transform c = search needs
+
+returns-2 : tie.Need-returns-2
+returns-2 c = search mode-laws
+
+field-requires-3 : tie.Need-field-requires-3
+field-requires-3 c κs = search needs
+
+enum-known-z-4 : tie.Need-enum-known-z-4
+enum-known-z-4 c = search needs
+
+enum-known-mapping : tie.Need-enum-known-mapping
+enum-known-mapping c = search needs
+
+returns-3 : tie.Need-returns-3
+returns-3 c = search mode-laws
+
+cast-t33 : tie.Need-cast-t33
+cast-t33 c = search mode-laws
+
+cast-t34 : tie.Need-cast-t34
+cast-t34 c = search mode-laws
+
+slice-aggregate-write-u8 : tie.Need-slice-aggregate-write-u8
+slice-aggregate-write-u8 c = search needs
+
+write-u8-requires : tie.Need-write-u8-requires
+write-u8-requires c κs = search needs
+
+returns-4 : tie.Need-returns-4
+returns-4 c = search mode-laws
+
+returns-5 : tie.Need-returns-5
+returns-5 c = search mode-laws
+
+returns-6 : tie.Need-returns-6
+returns-6 c = search mode-laws
+
+returns-7 : tie.Need-returns-7
+returns-7 c = search mode-laws
+
+same-length : tie.Need-same-length
+same-length c = search needs
+
+returns-8 : tie.Need-returns-8
+returns-8 c =
+    mode-whole _ _ _ _ _ (c .before .before .before .before .before .before .before .before .before .before .before .before .before .before .before .before .before .before .before .before .before .before .before .bit .ensures) (c .before .before .before .before .before .before .before .before .before .before .before .before .before .before .before .before .before .before .before .before .before .blockflag .given .1) (c .before .before .before .before .before .before .before .before .before .before .before .before .before .before .before .before .before .before .before .field .ensures) (c .before .before .before .before .before .before .before .before .before .before .before .before .before .before .before .before .before .window .given .1) (c .before .before .before .before .before .before .before .before .before .before .before .before .before .before .before .if1 .left) (c .before .before .before .before .before .before .before .before .before .before .before .before .before .before .field2 .ensures) (c .before .before .before .before .before .before .before .before .before .before .before .before .transform .given .1) (c .before .before .before .before .before .before .before .before .before .before .if2 .left)
+    (c .before .before .before .before .before .before .before .before .before .field3 .ensures) (c .before .before .before .before .before .before .before .mapping .given .1) (c .before .before .before .before .before .if3 .left) (c .before .before .write-u8 .ensures)
+
+pub read-mode-spec : {M : Type 1} → statement M
+read-mode-spec =
+    tie.close
+    (tie.spec
+    bit-requires
+    enum-known-z
+    enum-known-blockflag
+    field-requires
+    enum-known-z-2
+    enum-known-window
+    returns
+    field-requires-2
+    enum-known-z-3
+    enum-known-transform
+    returns-2
+    field-requires-3
+    enum-known-z-4
+    enum-known-mapping
+    returns-3
+    cast-t33
+    cast-t34
+    slice-aggregate-write-u8
+    write-u8-requires
+    returns-4
+    returns-5
+    returns-6
+    returns-7
+    same-length
+    returns-8)

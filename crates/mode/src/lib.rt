@@ -1,0 +1,93 @@
+// Modes in a setup packet: what one is, its rules, its row in the tables, reading it, recognising it again (003, section 4.2.4, "Modes").
+// Each field is judged as soon as it is read; a refusal says nothing of the buffer, which the outermost function clears.
+pub mod recognise; // whether a table that is handed in holds modes
+pub mod row; // what is read of a row of the table
+
+use bits::Cursor;
+use bits::Field;
+use bits::Refusal;
+use bits::Step;
+ghost use Prim.Native.Nat.{_+_, _*_, _≤_};
+ghost use Rattle.reading.specs.Reader.{many, into, into1};
+ghost use Rattle.reading.specs.Table.{table, putRow};
+ghost use Rattle.bits.specs.Cursors.{position, Wrote};
+ghost use Rattle.mode.specs.Reading.{mode};
+ghost use Rattle.mode.specs.Layout.{modeWidth, modeRow};
+
+// The width of a mode's row in the table (specs/Layout.antt).
+pub const MODE_WIDTH: usize = 2;
+
+// One mode, its row written at `at`. `mappings` is how many mappings are set up.
+pub fn read_mode(packet: &[u8], from: Cursor, mappings: u32, modes: &mut [u8], at: usize) -> Step
+    requires { ⌜ at ≤ 128 ⌝ }
+    ensures { λ r. ⌜ Wrote (into1 (putRow modeRow) (mode mappings (now (packet .entry)) (position from)) (table (now (modes .entry)) at))
+        r (table (now (modes .exit)) (at + modeWidth)) ⌝ }
+{
+    match from.bit(packet) {
+        Field::Refused(z) => Step::Refused(z),
+        Field::Value(blockflag, at_window) => match at_window.field(packet, 16) {
+            Field::Refused(z) => Step::Refused(z),
+            Field::Value(window, at_transform) => {
+                if window != 0 {
+                    return Step::Refused(Refusal {
+                        number: 9,
+                        place: at_window,
+                    });
+                }
+                match at_transform.field(packet, 16) {
+                    Field::Refused(z) => Step::Refused(z),
+                    Field::Value(transform, at_mapping) => {
+                        if transform != 0 {
+                            return Step::Refused(Refusal {
+                                number: 9,
+                                place: at_transform,
+                            });
+                        }
+                        match at_mapping.field(packet, 8) {
+                            Field::Refused(z) => Step::Refused(z),
+                            Field::Value(mapping, next) => {
+                                if mapping >= mappings {
+                                    return Step::Refused(Refusal {
+                                        number: 11,
+                                        place: at_mapping,
+                                    });
+                                }
+                                let row: [u8; 2] = [blockflag as u8, mapping as u8];
+                                reading::buffers::write_u8(modes, at, &row);
+                                Step::Next(next)
+                            }
+                        }
+                    }
+                }
+            }
+        },
+    }
+}
+
+// `count` modes, their rows from the front of the buffer.
+pub fn read_modes(
+    packet: &[u8],
+    from: Cursor,
+    count: usize,
+    mappings: u32,
+    modes: &mut [u8],
+) -> Step
+    requires { ⌜ count ≤ 64 ⌝ }
+    ensures { λ r. ⌜ Wrote (into (putRow modeRow) (many (mode mappings) count (now (packet .entry)) (position from)) (table (now (modes .entry)) 0))
+        r (table (now (modes .exit)) (modeWidth * count)) ⌝ }
+{
+    let mut k = from;
+    let mut i: usize = 0;
+    while i < count {
+        match read_mode(packet, k, mappings, modes, MODE_WIDTH * i) {
+            Step::Refused(z) => {
+                return Step::Refused(z);
+            }
+            Step::Next(next) => {
+                k = next;
+            }
+        }
+        i = i + 1;
+    }
+    Step::Next(k)
+}

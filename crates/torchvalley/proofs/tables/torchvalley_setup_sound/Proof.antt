@@ -1,0 +1,17 @@
+-- `torchvalley::tables::torchvalley_setup_sound` meets its contract, by SetupLaws. Assumes nothing.
+use Rattle.torchvalley.proofs.SetupLaws.{setup-laws}
+use borrow.Author.Needs.{needs}
+use Rattle.torchvalley.proofs.tables.torchvalley_setup_sound.Statement.{statement}
+use Rattle.torchvalley.proofs.tables.torchvalley_setup_sound.Tie as tie
+
+standard-requires : tie.Need-standard-requires
+standard-requires c κs = search needs
+
+are-sound-requires : tie.Need-are-sound-requires
+are-sound-requires c κs = search needs
+
+returns : tie.Need-returns
+returns c = search setup-laws
+
+pub torchvalley-setup-sound-spec : {M : Type 1} → statement M
+torchvalley-setup-sound-spec = tie.close (tie.spec standard-requires are-sound-requires returns)
