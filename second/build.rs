@@ -10,6 +10,6 @@ fn main() {
         let beside = concat!(env!("CARGO_MANIFEST_DIR"), "/../target/staticlib");
         let folder = env::var("TORCHVALLEY_LIBRARY").unwrap_or(beside.into());
         println!("cargo:rustc-link-search=native={folder}");
-        println!("cargo:rerun-if-changed={folder}/libreader.a");
+        println!("cargo:rerun-if-changed={folder}/libtorchvalley.a");
     }
 }

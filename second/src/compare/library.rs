@@ -38,7 +38,7 @@ pub struct CodewordAnswer {
     pub bit: u8,
 }
 
-#[link(name = "reader", kind = "static")]
+#[link(name = "torchvalley", kind = "static")]
 extern "C" {
     fn torchvalley_identification(packet: *const u8, length: usize) -> IdentityAnswer;
     fn torchvalley_identity_sound(identity: Identity) -> bool;
