@@ -10,6 +10,8 @@ use bits::Step;
 use floor_class::CLASS_WIDTH;
 use floor_x_list::X_LIST_ROOM;
 use reading::buffers;
+use reading::widths::wide_u16;
+use reading::widths::wide_u32;
 ghost use mathlib.Core.Path.{_≡_};
 ghost use mathlib.Core.List.{_++_};
 ghost use Prim.Native.Nat.{_+_, _*_, _<_, _≤_, max};
@@ -63,7 +65,7 @@ pub fn class_count(partitions: &[u16], count: usize) -> usize
     let mut most: usize = 0;
     let mut i: usize = 0;
     while i < count {
-        most = larger(most, numbers::wide(buffers::get_u16(partitions, i)) + 1);
+        most = larger(most, wide_u16(buffers::get_u16(partitions, i)) + 1);
         i = i + 1;
     }
     most
@@ -77,8 +79,8 @@ pub fn value_count(partitions: &[u16], count: usize, classes: &[u16]) -> usize
     let mut sum: usize = 0;
     let mut i: usize = 0;
     while i < count {
-        let class = numbers::wide(buffers::get_u16(partitions, i));
-        sum = sum + numbers::wide(buffers::get_u16(classes, CLASS_WIDTH * class));
+        let class = wide_u16(buffers::get_u16(partitions, i));
+        sum = sum + wide_u16(buffers::get_u16(classes, CLASS_WIDTH * class));
         i = i + 1;
     }
     sum
@@ -182,7 +184,7 @@ pub fn read_floor1(
     match from.field(packet, 5) {
         Field::Refused(z) => Step::Refused(z),
         Field::Value(field, next) => {
-            let count = numbers::long(field);
+            let count = wide_u32(field);
             let mut partitions = [0u16; PARTITIONS_ROOM];
             match numbers::read_numbers(packet, next, 4, count, &mut partitions, 0) {
                 Step::Refused(z) => Step::Refused(z),

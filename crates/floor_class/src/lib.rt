@@ -4,6 +4,7 @@ use bits::Field;
 use bits::Refusal;
 use bits::Step;
 use reading::buffers;
+use reading::widths::wide_u16;
 ghost use mathlib.Core.Path.{_≡_};
 ghost use Prim.Native.Nat.{_+_, _*_, _^_, _<_, _≤_};
 ghost use Rattle.reading.specs.Reader.{many, into, into1};
@@ -106,7 +107,7 @@ pub fn read_class_row(
     ensures { λ r. ⌜ Wrote (into1 (putRow (classRowOf dimensions subclasses master)) (many (subclassBook books) (2 ^ subclasses) (now (packet .entry)) (position from)) (table (now (classes .entry)) at)) r (table (now (classes .exit)) (at + classWidth)) ⌝ }
 {
     let mut list = [0u16; 8];
-    let count = numbers::wide(numbers::power(subclasses));
+    let count = wide_u16(numbers::power(subclasses));
     match read_subclass_books(packet, from, books, count, &mut list) {
         Step::Refused(z) => Step::Refused(z),
         Step::Next(next) => {

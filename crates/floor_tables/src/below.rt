@@ -1,5 +1,6 @@
 // Numbers of a table of floors that lie below a limit.
 use reading::buffers;
+use reading::widths::wide_u16;
 ghost use mathlib.Core.Path.{_≡_};
 ghost use mathlib.Core.Bool.{true};
 ghost use mathlib.Core.Logic.{_↔_};
@@ -11,7 +12,7 @@ ghost use Rattle.floor_tables.specs.ClassRules.{Below};
 pub fn number(floors: &[u16], at: usize) -> usize
     ensures { λ r. ⌜ (r ≡ getD (now (floors .entry)) at 0) × (r < 65536) ⌝ }
 {
-    numbers::wide(buffers::get_u16(floors, at))
+    wide_u16(buffers::get_u16(floors, at))
 }
 
 // Whether every number from place `from` up to `to` is below the limit. Past the end there are zeros.

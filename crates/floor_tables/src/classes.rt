@@ -3,6 +3,7 @@ use crate::below::are_below;
 use crate::below::number;
 use floor_class::CLASS_WIDTH;
 use reading::buffers;
+use reading::widths::wide_u16;
 ghost use mathlib.Core.Path.{_≡_};
 ghost use mathlib.Core.Bool.{true};
 ghost use mathlib.Core.Logic.{_↔_};
@@ -59,14 +60,14 @@ fn is_class(floors: &[u16], at: usize, books: usize) -> bool
     if 3 < subclasses {
         return false;
     }
-    if !is_master(books, numbers::wide(subclasses), number(floors, at + 2)) {
+    if !is_master(books, wide_u16(subclasses), number(floors, at + 2)) {
         return false;
     }
     are_books(
         floors,
         at + 3,
         books,
-        numbers::wide(numbers::power(subclasses as u32)),
+        wide_u16(numbers::power(subclasses as u32)),
     )
 }
 

@@ -11,6 +11,8 @@ use floor::X_LIST_PLACE;
 use floor::X_VALUES_PLACE;
 use floor::floor;
 use reading::buffers;
+use reading::widths::wide_u16;
+use reading::widths::wide_u32;
 ghost use mathlib.Core.Path.{_≡_};
 ghost use mathlib.Core.Bool.{true};
 ghost use mathlib.Core.Logic.{_↔_};
@@ -111,7 +113,7 @@ fn is_list(floors: &[u16], at: usize) -> bool
     requires { ⌜ (at ≤ 17451) × (at + floorWidth ≤ length (now floors)) × (getD (now floors) (at + 3) 0 ≤ 15) × (getD (now floors) (at + 4) 0 ≤ 65) ⌝ }
     ensures { λ r. ⌜ (r ≡ true) ↔ ListRules (now (floors .entry)) at ⌝ }
 {
-    let range = numbers::wide(numbers::power(buffers::get_u16(floors, at + 3) as u32));
+    let range = wide_u16(numbers::power(buffers::get_u16(floors, at + 3) as u32));
     let end = at + X_LIST_PLACE + number(floors, at + 4);
     if 0 < number(floors, at + X_LIST_PLACE) {
         return false;
@@ -168,7 +170,7 @@ pub fn are_floors(floors: &[u16], count: usize, books: u32) -> bool
     if floors.len() < 17728 {
         return false;
     }
-    if !are_rows(floors, count, numbers::long(books)) {
+    if !are_rows(floors, count, wide_u32(books)) {
         return false;
     }
     reading::zeros::zeros_u16(floors, FLOOR_WIDTH * count)

@@ -5,6 +5,7 @@ use bits::Field;
 use bits::Refusal;
 use bits::Step;
 use reading::buffers;
+use reading::widths::wide_u32;
 ghost use mathlib.Core.Path.{_≡_};
 ghost use Prim.Native.Nat.{_+_, _<_, _≤_};
 ghost use lib.ListN.{replicate};
@@ -61,7 +62,7 @@ pub fn read_x_list(
     ensures { λ r. ⌜ Wrote (mapped endsInBuffer (endsFrom (position place) count multiplier rangebits (now (packet .entry)) (position from))) (r .step) (endsRead (r .multiplier) (r .rangebits) (now (list .exit))) ⌝ }
 {
     buffers::put_u16(list, 1, numbers::power(rangebits));
-    match read_x_values(packet, from, place, numbers::long(rangebits), count, list) {
+    match read_x_values(packet, from, place, wide_u32(rangebits), count, list) {
         Step::Refused(z) => Ends {
             multiplier,
             rangebits,

@@ -29,18 +29,6 @@ pub fn short(v: usize) -> u16
     v as u16
 }
 
-pub fn wide(v: u16) -> usize
-    ensures { λ r. ⌜ r ≡ v ⌝ }
-{
-    v as usize
-}
-
-pub fn long(v: u32) -> usize
-    ensures { λ r. ⌜ r ≡ v ⌝ }
-{
-    v as usize
-}
-
 // A number of `width` bits, into place `at`.
 pub fn read_number(
     packet: &[u8],

@@ -1,5 +1,6 @@
 // Rule 13, judged against the table of books (01, "When the packet is sent back"). How many books are set up has no part in it.
 use crate::head::Head;
+use reading::widths::u32_from_u16;
 ghost use mathlib.Core.Path.{_≡_};
 ghost use Prim.Native.Nat.{_-_, _≤_};
 ghost use lib.ListN.{take, drop};
@@ -8,12 +9,6 @@ ghost use Rattle.residue.specs.Reading.{placeFits};
 ghost use Rattle.residue.specs.FromTable.{booksOf};
 ghost use Rattle.residue.specs.Heads.{headOf};
 ghost use Rattle.residue.specs.Plans.{Grid, headFits};
-
-fn wide(x: u16) -> u32
-    ensures { λ r. ⌜ r ≡ x ⌝ }
-{
-    x as u32
-}
 
 // Begin is not above end, and the class words of the class book are enough.
 pub fn head_fits(head: Head, books: &[u32]) -> bool
@@ -54,7 +49,7 @@ pub fn places_fit(places: &[u16], from: usize, to: usize, size: u32, books: &[u3
         if places.len() <= i {
             return true;
         }
-        let place = wide(places[i]);
+        let place = u32_from_u16(places[i]);
         if !place_fits(place, size, books) {
             return false;
         }

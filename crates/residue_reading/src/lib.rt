@@ -5,6 +5,7 @@ pub mod plan; // the plan: which book each class has at each pass
 use bits::Cursor;
 use bits::Refusal;
 use bits::Step;
+use reading::widths::wide_u32;
 use residue::HEAD_WIDTH;
 use residue::PLAN_WIDTH;
 use residue::head::Head;
@@ -21,12 +22,6 @@ ghost use Rattle.residue.specs.FromTable.{booksOf};
 ghost use Rattle.residue.specs.Heads.{headOf, headNumbers};
 ghost use Rattle.residue.specs.Plans.{tablesAt};
 ghost use Rattle.residue.specs.Valid.{AcceptedValid};
-
-fn wide(x: u32) -> usize
-    ensures { λ r. ⌜ r ≡ x ⌝ }
-{
-    x as usize
-}
 
 fn write_head(residues: &mut [u32], at: usize, head: Head)
     ensures { λ _. ⌜ now (residues .exit) ≡ sets (now (residues .entry)) at (headNumbers (headOf head)) ⌝ }
@@ -58,7 +53,7 @@ fn read_plan(
     requires { ⌜ (index ≤ 63) × (head .classifications ≤ 64) × (length cascades ≡ 64) ⌝ }
     ensures { λ r. ⌜ Wrote (into1 putResidue (residueFrom (booksOf count (now (books .entry))) (position place) (headOf head) (take (head .classifications) cascades) (now (packet .entry)) (position from)) (tablesAt (now (residues .entry)) (now (plans .entry)) index)) r (tablesAt (now (residues .exit)) (now (plans .exit)) (index + 1)) ⌝ }
 {
-    let classes = wide(head.classifications);
+    let classes = wide_u32(head.classifications);
     let empty = [0u16; 8];
     let mut plan = [empty; 64];
     let mut at = from;
@@ -108,7 +103,7 @@ pub fn read_residue(
             let cascades = crate::cascade::read_cascades(
                 packet,
                 at_cascades,
-                wide(head.classifications),
+                wide_u32(head.classifications),
             );
             let numbers = cascades.numbers;
             let step = cascades.step;

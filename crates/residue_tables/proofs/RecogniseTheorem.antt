@@ -11,6 +11,7 @@ use lib.ListN.{length, take, drop, length-drop, take-append-drop}
 use lib.Seq.{take-at, drop-at, take-add, length-take-le}
 use Rattle.reading.specs.Pad.{pad}
 use Rattle.reading.specs.Lists.{all, rows}
+use Rattle.reading.proofs.Least.{and-split}
 use Rattle.reading.proofs.Pads.{length-pad}
 use Rattle.residue.specs.Content.{Residue}
 use Rattle.residue.specs.Reading.{Books, Head, placeFits, residueFits}
@@ -22,10 +23,6 @@ use Rattle.residue_tables.specs.Recognised.{Holds, ResiduesRecognised, O
 use Rattle.residue.proofs.Laws.{length-headRow, length-planTable, rows8-long, planTable-is, decode-rows}
 use Rattle.residue.proofs.RowsLaws.{pad-cat}
 
-and-true : (a b : Bool) → a && b ≡ true → (a ≡ true) × (b ≡ true)
-and-true true b e = (refl, e)
-and-true false b e = let z : _≡_ {A = ℕ} 0 1 = cc in absurd (omega arith)
-
 both : {a b : Bool} → a ≡ true → b ≡ true → a && b ≡ true
 both p q = rw (p, q)
 
@@ -36,7 +33,7 @@ zeros-pad [] zero e z = refl
 zeros-pad [] (suc n) e z = absurd (omega arith)
 zeros-pad (x ∷ l) zero e z = absurd (omega arith)
 zeros-pad (x ∷ l) (suc n) e z =
-    let a = and-true (eqb x 0) (all (λ b. eqb b 0) l) z in
+    let a = and-split (eqb x 0) (all (λ b. eqb b 0) l) z in
     let b : x ≡ 0 = eqb-true x 0 (a .0) in
     let c : pad n [] ≡ l = zeros-pad l n (omega arith) (a .1) in
     λ j. sym b j ∷ c j
@@ -88,18 +85,18 @@ unfolding residueTest headTest decodeResidue residueFits planTable
 tested books h p room room-p e =
     let hd : Head = headAt h 0 in
     let c : ℕ = hd .classifications in
-    let s = and-true (headTest books hd) (placesTest books hd p) e in
-    let a₁ = and-true (leb (hd .type) 2) _ (s .0) in
-    let a₂ = and-true (ltb (hd .begin) (2 ^ 24)) _ (a₁ .1) in
-    let a₃ = and-true (ltb (hd .end) (2 ^ 24)) _ (a₂ .1) in
-    let a₄ = and-true (leb 1 (hd .size)) _ (a₃ .1) in
-    let a₅ = and-true (leb (hd .size) (2 ^ 24)) _ (a₄ .1) in
-    let a₆ = and-true (leb 1 c) _ (a₅ .1) in
-    let a₇ = and-true (leb c 64) _ (a₆ .1) in
-    let a₈ = and-true (ltb (hd .classbook) (books .count)) (headFits books hd) (a₇ .1) in
-    let b₁ = and-true (all (λ b. leb b (books .count)) (take (8 * c) p)) _ (s .1) in
-    let b₂ = and-true (all (placeFits books (hd .size)) (take (8 * c) p)) (all (λ b. eqb b 0) (take (512 - 8 * c) (drop (8 * c) p))) (b₁ .1) in
-    let f = and-true (leb (hd .begin) (hd .end)) _ (a₈ .1) in
+    let s = and-split (headTest books hd) (placesTest books hd p) e in
+    let a₁ = and-split (leb (hd .type) 2) _ (s .0) in
+    let a₂ = and-split (ltb (hd .begin) (2 ^ 24)) _ (a₁ .1) in
+    let a₃ = and-split (ltb (hd .end) (2 ^ 24)) _ (a₂ .1) in
+    let a₄ = and-split (leb 1 (hd .size)) _ (a₃ .1) in
+    let a₅ = and-split (leb (hd .size) (2 ^ 24)) _ (a₄ .1) in
+    let a₆ = and-split (leb 1 c) _ (a₅ .1) in
+    let a₇ = and-split (leb c 64) _ (a₆ .1) in
+    let a₈ = and-split (ltb (hd .classbook) (books .count)) (headFits books hd) (a₇ .1) in
+    let b₁ = and-split (all (λ b. leb b (books .count)) (take (8 * c) p)) _ (s .1) in
+    let b₂ = and-split (all (placeFits books (hd .size)) (take (8 * c) p)) (all (λ b. eqb b 0) (take (512 - 8 * c) (drop (8 * c) p))) (b₁ .1) in
+    let f = and-split (leb (hd .begin) (hd .end)) _ (a₈ .1) in
     let few = leb-true c 64 (a₇ .0) in
     let r : rows (λ row. row) (chunks c p) ≡ take (8 * c) p = chunks-rows c p (omega arith) in
     let long : length (take (8 * c) p) ≡ 8 * c = length-take-le (8 * c) p (omega arith) in
@@ -133,8 +130,8 @@ tested books h p room room-p e =
 residue-passes : (books : Books) (r : Residue) → ValidResidue books r → (h p : List ℕ) → residueTest books (headRow r ++ h) (planTable r ++ p) ≡ true
 unfolding residueTest headTest headRow residueFits
 residue-passes books r v h p =
-    let f = and-true (leb (r .begin) (r .end)) _ (v .fits) in
-    let g = and-true (leb (r .classifications ^ books .dimensions (r .classbook)) (books .entries (r .classbook))) _ (f .1) in
+    let f = and-split (leb (r .begin) (r .end)) _ (v .fits) in
+    let g = and-split (leb (r .classifications ^ books .dimensions (r .classbook)) (books .entries (r .classbook))) _ (f .1) in
     let z : List ℕ = pad (512 - 8 * r .classifications) [] in
     let whole : planTable r ++ p ≡ rows (λ row. row) (r .plan) ++ (z ++ p) = ap (λ (l : List ℕ). l ++ p) (planTable-is books r v) ∙ append-assoc (rows (λ row. row) (r .plan)) z p in
     let long : length (rows (λ row. row) (r .plan)) ≡ 8 * r .classifications = rows8-long (r .plan) (v .passes) ∙ ap (λ (n : ℕ). 8 * n) (v .plan) in
@@ -152,10 +149,10 @@ residue-passes books r v h p =
 content : (books : Books) (n : ℕ) (h p : List ℕ) → 6 * n ≤ length h → 512 * n ≤ length p → residuesTest books n h p ≡ true → (rs : List Residue) × Holds books n h p rs
 unfolding residuesTest rows AllValid
 content books zero h p room room-p e =
-    let a = and-true (all (λ b. eqb b 0) h) (all (λ b. eqb b 0) p) e in
+    let a = and-split (all (λ b. eqb b 0) h) (all (λ b. eqb b 0) p) e in
     ([], record { count = refl; valid = tt; head-rows = sym (zeros-pad h (length h) refl (a .0)); plan-rows = sym (zeros-pad p (length p) refl (a .1)) })
 content books (suc n) h p room room-p e =
-    let a = and-true (residueTest books h p) (residuesTest books n (drop 6 h) (drop 512 p)) e in
+    let a = and-split (residueTest books h p) (residuesTest books n (drop 6 h) (drop 512 p)) e in
     let d = tested books h p (omega arith) (omega arith) (a .0) in
     let r : Residue = decodeResidue h p in
     let i = content books n (drop 6 h) (drop 512 p) (simp length-drop (omega arith)) (simp length-drop (omega arith)) (a .1) in

@@ -7,8 +7,8 @@ use Rattle.floor_class.proofs.read_class_row.Tie as tie
 power-requires : tie.Need-power-requires
 power-requires c κs = search needs
 
-wide-requires : tie.Need-wide-requires
-wide-requires c κs = search needs
+wide-u16-requires : tie.Need-wide-u16-requires
+wide-u16-requires c κs = search needs
 
 slice-aggregate-read-subclass-books : tie.Need-slice-aggregate-read-subclass-books
 slice-aggregate-read-subclass-books c = search needs
@@ -54,7 +54,7 @@ read-class-row-spec =
     tie.close
     (tie.spec
     power-requires
-    wide-requires
+    wide-u16-requires
     slice-aggregate-read-subclass-books
     read-subclass-books-requires
     enum-known-z

@@ -11,8 +11,8 @@ power-requires c κs = search needs
 put-u16-requires : tie.Need-put-u16-requires
 put-u16-requires c κs = search needs
 
-long-requires : tie.Need-long-requires
-long-requires c κs = search needs
+wide-u32-requires : tie.Need-wide-u32-requires
+wide-u32-requires c κs = search needs
 
 read-x-values-requires : tie.Need-read-x-values-requires
 read-x-values-requires c κs = search needs
@@ -24,10 +24,10 @@ enum-known-next : tie.Need-enum-known-next
 enum-known-next c = search needs
 
 add-are-distinct : tie.Need-add-are-distinct
-add-are-distinct c = omega (arith, list-few _ _ 0 _ _ _ _ (c .before .before .before .before .before .before .before .before .before .before .before .before .before .before .before .before .pre .1) (c .before .before .before .before .before .before .before .before .before .before .before .before .power .ensures) _ (c .before .before .before .before .before .before .before .before .before .before .before .put-u16 .ensures) (c .before .before .before .before .before .before .before .before .long .ensures) (c .before .before .before .before .before .before .read-x-values .ensures) (c .before .before .next .given .1))
+add-are-distinct c = omega (arith, list-few _ _ 0 _ _ _ _ (c .before .before .before .before .before .before .before .before .before .before .before .before .before .before .before .before .pre .1) (c .before .before .before .before .before .before .before .before .before .before .before .before .power .ensures) _ (c .before .before .before .before .before .before .before .before .before .before .before .put-u16 .ensures) (c .before .before .before .before .before .before .before .before .wide-u32 .ensures) (c .before .before .before .before .before .before .read-x-values .ensures) (c .before .before .next .given .1))
 
 are-distinct-requires : tie.Need-are-distinct-requires
-are-distinct-requires c κs = list-room _ _ 0 _ _ _ _ (c .before .before .before .before .before .before .before .before .before .before .before .before .before .before .before .before .pre .1) (c .before .before .before .before .before .before .before .before .before .before .before .before .power .ensures) _ (c .before .before .before .before .before .before .before .before .before .before .before .put-u16 .ensures) (c .before .before .before .before .before .before .before .before .long .ensures) (c .before .before .before .before .before .before .read-x-values .ensures) (c .before .before .next .given .1)
+are-distinct-requires c κs = list-room _ _ 0 _ _ _ _ (c .before .before .before .before .before .before .before .before .before .before .before .before .before .before .before .before .pre .1) (c .before .before .before .before .before .before .before .before .before .before .before .before .power .ensures) _ (c .before .before .before .before .before .before .before .before .before .before .before .put-u16 .ensures) (c .before .before .before .before .before .before .before .before .wide-u32 .ensures) (c .before .before .before .before .before .before .read-x-values .ensures) (c .before .before .next .given .1)
 
 same-length : tie.Need-same-length
 same-length c = search needs
@@ -53,7 +53,7 @@ read-x-list-spec =
     (tie.spec
     power-requires
     put-u16-requires
-    long-requires
+    wide-u32-requires
     read-x-values-requires
     enum-known-z
     enum-known-next

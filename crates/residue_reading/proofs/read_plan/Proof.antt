@@ -17,8 +17,8 @@ abbrev μ-loop : tie.MeasureT-loop
 μ-loop packet count head place books residues plans index cascades classes plan₀ at₀ i₀ plan at i =
     classes - i
 
-wide-requires : tie.Need-wide-requires Inv-loop μ-loop
-wide-requires c κs = search needs
+wide-u32-requires : tie.Need-wide-u32-requires Inv-loop μ-loop
+wide-u32-requires c κs = search needs
 
 loop-holds : tie.Need-loop-holds Inv-loop μ-loop
 loop-holds c = planning-start _ _ _ _ _
@@ -36,7 +36,7 @@ enum-known-step : tie.Need-enum-known-step Inv-loop μ-loop
 enum-known-step c = search needs
 
 returns : tie.Need-returns Inv-loop μ-loop
-returns c = planning-refused _ _ _ _ _ (c .before .before .before .before .before .before .before .before .before .before .before .pre .2) (c .before .before .before .before .before .before .before .before .before .before .before .pre .1) (c .before .before .before .before .before .loop .inv) (omega (arith, c .before .before .before .before .before .before .wide .ensures)) (c .before .before .before .read-row .ensures) (c .before .before .before .before .before .before .before .before .before .before .before .args .books .now) (position (c .before .before .before .before .before .before .before .before .before .before .before .args .place)) (headOf (c .before .before .before .before .before .before .before .before .before .before .before .args .head)) (tablesAt (c .before .before .before .before .before .before .before .before .before .before .before .args .residues .now) (c .before .before .before .before .before .before .before .before .before .before .before .args .plans .now) (c .before .before .before .before .before .before .before .before .before .before .before .args .index)) (search needs) _
+returns c = planning-refused _ _ _ _ _ (c .before .before .before .before .before .before .before .before .before .before .before .pre .2) (c .before .before .before .before .before .before .before .before .before .before .before .pre .1) (c .before .before .before .before .before .loop .inv) (omega (arith, c .before .before .before .before .before .before .wide-u32 .ensures)) (c .before .before .before .read-row .ensures) (c .before .before .before .before .before .before .before .before .before .before .before .args .books .now) (position (c .before .before .before .before .before .before .before .before .before .before .before .args .place)) (headOf (c .before .before .before .before .before .before .before .before .before .before .before .args .head)) (tablesAt (c .before .before .before .before .before .before .before .before .before .before .before .args .residues .now) (c .before .before .before .before .before .before .before .before .before .before .before .args .plans .now) (c .before .before .before .before .before .before .before .before .before .before .before .args .index)) (search needs) _
 
 enum-known-step-2 : tie.Need-enum-known-step-2 Inv-loop μ-loop
 enum-known-step-2 c = search needs
@@ -54,19 +54,19 @@ loop-less : tie.Need-loop-less Inv-loop μ-loop
 loop-less c = search needs
 
 loop-again : tie.Need-loop-again Inv-loop μ-loop
-loop-again c = planning-next _ _ _ _ _ (c .before .before .before .before .before .before .before .before .before .before .before .before .pre .2) (c .before .before .before .before .before .before .before .before .before .before .before .before .pre .1) (c .before .before .before .before .before .before .loop .inv) (omega (arith, c .before .before .before .before .before .before .before .wide .ensures)) (c .before .before .before .before .read-row .ensures) (search needs)
+loop-again c = planning-next _ _ _ _ _ (c .before .before .before .before .before .before .before .before .before .before .before .before .pre .2) (c .before .before .before .before .before .before .before .before .before .before .before .before .pre .1) (c .before .before .before .before .before .before .loop .inv) (omega (arith, c .before .before .before .before .before .before .before .wide-u32 .ensures)) (c .before .before .before .before .read-row .ensures) (search needs)
 
 head-fits-requires : tie.Need-head-fits-requires Inv-loop μ-loop
 head-fits-requires c κs = search needs
 
 returns-2 : tie.Need-returns-2 Inv-loop μ-loop
-returns-2 c = head-unfit _ _ _ _ _ (c .before .before .before .before .before .before .before .before .before .pre .2) (c .before .before .before .before .before .before .before .before .before .pre .1) (c .before .before .before .loop .inv) (omega (arith, c .before .before .before .before .wide .ensures)) (c .before .before .before .before .before .before .before .before .before .args .books .now) (c .before .before .before .before .before .before .before .before .before .args .place) (headOf (c .before .before .before .before .before .before .before .before .before .args .head)) (c .before .head-fits .ensures) (c .if1 .taken) (tablesAt (c .before .before .before .before .before .before .before .before .before .args .residues .now) (c .before .before .before .before .before .before .before .before .before .args .plans .now) (c .before .before .before .before .before .before .before .before .before .args .index)) _
+returns-2 c = head-unfit _ _ _ _ _ (c .before .before .before .before .before .before .before .before .before .pre .2) (c .before .before .before .before .before .before .before .before .before .pre .1) (c .before .before .before .loop .inv) (omega (arith, c .before .before .before .before .wide-u32 .ensures)) (c .before .before .before .before .before .before .before .before .before .args .books .now) (c .before .before .before .before .before .before .before .before .before .args .place) (headOf (c .before .before .before .before .before .before .before .before .before .args .head)) (c .before .head-fits .ensures) (c .if1 .taken) (tablesAt (c .before .before .before .before .before .before .before .before .before .args .residues .now) (c .before .before .before .before .before .before .before .before .before .args .plans .now) (c .before .before .before .before .before .before .before .before .before .args .index)) _
 
 plan-fits-requires : tie.Need-plan-fits-requires Inv-loop μ-loop
 plan-fits-requires c κs = search needs
 
 returns-3 : tie.Need-returns-3 Inv-loop μ-loop
-returns-3 c = plan-unfit _ _ _ _ _ (c .before .before .before .before .before .before .before .before .before .before .before .pre .2) (c .before .before .before .before .before .before .before .before .before .before .before .pre .1) (c .before .before .before .before .before .loop .inv) (omega (arith, c .before .before .before .before .before .before .wide .ensures)) (c .before .before .before .before .before .before .before .before .before .before .before .args .books .now) (c .before .before .before .before .before .before .before .before .before .before .before .args .place) (headOf (c .before .before .before .before .before .before .before .before .before .before .before .args .head)) (c .before .before .before .head-fits .ensures) (c .before .before .if1 .left) (c .before .before .before .before .before .before .wide .ensures) (c .before .plan-fits .ensures) (c .if2 .taken) (tablesAt (c .before .before .before .before .before .before .before .before .before .before .before .args .residues .now) (c .before .before .before .before .before .before .before .before .before .before .before .args .plans .now) (c .before .before .before .before .before .before .before .before .before .before .before .args .index)) _
+returns-3 c = plan-unfit _ _ _ _ _ (c .before .before .before .before .before .before .before .before .before .before .before .pre .2) (c .before .before .before .before .before .before .before .before .before .before .before .pre .1) (c .before .before .before .before .before .loop .inv) (omega (arith, c .before .before .before .before .before .before .wide-u32 .ensures)) (c .before .before .before .before .before .before .before .before .before .before .before .args .books .now) (c .before .before .before .before .before .before .before .before .before .before .before .args .place) (headOf (c .before .before .before .before .before .before .before .before .before .before .before .args .head)) (c .before .before .before .head-fits .ensures) (c .before .before .if1 .left) (c .before .before .before .before .before .before .wide-u32 .ensures) (c .before .plan-fits .ensures) (c .if2 .taken) (tablesAt (c .before .before .before .before .before .before .before .before .before .before .before .args .residues .now) (c .before .before .before .before .before .before .before .before .before .before .before .args .plans .now) (c .before .before .before .before .before .before .before .before .before .before .before .args .index)) _
 
 mul-write-head : tie.Need-mul-write-head Inv-loop μ-loop
 mul-write-head c = search needs
@@ -87,7 +87,7 @@ same-length-2 : tie.Need-same-length-2 Inv-loop μ-loop
 same-length-2 c = search needs
 
 returns-4 : tie.Need-returns-4 Inv-loop μ-loop
-returns-4 c = residue-written _ _ _ _ _ (c .before .before .before .before .before .before .before .before .before .before .before .before .before .before .before .before .before .before .before .pre .2) (c .before .before .before .before .before .before .before .before .before .before .before .before .before .before .before .before .before .before .before .pre .1) (c .before .before .before .before .before .before .before .before .before .before .before .before .before .loop .inv) (omega (arith, c .before .before .before .before .before .before .before .before .before .before .before .before .before .before .wide .ensures)) (c .before .before .before .before .before .before .before .before .before .before .before .before .before .before .before .before .before .before .before .args .books .now) (c .before .before .before .before .before .before .before .before .before .before .before .before .before .before .before .before .before .before .before .args .place) (headOf (c .before .before .before .before .before .before .before .before .before .before .before .before .before .before .before .before .before .before .before .args .head)) (c .before .before .before .before .before .before .before .before .before .before .before .head-fits .ensures) (c .before .before .before .before .before .before .before .before .before .before .if1 .left) (c .before .before .before .before .before .before .before .before .before .before .before .before .before .before .wide .ensures) (c .before .before .before .before .before .before .before .before .before .plan-fits .ensures) (c .before .before .before .before .before .before .before .before .if2 .left) (c .before .before .before .before .before .before .before .before .before .before .before .before .before .before .before .before .before .before .before .args .residues .now) (c .before .before .before .before .before .before .before .before .before .before .before .before .before .before .before .before .before .before .before .args .plans .now) (c .before .before .before .before .before .before .before .before .before .before .before .before .before .before .before .before .before .before .before .args .index) (c .before .before .before .before .before .before .write-head .ensures) (c .before .before .write-plan .ensures)
+returns-4 c = residue-written _ _ _ _ _ (c .before .before .before .before .before .before .before .before .before .before .before .before .before .before .before .before .before .before .before .pre .2) (c .before .before .before .before .before .before .before .before .before .before .before .before .before .before .before .before .before .before .before .pre .1) (c .before .before .before .before .before .before .before .before .before .before .before .before .before .loop .inv) (omega (arith, c .before .before .before .before .before .before .before .before .before .before .before .before .before .before .wide-u32 .ensures)) (c .before .before .before .before .before .before .before .before .before .before .before .before .before .before .before .before .before .before .before .args .books .now) (c .before .before .before .before .before .before .before .before .before .before .before .before .before .before .before .before .before .before .before .args .place) (headOf (c .before .before .before .before .before .before .before .before .before .before .before .before .before .before .before .before .before .before .before .args .head)) (c .before .before .before .before .before .before .before .before .before .before .before .head-fits .ensures) (c .before .before .before .before .before .before .before .before .before .before .if1 .left) (c .before .before .before .before .before .before .before .before .before .before .before .before .before .before .wide-u32 .ensures) (c .before .before .before .before .before .before .before .before .before .plan-fits .ensures) (c .before .before .before .before .before .before .before .before .if2 .left) (c .before .before .before .before .before .before .before .before .before .before .before .before .before .before .before .before .before .before .before .args .residues .now) (c .before .before .before .before .before .before .before .before .before .before .before .before .before .before .before .before .before .before .before .args .plans .now) (c .before .before .before .before .before .before .before .before .before .before .before .before .before .before .before .before .before .before .before .args .index) (c .before .before .before .before .before .before .write-head .ensures) (c .before .before .write-plan .ensures)
 
 pub read-plan-spec : {M : Type 1} → statement M
 read-plan-spec =
@@ -95,7 +95,7 @@ read-plan-spec =
     (tie.spec
     Inv-loop
     μ-loop
-    wide-requires
+    wide-u32-requires
     loop-holds
     mul-read-row
     array-read-read-row

@@ -13,8 +13,8 @@ enum-known-z c = search needs
 enum-known-head : tie.Need-enum-known-head
 enum-known-head c = search needs
 
-wide-requires : tie.Need-wide-requires
-wide-requires c κs = search needs
+wide-u32-requires : tie.Need-wide-u32-requires
+wide-u32-requires c κs = search needs
 
 read-cascades-requires : tie.Need-read-cascades-requires
 read-cascades-requires c κs = search residue-laws
@@ -50,7 +50,7 @@ read-residue-spec =
     read-head-requires
     enum-known-z
     enum-known-head
-    wide-requires
+    wide-u32-requires
     read-cascades-requires
     enum-known-step
     enum-known-step-2

@@ -19,8 +19,8 @@ loop-holds c = search count-laws
 get-u16-requires : tie.Need-get-u16-requires Inv-loop μ-loop
 get-u16-requires c κs = search needs
 
-wide-requires : tie.Need-wide-requires Inv-loop μ-loop
-wide-requires c κs = search needs
+wide-u16-requires : tie.Need-wide-u16-requires Inv-loop μ-loop
+wide-u16-requires c κs = search needs
 
 add-larger : tie.Need-add-larger Inv-loop μ-loop
 add-larger c = search needs
@@ -48,7 +48,7 @@ class-count-spec =
     μ-loop
     loop-holds
     get-u16-requires
-    wide-requires
+    wide-u16-requires
     add-larger
     larger-requires
     add-i

@@ -13,8 +13,8 @@ enum-known-z c = search needs
 enum-known-field : tie.Need-enum-known-field
 enum-known-field c = search needs
 
-long-requires : tie.Need-long-requires
-long-requires c κs = search needs
+wide-u32-requires : tie.Need-wide-u32-requires
+wide-u32-requires c κs = search needs
 
 slice-aggregate-read-numbers : tie.Need-slice-aggregate-read-numbers
 slice-aggregate-read-numbers c = search needs
@@ -53,7 +53,7 @@ read-floor1-spec =
     field-requires
     enum-known-z
     enum-known-field
-    long-requires
+    wide-u32-requires
     slice-aggregate-read-numbers
     read-numbers-requires
     enum-known-z-2

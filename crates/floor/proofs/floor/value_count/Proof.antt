@@ -19,8 +19,8 @@ loop-holds c = search count-laws
 get-u16-requires : tie.Need-get-u16-requires Inv-loop μ-loop
 get-u16-requires c κs = search needs
 
-wide-requires : tie.Need-wide-requires Inv-loop μ-loop
-wide-requires c κs = search needs
+wide-u16-requires : tie.Need-wide-u16-requires Inv-loop μ-loop
+wide-u16-requires c κs = search needs
 
 mul-get-u16 : tie.Need-mul-get-u16 Inv-loop μ-loop
 mul-get-u16 c = search needs
@@ -28,8 +28,8 @@ mul-get-u16 c = search needs
 get-u16-requires-2 : tie.Need-get-u16-requires-2 Inv-loop μ-loop
 get-u16-requires-2 c κs = search needs
 
-wide-requires-2 : tie.Need-wide-requires-2 Inv-loop μ-loop
-wide-requires-2 c κs = search needs
+wide-u16-requires-2 : tie.Need-wide-u16-requires-2 Inv-loop μ-loop
+wide-u16-requires-2 c κs = search needs
 
 add-sum : tie.Need-add-sum Inv-loop μ-loop
 add-sum c = search needs
@@ -54,10 +54,10 @@ value-count-spec =
     μ-loop
     loop-holds
     get-u16-requires
-    wide-requires
+    wide-u16-requires
     mul-get-u16
     get-u16-requires-2
-    wide-requires-2
+    wide-u16-requires-2
     add-sum
     add-i
     loop-less

@@ -22,8 +22,8 @@ get-u16-requires c κs = search needs
 returns-3 : tie.Need-returns-3
 returns-3 c = search class-many
 
-wide-requires : tie.Need-wide-requires
-wide-requires c κs = search needs
+wide-u16-requires : tie.Need-wide-u16-requires
+wide-u16-requires c κs = search needs
 
 add-number : tie.Need-add-number
 add-number c = search needs
@@ -46,8 +46,8 @@ cast-power c = search needs
 power-requires : tie.Need-power-requires
 power-requires c κs = search needs
 
-wide-requires-2 : tie.Need-wide-requires-2
-wide-requires-2 c κs = search needs
+wide-u16-requires-2 : tie.Need-wide-u16-requires-2
+wide-u16-requires-2 c κs = search needs
 
 are-books-requires : tie.Need-are-books-requires
 are-books-requires c κs = search class-test-laws
@@ -65,7 +65,7 @@ is-class-spec =
     add-get-u16
     get-u16-requires
     returns-3
-    wide-requires
+    wide-u16-requires
     add-number
     number-requires-2
     is-master-requires
@@ -73,6 +73,6 @@ is-class-spec =
     add-are-books
     cast-power
     power-requires
-    wide-requires-2
+    wide-u16-requires-2
     are-books-requires
     returns-5)

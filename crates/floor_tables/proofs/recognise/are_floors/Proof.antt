@@ -7,8 +7,8 @@ use Rattle.floor_tables.proofs.recognise.are_floors.Tie as tie
 returns : tie.Need-returns
 returns c = search table-short
 
-long-requires : tie.Need-long-requires
-long-requires c κs = search needs
+wide-u32-requires : tie.Need-wide-u32-requires
+wide-u32-requires c κs = search needs
 
 are-rows-requires : tie.Need-are-rows-requires
 are-rows-requires c κs = search needs
@@ -30,7 +30,7 @@ are-floors-spec =
     tie.close
     (tie.spec
     returns
-    long-requires
+    wide-u32-requires
     are-rows-requires
     returns-2
     mul-zeros-u16

@@ -16,8 +16,8 @@ cast-power c = search needs
 power-requires : tie.Need-power-requires
 power-requires c κs = search needs
 
-wide-requires : tie.Need-wide-requires
-wide-requires c κs = search needs
+wide-u16-requires : tie.Need-wide-u16-requires
+wide-u16-requires c κs = search needs
 
 add-end : tie.Need-add-end
 add-end c = search needs
@@ -84,7 +84,7 @@ is-list-spec =
     get-u16-requires
     cast-power
     power-requires
-    wide-requires
+    wide-u16-requires
     add-end
     add-number
     number-requires

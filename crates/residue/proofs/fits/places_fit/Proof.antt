@@ -19,14 +19,14 @@ loop-holds c = search testing-laws
 returns : tie.Need-returns Inv-loop μ-loop
 returns c = search testing-laws
 
-mul-wide : tie.Need-mul-wide Inv-loop μ-loop
-mul-wide c = search needs
+mul-u32-from-u16 : tie.Need-mul-u32-from-u16 Inv-loop μ-loop
+mul-u32-from-u16 c = search needs
 
-shared-slice-read-wide : tie.Need-shared-slice-read-wide Inv-loop μ-loop
-shared-slice-read-wide c = search needs
+shared-slice-read-u32-from-u16 : tie.Need-shared-slice-read-u32-from-u16 Inv-loop μ-loop
+shared-slice-read-u32-from-u16 c = search needs
 
-wide-requires : tie.Need-wide-requires Inv-loop μ-loop
-wide-requires c κs = search needs
+u32-from-u16-requires : tie.Need-u32-from-u16-requires Inv-loop μ-loop
+u32-from-u16-requires c κs = search needs
 
 place-fits-requires : tie.Need-place-fits-requires Inv-loop μ-loop
 place-fits-requires c κs = search needs
@@ -54,9 +54,9 @@ places-fit-spec =
     μ-loop
     loop-holds
     returns
-    mul-wide
-    shared-slice-read-wide
-    wide-requires
+    mul-u32-from-u16
+    shared-slice-read-u32-from-u16
+    u32-from-u16-requires
     place-fits-requires
     returns-2
     add-i
