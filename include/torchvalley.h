@@ -88,7 +88,8 @@ uint32_t torchvalley_setup(struct torchvalley_identity identity, const uint8_t *
                            size_t mappings_length, uint8_t *modes, size_t modes_length);
 
 /* Whether identity and tables are sound: the identity is, and the tables are the writing-out of some content that meets every rule for its channels.
- * Tables as an accepted packet left them are, with the identity of that call; tables that are too short or all zero are not. */
+ * That content is one alone, whatever the identity. Tables as an accepted packet left them are sound, with the identity of that call; tables that are
+ * too short or all zero are not. */
 bool torchvalley_setup_sound(struct torchvalley_identity identity, const uint32_t *counts, size_t counts_length, const uint32_t *books,
                              size_t books_length, const uint8_t *lengths, size_t lengths_length, const uint32_t *codewords,
                              size_t codewords_length, const uint16_t *multiplicands, size_t multiplicands_length, const uint16_t *floors,
@@ -102,8 +103,9 @@ struct torchvalley_codeword {
      *   18  identity or tables are not sound, a table shorter than its fixed need among them
      * 18 goes before 11, and 11 before 1. */
     uint32_t refusal;
-    /* The number of the entry that was read, and the place behind its codeword: bit 8 * byte + bit of the packet. */
+    /* The number of the entry that was read. */
     uint32_t entry;
+    /* The place behind its codeword: the byte of the packet, and the bit in it, 0 to 7. */
     size_t byte;
     uint8_t bit;
 };

@@ -12,6 +12,7 @@ use Rattle.reading.specs.Reader.{puts}
 use Rattle.reading.proofs.Pads.{pad-nil}
 use Rattle.reading.proofs.Tables.{sets-pad}
 use Rattle.reading.proofs.Tabulate.{tabulate-length}
+use Rattle.limits.specs.declared.Limits.{Limits}
 use Rattle.codeword_assignment.specs.Book.{ledgerCodewords, codewordOf}
 use Rattle.book.specs.Content.{Book}
 use Rattle.book.specs.Layout.{bookWidth, bookRow}
@@ -19,6 +20,7 @@ use Rattle.book_head.specs.Reading.{Before}
 use Rattle.book_reading.specs.Reading.{andThis}
 use Rattle.book_reading.specs.Layout.{Tables, tables, putBook}
 use Rattle.book_reading.specs.Rows.{bookRows, allLengths, allCodewords, allMultiplicands, andThese, decodeBook, decodeBooks}
+use Rattle.book_reading.specs.Valid.{ValidBooks}
 
 pub codewords-length : (ls : List ℕ) → length (ledgerCodewords ls) ≡ length ls
 unfolding ledgerCodewords
@@ -101,6 +103,25 @@ unfolding andThese rows
 these-values before [] = sym (add-zero _)
 these-values before (b ∷ bs) =
     let i = these-values (andThis before b) bs in
+    let l = length-append (b .multiplicands) (allMultiplicands bs) in
+    omega arith
+
+-- the entries and multiplicands of valid books are within the limits
+pub within-entries : (limits : Limits) (before : Before) (bs : List Book) → before .entries ≤ limits .entries → ValidBooks limits before bs
+    → before .entries + length (allLengths bs) ≤ limits .entries
+unfolding rows ValidBooks
+within-entries limits before [] h v = omega arith
+within-entries limits before (b ∷ bs) h v =
+    let i = within-entries limits (andThis before b) bs (v .0 .entries-all) (v .1) in
+    let l = length-append (b .lengths) (allLengths bs) in
+    omega arith
+
+pub within-values : (limits : Limits) (before : Before) (bs : List Book) → before .values ≤ limits .multiplicands → ValidBooks limits before bs
+    → before .values + length (allMultiplicands bs) ≤ limits .multiplicands
+unfolding rows ValidBooks
+within-values limits before [] h v = omega arith
+within-values limits before (b ∷ bs) h v =
+    let i = within-values limits (andThis before b) bs (v .0 .values-all) (v .1) in
     let l = length-append (b .multiplicands) (allMultiplicands bs) in
     omega arith
 

@@ -5,7 +5,7 @@ use native.Mathlib.Omega.{arith}
 use mathlib.Core.List.{List, [], _∷_, _++_}
 use mathlib.Core.Logic.{_↔_}
 use mathlib.Core.Path.{_≡_, refl, sym, ap, subst, _∙_}
-use lib.ListN.{length, getD, take, drop, length-drop, length-append, take-append-drop}
+use lib.ListN.{length, getD, take, drop, length-drop, take-append-drop}
 use lib.Seq.{drop-at}
 use Rattle.reading.specs.Pad.{pad}
 use Rattle.reading.specs.Lists.{rows}
@@ -20,7 +20,7 @@ use Rattle.book_head.specs.Answers.{totals}
 use Rattle.book_reading.specs.Reading.{andThis}
 use Rattle.book_reading.specs.Rows.{bookRows, allLengths, allCodewords, allMultiplicands, decodeBooks}
 use Rattle.book_reading.specs.Valid.{ValidBooks}
-use Rattle.book_reading.proofs.BooksStored.{codewords-length, row-length, decode-books}
+use Rattle.book_reading.proofs.BooksStored.{codewords-length, row-length, within-entries, within-values, decode-books}
 use Rattle.book_tables.specs.declared.row.Row.{Row}
 use Rattle.book_tables.specs.Rules.{rowOf, BookRules}
 use Rattle.book_tables.specs.Recognised.{Countable, BooksLeft, Clear, OneContent}
@@ -140,25 +140,6 @@ module _ (limits : Limits) (n entries values : ℕ) (rs ls ws ms : List ℕ) (ro
         all-codewords = join (getD rs 1 0) ws (ledgerCodewords (b .lengths)) (allCodewords (left .content)) l₃ (omega arith) (r .coded .assigned) (left .all-codewords);
         all-multiplicands = join (getD rs 8 0) ms (b .multiplicands) (allMultiplicands (left .content)) l₂ (omega arith) refl (left .all-multiplicands);
       }
-
--- tables with room hold all that the limits allow
-within-entries : (limits : Limits) (before : Before) (bs : List Book) → before .entries ≤ limits .entries → ValidBooks limits before bs
-    → before .entries + length (allLengths bs) ≤ limits .entries
-unfolding rows ValidBooks
-within-entries limits before [] h v = omega arith
-within-entries limits before (b ∷ bs) h v =
-    let i = within-entries limits (andThis before b) bs (v .0 .entries-all) (v .1) in
-    let l = length-append (b .lengths) (allLengths bs) in
-    omega arith
-
-within-values : (limits : Limits) (before : Before) (bs : List Book) → before .values ≤ limits .multiplicands → ValidBooks limits before bs
-    → before .values + length (allMultiplicands bs) ≤ limits .multiplicands
-unfolding rows ValidBooks
-within-values limits before [] h v = omega arith
-within-values limits before (b ∷ bs) h v =
-    let i = within-values limits (andThis before b) bs (v .0 .values-all) (v .1) in
-    let l = length-append (b .multiplicands) (allMultiplicands bs) in
-    omega arith
 
 -- ONE CONTENT for one writing-out
 pub one-content : (limits : Limits) (count : ℕ) (books lengths codewords multiplicands : List ℕ) → Countable limits count → OneContent limits count books lengths codewords multiplicands

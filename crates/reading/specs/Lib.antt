@@ -6,3 +6,4 @@ pub mod Tabulate
 pub mod Lists
 pub mod Table
 pub mod Encoding
+pub mod Decide

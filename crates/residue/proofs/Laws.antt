@@ -19,7 +19,7 @@ use Rattle.residue.specs.Content.{Residue}
 use Rattle.residue.specs.Reading.{Books, cascade, passes, planBook, planRow, headFrom, head, residueFrom, residue, residueFits, withPlan}
 use Rattle.residue.specs.Layout.{headRow, planTable}
 use Rattle.residue.specs.Valid.{Rows8, ValidResidue, AllValid, AcceptedValid}
-use Rattle.residue.specs.Decode.{chunks, decodeResidue}
+use Rattle.residue.specs.Decode.{chunks, decodeResidue, decodeResidues}
 use Rattle.residue.proofs.PlanSound.{place-sound, row-read-long}
 use Rattle.residue.proofs.RowsLaws.{all-append, pad-cat}
 use Rattle.residue.proofs.HeadSound.{head-sound}
@@ -182,3 +182,21 @@ decode-rows books r v h p =
 
 pub decode-row : (books : Books) (r : Residue) → ValidResidue books r → decodeResidue (headRow r) (planTable r) ≡ r
 decode-row books r v = (λ j. decodeResidue (sym (append-nil (headRow r)) j) (sym (append-nil (planTable r)) j)) ∙ decode-rows books r v [] []
+
+-- residues are decoded from their tables, whatever the length of these
+pub decode-residues : (books : Books) (rs : List Residue) (n a b : ℕ) → length rs ≡ n → AllValid books rs → 6 * n ≤ a → 512 * n ≤ b
+    → decodeResidues n (pad a (rows headRow rs)) (pad b (rows planTable rs)) ≡ rs
+unfolding decodeResidues rows AllValid
+decode-residues books [] zero a b e v h g = refl
+decode-residues books [] (suc n) a b e v h g = absurd (omega arith)
+decode-residues books (r ∷ rs) zero a b e v h g = absurd (omega arith)
+decode-residues books (r ∷ rs) (suc n) a b e v h g =
+    let x : pad a (headRow r ++ rows headRow rs) ≡ headRow r ++ pad (a - 6) (rows headRow rs) = pad-cat a (headRow r) (rows headRow rs) (a - 6) (rw length-headRow (omega arith)) in
+    let y : pad b (planTable r ++ rows planTable rs) ≡ planTable r ++ pad (b - 512) (rows planTable rs) =
+    pad-cat b (planTable r) (rows planTable rs) (b - 512) (rw length-planTable (omega arith)) in
+    let first : decodeResidue (headRow r ++ pad (a - 6) (rows headRow rs)) (planTable r ++ pad (b - 512) (rows planTable rs)) ≡ r =
+    decode-rows books r (v .0) (pad (a - 6) (rows headRow rs)) (pad (b - 512) (rows planTable rs)) in
+    let rest = decode-residues books rs n (a - 6) (b - 512) (omega arith) (v .1) (omega arith) (omega arith) in
+    rw
+    (x, y, drop-at (headRow r) (pad (a - 6) (rows headRow rs)) 6 (length-headRow r), drop-at (planTable r) (pad (b - 512) (rows planTable rs)) 512 (length-planTable r), first)
+    (ap (λ (l : List Residue). r ∷ l) rest)

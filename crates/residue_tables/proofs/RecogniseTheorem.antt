@@ -20,7 +20,7 @@ use Rattle.residue.specs.Valid.{Rows8, ValidResidue, AllValid}
 use Rattle.residue.specs.Plans.{headFits}
 use Rattle.residue.specs.Decode.{chunks, headAt, decodeResidue, decodeResidues}
 use Rattle.residue_tables.specs.Recognised.{Holds, ResiduesRecognised, OneContent, headTest, placesTest, residueTest, residuesTest}
-use Rattle.residue.proofs.Laws.{length-headRow, length-planTable, rows8-long, planTable-is, decode-rows}
+use Rattle.residue.proofs.Laws.{length-headRow, length-planTable, rows8-long, planTable-is, decode-residues}
 use Rattle.residue.proofs.RowsLaws.{pad-cat}
 
 both : {a b : Bool} → a ≡ true → b ≡ true → a && b ≡ true
@@ -188,24 +188,6 @@ passes-all books (r ∷ rs) (suc n) a b e v h g =
     (x, y, drop-at (headRow r) (pad (a - 6) (rows headRow rs)) 6 (length-headRow r), drop-at (planTable r) (pad (b - 512) (rows planTable rs)) 512 (length-planTable r))
     (both (residue-passes books r (v .0) (pad (a - 6) (rows headRow rs)) (pad (b - 512) (rows planTable rs))) (passes-all books rs n (a - 6) (b - 512) (omega arith) (v .1) (omega arith) (omega arith)))
 
--- residues are decoded from their rows
-decoded-all : (books : Books) (rs : List Residue) (n a b : ℕ) → length rs ≡ n → AllValid books rs → 6 * n ≤ a → 512 * n ≤ b
-    → decodeResidues n (pad a (rows headRow rs)) (pad b (rows planTable rs)) ≡ rs
-unfolding decodeResidues rows AllValid
-decoded-all books [] zero a b e v h g = refl
-decoded-all books [] (suc n) a b e v h g = absurd (omega arith)
-decoded-all books (r ∷ rs) zero a b e v h g = absurd (omega arith)
-decoded-all books (r ∷ rs) (suc n) a b e v h g =
-    let x : pad a (headRow r ++ rows headRow rs) ≡ headRow r ++ pad (a - 6) (rows headRow rs) = pad-cat a (headRow r) (rows headRow rs) (a - 6) (rw length-headRow (omega arith)) in
-    let y : pad b (planTable r ++ rows planTable rs) ≡ planTable r ++ pad (b - 512) (rows planTable rs) =
-    pad-cat b (planTable r) (rows planTable rs) (b - 512) (rw length-planTable (omega arith)) in
-    let first : decodeResidue (headRow r ++ pad (a - 6) (rows headRow rs)) (planTable r ++ pad (b - 512) (rows planTable rs)) ≡ r =
-    decode-rows books r (v .0) (pad (a - 6) (rows headRow rs)) (pad (b - 512) (rows planTable rs)) in
-    let rest = decoded-all books rs n (a - 6) (b - 512) (omega arith) (v .1) (omega arith) (omega arith) in
-    rw
-    (x, y, drop-at (headRow r) (pad (a - 6) (rows headRow rs)) 6 (length-headRow r), drop-at (planTable r) (pad (b - 512) (rows planTable rs)) 512 (length-planTable r), first)
-    (ap (λ (l : List Residue). r ∷ l) rest)
-
 pub one-content : (books : Books) (n : ℕ) (residues plans : List ℕ) → n ≤ 64 → OneContent books n residues plans
 one-content books n residues plans few =
     record {
@@ -214,7 +196,7 @@ one-content books n residues plans few =
           let b = s .room-plans in
           sym
           ((λ j. decodeResidues n (s .holds .head-rows j) (s .holds .plan-rows j))
-          ∙ decoded-all books (s .content) n (length residues) (length plans) (s .holds .count) (s .holds .valid) (omega arith) (omega arith));
+          ∙ decode-residues books (s .content) n (length residues) (length plans) (s .holds .count) (s .holds .valid) (omega arith) (omega arith));
     }
 
 -- the recogniser's claim, for each way out of it

@@ -1,7 +1,12 @@
 pub mod ReadIntoLaws
 pub mod TableLaws
+pub mod CountsLaws
 pub mod BookLinks
 pub mod Whole
 pub mod RuleLaws
+pub mod EachLaws
+pub mod WrittenLaws
+pub mod DecodeLaws
+pub mod TestLaws
 pub mod Numbers
 pub mod ValidLaws

@@ -271,11 +271,12 @@ module _ (limits : Limits) (channels : ℕ) (c : Setup) where
   abbrev kn : Known
   kn = known channels (c .floors) (c .residues)
 
-  -- A VALID CONTENT CAN BE CARRIED
-  pub valid-carried : ValidSetup limits channels c → Carried channels c
+  -- A VALID CONTENT CAN BE CARRIED, for so many channels as a packet names
+  pub valid-carried : channels ≤ 255 → ValidSetup limits channels c → Carried channels c
   unfolding known
-  valid-carried v =
+  valid-carried few v =
       record {
+        few-channels = few;
         book-count = v .book-count;
         books = books-each limits (book-carried limits) none (c .books) (v .books);
         floor-count = v .floor-count;

@@ -19,17 +19,18 @@ use Rattle.header.specs.Header.{commonHeader, framing}
 use Rattle.limits.specs.declared.Limits.{Limits}
 use Rattle.identification.specs.declared.Identity.{Identity}
 use Rattle.identification.specs.Sound.{isSound}
+use Rattle.identification.proofs.SoundLaws.{sound-test}
 use Rattle.book.specs.Content.{Book}
 use Rattle.book_reading.specs.Reading.{books}
 use Rattle.book_reading.specs.Valid.{ValidBooks}
 use Rattle.book_reading.proofs.Accepted.{books-valid}
 use Rattle.floor.specs.Content.{Floor}
 use Rattle.floor.specs.Reading.{floor}
-use Rattle.floor.specs.Valid.{ValidFloor, ValidFloors}
+use Rattle.floor.specs.Valid.{ValidFloor}
 use Rattle.floor.proofs.Laws.{floors-valid}
 use Rattle.residue.specs.Content.{Residue}
 use Rattle.residue.specs.Reading.{Books, residue}
-use Rattle.residue.specs.Valid.{ValidResidue, AllValid}
+use Rattle.residue.specs.Valid.{ValidResidue}
 use Rattle.residue.proofs.Laws.{residues-valid}
 use Rattle.mapping.specs.Reading.{mapping}
 use Rattle.mapping.proofs.Laws.{mappings-valid}
@@ -40,23 +41,16 @@ use Rattle.setup.specs.Reading.{bookSection, section, timeValue, section
 use Rattle.setup.specs.Layout.{Tables, layout, hasRoom, writtenOut, cleared}
 use Rattle.setup.specs.Carried.{Counted}
 use Rattle.setup.specs.Valid.{ValidSetup}
-use Rattle.setup.specs.Sound.{Sound}
+use Rattle.setup.specs.Sound.{Sound, SoundCall}
 use Rattle.setup.specs.Call.{setupOf}
+use Rattle.setup.specs.Parts.{Small}
 use Rattle.setup.specs.Accepted.{AcceptedSound}
 use Rattle.setup.proofs.TableLaws.{room-parts}
 use Rattle.setup.proofs.RuleLaws.{valid-carried, valid-meets}
+use Rattle.setup.proofs.EachLaws.{floors-each, residues-each}
+use Rattle.setup.proofs.DecodeLaws.{content-decoded}
+use Rattle.setup.proofs.TestLaws.{test-tells}
 use Rattle.setup.proofs.Numbers.{call-numbered, not-zero}
-
--- a fact of all, as each crate states it, is one of each
-floors-each : (books : ℕ) (fs : List Floor) → ValidFloors books fs → Each (ValidFloor books) fs
-unfolding ValidFloors Each
-floors-each books [] v = tt
-floors-each books (f ∷ fs) v = (v .0, floors-each books fs (v .1))
-
-residues-each : (books : Books) (rs : List Residue) → AllValid books rs → Each (ValidResidue books) rs
-unfolding AllValid Each
-residues-each books [] v = tt
-residues-each books (r ∷ rs) v = (v .0, residues-each books rs (v .1))
 
 -- a section: its items, of which there are 1 to 64
 record SectionRead {A : Type 0} (r : Reader A) (s : List ℕ) (x : List A × ℕ) : Type 0 where
@@ -174,16 +168,22 @@ call-accepted limits i s t {c} e =
     record { identity = a .0; room = b .0; content = b .1 }
 
 -- THE TABLES AS AN ACCEPTED CALL LEFT THEM ARE SOUND, with the content that was read
-pub accepted-sound : (limits : Limits) (i : Identity) (s : List ℕ) (t : Tables) {c : Setup} → setupOf limits i s t ≡ ok c → Sound limits (i .channels) (writtenOut c t)
-accepted-sound limits i s t {c} e =
+pub accepted-sound : (limits : Limits) (i : Identity) (s : List ℕ) (t : Tables) {c : Setup} → Small limits → setupOf limits i s t ≡ ok c → SoundCall limits i (writtenOut c t)
+accepted-sound limits i s t {c} small e =
     let a = call-accepted limits i s t e in
     let v = setup-valid limits (i .channels) s (a .content) in
+    let sound = sound-test (limits .channels) i .0 (a .identity) in
+    let few = sound .few-channels in
+    let most = small .few-channels in
     record {
-      content = c;
-      carried = valid-carried limits (i .channels) c v;
-      rules = valid-meets limits (i .channels) c v;
-      room = room-written limits c t ∙ a .room;
-      written = written-twice c t;
+      identity = sound;
+      tables = record {
+        content = c;
+        carried = valid-carried limits (i .channels) c (omega arith) v;
+        rules = valid-meets limits (i .channels) c v;
+        room = room-written limits c t ∙ a .room;
+        written = written-twice c t;
+      };
     }
 
 -- all-zero tables are not sound: they count no book
@@ -198,6 +198,13 @@ unsound-zeros limits channels t x = go (length (t .counts)) (ap (λ (u : Tables)
         let z : 0 ≡ length (x .content .books) = cc in
         omega arith
 
-pub accepts : (limits : Limits) (i : Identity) (s : List ℕ) (t : Tables) → AcceptedSound limits i s t
+pub accepts : (limits : Limits) (i : Identity) (s : List ℕ) (t : Tables) → Small limits → AcceptedSound limits i s t
 unfolding accepted-sound
-accepts limits i s t = record { sound = λ c e. (accepted-sound limits i s t e, refl); cleared-unsound = unsound-zeros limits (i .channels) t; numbered = λ z e. not-zero (call-numbered limits i s t) e }
+accepts limits i s t small =
+    record {
+      sound = λ c e. (accepted-sound limits i s t small e .tables, refl);
+      tested = λ c e. test-tells .1 (accepted-sound limits i s t small e);
+      decoded = λ c e. sym (content-decoded (accepted-sound limits i s t small e .tables));
+      cleared-unsound = unsound-zeros limits (i .channels) t;
+      numbered = λ z e. not-zero (call-numbered limits i s t) e;
+    }

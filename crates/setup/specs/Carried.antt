@@ -71,7 +71,9 @@ pub record CarriedMapping (channels : ℕ) (m : Mapping) : Type 0 where
 abbrev pub CarriedMode : Mode → Type 0
 CarriedMode m = m .blockflag ≤ 1
 
+-- for an identity's channels, which the identification packet has 8 bits for (003, 4.2.2)
 pub record Carried (channels : ℕ) (c : Setup) : Type 0 where
+  pub few-channels : channels ≤ 255
   pub book-count : Counted 256 (length (c .books))
   pub books : Each CarriedBook (c .books)
   pub floor-count : Counted 64 (length (c .floors))

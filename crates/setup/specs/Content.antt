@@ -1,6 +1,6 @@
 -- A setup as content: what the setup packet says, without how it was coded (01, "What the reader takes and gives"; 003, 4.2.4).
 use Prim.Native.Nat.{ℕ}
-use mathlib.Core.List.{List, map}
+use mathlib.Core.List.{List, [], map}
 use lib.ListN.{length, getD}
 use Rattle.book.specs.Content.{Book}
 use Rattle.floor.specs.Content.{Floor}
@@ -26,6 +26,10 @@ booksKnown bs =
       entries = λ b. getD (map (λ x. length (x .lengths)) bs) b 0;
       lookup = λ b. getD (map (λ x. x .lookup) bs) b 0;
     }
+
+-- book b's entry lengths, 0 for an unused entry; none for a book that is not set up
+unfoldable pub lengthsOf : Setup → ℕ → List ℕ
+lengthsOf c b = getD (map (λ x. x .lengths) (c .books)) b []
 
 -- what a mapping is judged against
 unfoldable pub known : ℕ → List Floor → List Residue → Known

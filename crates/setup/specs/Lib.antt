@@ -1,10 +1,13 @@
 pub mod Content
 pub mod Reading
 pub mod Layout
+pub mod Handed
 pub mod Carried
 pub mod Rules
 pub mod Valid
+pub mod Decode
 pub mod Sound
+pub mod SoundTest
 pub mod Call
 pub mod Parts
 pub mod Accepted

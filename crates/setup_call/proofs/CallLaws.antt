@@ -14,7 +14,7 @@ use Rattle.setup.specs.Reading.{setup}
 use Rattle.setup.specs.Layout.{Tables, tables, hasRoom, cleared}
 use Rattle.setup.specs.Call.{setupOf, Left, left, answered, setupCall}
 use Rattle.setup.specs.Accepted.{AcceptedSound}
-use Rattle.setup.specs.Parts.{ReadInto, WrittenOut, packetPart, checkedPart}
+use Rattle.setup.specs.Parts.{ReadInto, WrittenOut, packetPart, checkedPart, Small}
 use Rattle.setup.proofs.ReadIntoLaws.{read-into-bad, read-into-ok}
 use Rattle.setup.proofs.Whole.{setup-whole}
 use Rattle.setup.proofs.ValidLaws.{accepts}
@@ -59,6 +59,6 @@ unfolding settled setupCall answered
 settled-call limits i s t (Next c) l same = let a = read-into-ok l refl in rw (call-whole limits i s t, a .1) (ap (left 0) (a .2))
 settled-call limits i s t (Refused z) l same = rw (call-whole limits i s t, read-into-bad l refl) (ap (left (z .number)) (same-cleared same))
 
-pub call-left : {limits : Limits} {i : Identity} {s : List ℕ} {t v : Tables} {answer : Step} {r : Left} → ReadInto (checkedPart limits i s t) answer (WrittenOut t v) → SameLengths v t → r ≡ settled answer v
+pub call-left : {limits : Limits} {i : Identity} {s : List ℕ} {t v : Tables} {answer : Step} {r : Left} → Small limits → ReadInto (checkedPart limits i s t) answer (WrittenOut t v) → SameLengths v t → r ≡ settled answer v
     → (r ≡ setupCall limits i s t) × AcceptedSound limits i s t
-call-left {limits} {i} {s} {t} {v} {answer} l same e = (e ∙ settled-call limits i s t answer l same, accepts limits i s t)
+call-left {limits} {i} {s} {t} {v} {answer} small l same e = (e ∙ settled-call limits i s t answer l same, accepts limits i s t small)

@@ -6,7 +6,7 @@ use limits::Limits;
 use crate::checked::read_checked;
 use setup_buffers::settle;
 ghost use mathlib.Core.Path.{_≡_};
-ghost use Rattle.setup.specs.Layout.{tables};
+ghost use Rattle.setup.specs.Handed.{handed, leftIn};
 ghost use Rattle.setup.specs.Call.{left, setupCall};
 ghost use Rattle.setup.specs.Accepted.{AcceptedSound};
 ghost use Rattle.setup.specs.Parts.{Small};
@@ -28,8 +28,10 @@ pub fn read_setup(
     modes: &mut [u8],
 ) -> u32
     requires { ⌜ Small limits ⌝ }
-    ensures { λ r. ⌜ left r (tables (now (counts .exit)) (now (books .exit)) (now (lengths .exit)) (now (codewords .exit)) (now (multiplicands .exit)) (now (floors .exit)) (now (residues .exit)) (now (plans .exit)) (now (mappings .exit)) (now (modes .exit))) ≡ setupCall limits identity (now (packet .entry)) (tables (now (counts .entry)) (now (books .entry)) (now (lengths .entry)) (now (codewords .entry)) (now (multiplicands .entry)) (now (floors .entry)) (now (residues .entry)) (now (plans .entry)) (now (mappings .entry)) (now (modes .entry))) ⌝ }
-    ensures { λ _. ⌜ AcceptedSound limits identity (now (packet .entry)) (tables (now (counts .entry)) (now (books .entry)) (now (lengths .entry)) (now (codewords .entry)) (now (multiplicands .entry)) (now (floors .entry)) (now (residues .entry)) (now (plans .entry)) (now (mappings .entry)) (now (modes .entry))) ⌝ }
+    ensures { λ r. ⌜ left r (leftIn counts books lengths codewords multiplicands floors residues plans mappings modes)
+        ≡ setupCall limits identity (now (packet .entry)) (handed counts books lengths codewords multiplicands floors residues plans mappings modes) ⌝ }
+    ensures { λ _. ⌜ AcceptedSound limits identity (now (packet .entry))
+        (handed counts books lengths codewords multiplicands floors residues plans mappings modes) ⌝ }
 {
     let answer = read_checked(
         packet,

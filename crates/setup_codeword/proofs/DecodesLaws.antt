@@ -1,19 +1,13 @@
--- A book of an accepted setup decodes as demand 3 has it, by any answer that the call's definition gives. Assumes nothing.
+-- A book of an accepted setup decodes as demand 3 has it, by the call's definition. Assumes nothing.
 use Prim.Native.Nat.{ℕ, zero, suc, _<_}
 use native.Mathlib.Omega.{arith}
-use borrow.Author.Tests.{leb-true}
-use mathlib.Core.Bool.{true}
+use borrow.Author.Tests.{lt-ltb}
 use mathlib.Core.List.{List, [], _∷_, map}
-use mathlib.Core.Path.{_≡_, sym, subst, _∙_}
-use lib.Dec.{leb}
+use mathlib.Core.Path.{_≡_, refl, sym, subst, _∙_}
 use lib.ListN.{length, getD}
-use Rattle.reading.specs.Lists.{listed}
-use Rattle.reading.specs.Outcome.{Outcome, ok}
-use Rattle.reading.proofs.Least.{and-split}
+use Rattle.reading.specs.Outcome.{ok}
 use Rattle.limits.specs.declared.Limits.{Limits}
 use Rattle.identification.specs.declared.Identity.{Identity}
-use Rattle.identification.specs.Sound.{allowedSizes, isSound}
-use Rattle.identification.specs.Sound as I
 use Rattle.codeword_assignment.specs.Book.{used, ledgerCodewords, verdict, Begins}
 use Rattle.codeword_assignment.specs.declared.book.Assigned.the-variants.{Accepted}
 use Rattle.codespace.proofs.Claimed.{balanced}
@@ -24,36 +18,18 @@ use Rattle.book.specs.Content.{Book}
 use Rattle.book_head.specs.Reading.{Before}
 use Rattle.book_reading.specs.Reading.{andThis}
 use Rattle.book_reading.specs.Valid.{ValidBooks}
-use Rattle.setup.specs.Content.{Setup}
+use Rattle.setup.specs.Content.{Setup, lengthsOf}
 use Rattle.setup.specs.Layout.{Tables, writtenOut}
 use Rattle.setup.specs.Call.{setupOf, setupCall, answered}
-use Rattle.setup.proofs.RuleLaws.{valid-carried, valid-meets}
-use Rattle.setup.proofs.ValidLaws.{setup-valid, room-written, written-twice, call-accepted}
+use Rattle.setup.specs.Parts.{Small}
+use Rattle.setup.proofs.ValidLaws.{setup-valid, call-accepted, accepts}
 use Rattle.setup_judged.proofs.JudgedLaws.{judged-by-call}
 use Rattle.setup_judged.specs.Judged.{LengthsRead}
 use Rattle.setup_judged.proofs.ReachedLaws.{book-reached}
 use Rattle.setup_judged.proofs.ExampleLaws.{accepts-example}
-use Rattle.setup_codeword.specs.Call.{lengthsOf, SoundCall, CodewordCall}
+use Rattle.setup_codeword.specs.Call.{laterCall, codewordOf, codewordCall}
 use Rattle.setup_codeword.specs.Demand3.{BookDecodes, Demand3}
 use Rattle.setup_codeword.proofs.JudgedLaws.{accepted-takes, full-not-lone}
-
--- the test of an identity, and what it says
-pub sound-identity : (most : ℕ) (i : Identity) → isSound most i ≡ true → I.Sound most i
-unfolding isSound
-sound-identity most i e =
-    let a = and-split (leb 1 (i .channels)) _ e in
-    let b = and-split (leb (i .channels) most) _ (a .1) in
-    let c = and-split (leb 1 (i .rate)) _ (b .1) in
-    let d = and-split (listed (i .blocksize0) allowedSizes) _ (c .1) in
-    let f = and-split (listed (i .blocksize1) allowedSizes) (leb (i .blocksize0) (i .blocksize1)) (d .1) in
-    record {
-      some-channel = leb-true _ _ (a .0);
-      few-channels = leb-true _ _ (b .0);
-      some-rate = leb-true _ _ (c .0);
-      first-size = d .0;
-      second-size = f .0;
-      in-order = leb-true _ _ (f .1);
-    }
 
 -- each book's lengths were accepted
 book-accepted : (limits : Limits) (before : Before) (bs : List Book) (b : ℕ) → ValidBooks limits before bs → b < length bs → verdict (getD (map (λ x. x .lengths) bs) b []) ≡ Accepted
@@ -68,7 +44,7 @@ lengths-accepted limits c b v h = book-accepted limits (record { entries = 0; va
 
 -- where the call comes to a codeword of accepted lengths
 module _ {limits : Limits} {i : Identity} {t : Tables} {b : ℕ} (ls : List ℕ) (accepted : verdict ls ≡ Accepted)
-    (call : (s : List ℕ) (k : ℕ) (r : Outcome (ℕ × ℕ)) → CodewordCall limits i t b s k r → r ≡ codeword ls s k) where
+    (call : (s : List ℕ) (k : ℕ) → codewordCall limits i t b s k ≡ codeword ls s k) where
   pub decodes : BookDecodes limits i t b ls
   decodes =
       let takes = accepted-takes ls accepted in
@@ -81,29 +57,20 @@ module _ {limits : Limits} {i : Identity} {t : Tables} {b : ℕ} (ls : List ℕ)
               one .0,
               one .1 .0,
               one .1 .1,
-              (λ s k there same r c. call s k r c ∙ read-whole ls accepted s k there (one .0) (subst (λ (v : ℕ). Begins ls (ledgerCodewords ls) v (one .0)) (sym same) (one .1 .0)) (full-not-lone ls free)),
+              (λ s k there same. call s k ∙ read-whole ls accepted s k there (one .0) (subst (λ (v : ℕ). Begins ls (ledgerCodewords ls) v (one .0)) (sym same) (one .1 .0)) (full-not-lone ls free)),
             );
-        lone = λ l s k h r c. call s k r c ∙ read-lone ls s k l h;
+        lone = λ l s k h. call s k ∙ read-lone ls s k l h;
       }
 
 -- an accepted call left sound tables, whose content is what was read
-pub left-sound : (limits : Limits) (i : Identity) (s : List ℕ) (t : Tables) (c : Setup) → setupOf limits i s t ≡ ok c
+pub left-sound : (limits : Limits) (i : Identity) (s : List ℕ) (t : Tables) (c : Setup) → Small limits → setupOf limits i s t ≡ ok c
     → (b : ℕ) → b < length (c .books) → BookDecodes limits i (writtenOut c t) b (lengthsOf c b)
-left-sound limits i s t c e b h =
-    let a = call-accepted limits i s t e in
-    let v = setup-valid limits (i .channels) s (a .content) in
-    let sound : SoundCall limits i (writtenOut c t) =
-    record {
-      identity = sound-identity (limits .channels) i (a .identity);
-      tables = record {
-        content = c;
-        carried = valid-carried limits (i .channels) c v;
-        rules = valid-meets limits (i .channels) c v;
-        room = room-written limits c t ∙ a .room;
-        written = written-twice c t;
-      };
-    } in
-    decodes (lengthsOf c b) (lengths-accepted limits c b (v .books) h) (λ p k r call. call .read sound h)
+unfolding codewordCall laterCall codewordOf
+left-sound limits i s t c small e b h =
+    let a = accepts limits i s t small in
+    let v = setup-valid limits (i .channels) s (call-accepted limits i s t e .content) in
+    decodes (lengthsOf c b) (lengths-accepted limits c b (v .books) h)
+    (λ p k. rw (a .tested c e, a .decoded c e, lt-ltb b (length (c .books)) h) refl)
 
 left-is : (limits : Limits) (i : Identity) (s : List ℕ) (t : Tables) (c : Setup) → setupOf limits i s t ≡ ok c → writtenOut c t ≡ setupCall limits i s t .tables
 unfolding setupCall answered
@@ -115,11 +82,11 @@ unfolding lengthsOf
 lengths-reached limits i s t c e b h = book-reached limits i s t c e b h
 
 -- DEMAND 3, WHOLE
-pub demand3 : (limits : Limits) → Demand3 limits
-demand3 limits =
+pub demand3 : (limits : Limits) → Small limits → Demand3 limits
+demand3 limits small =
     record {
       lists = λ ls. balanced ls;
-      setups = λ i s t c e b h. subst (λ (u : Tables). BookDecodes limits i u b (lengthsOf c b)) (left-is limits i s t c e) (left-sound limits i s t c e b h);
+      setups = λ i s t c e b h. subst (λ (u : Tables). BookDecodes limits i u b (lengthsOf c b)) (left-is limits i s t c e) (left-sound limits i s t c small e b h);
       judged = λ i s t place ls x. judged-by-call x;
       reached = λ i s t c e b h. lengths-reached limits i s t c e b h;
       example = accepts-example;

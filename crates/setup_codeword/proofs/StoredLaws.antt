@@ -17,14 +17,13 @@ use Rattle.book_head.specs.Reading.{Before}
 use Rattle.book_reading.specs.Reading.{andThis}
 use Rattle.book_reading.specs.Rows.{bookRows, allLengths, allCodewords, andThese}
 use Rattle.book_reading.specs.Valid.{ValidBook, ValidBooks}
-use Rattle.book_reading.proofs.BooksStored.{codewords-length, row-at, these-entries, pad-fits}
+use Rattle.book_reading.proofs.BooksStored.{codewords-length, row-at, these-entries, within-entries, pad-fits}
 use Rattle.book_codeword.specs.Stored.{entriesOf, BookStored}
-use Rattle.setup.specs.Layout.{Tables, layout, writtenOut}
+use Rattle.setup.specs.Content.{lengthsOf}
+use Rattle.setup.specs.Layout.{Tables}
 use Rattle.setup.specs.Sound.{Sound}
-use Rattle.setup.proofs.RuleLaws.{sound-valid}
 use Rattle.setup.proofs.BookLinks.{noBook}
-use Rattle.setup.proofs.TableLaws.{room-parts}
-use Rattle.setup_codeword.specs.Call.{lengthsOf}
+use Rattle.setup.proofs.WrittenLaws.{SoundFacts, sound-facts}
 
 abbrev start : Before
 start = record { entries = 0; values = 0 }
@@ -79,42 +78,16 @@ valid-at limits before [] b v h = absurd (omega arith)
 valid-at limits before (x ∷ bs) zero v h = v .0
 valid-at limits before (x ∷ bs) (suc b) v h = valid-at limits (andThis before x) bs b (v .1) (omega arith)
 
--- all entries are within the limit
-entries-within : (limits : Limits) (before : Before) (bs : List Book) → ValidBooks limits before bs → before .entries ≤ limits .entries → before .entries + length (allLengths bs) ≤ limits .entries
-unfolding ValidBooks rows
-entries-within limits before [] v h = omega arith
-entries-within limits before (x ∷ bs) v h =
-    let i = entries-within limits (andThis before x) bs (v .1) (v .0 .entries-all) in
-    let a = length-append (x .lengths) (allLengths bs) in
-    omega arith
-
 module _ {limits : Limits} {channels : ℕ} {t : Tables} (sound : Sound limits channels t) where
   abbrev items : List Book
   items = sound .content .books
 
-  counts-are : t .counts ≡ pad (length (t .counts)) (layout (sound .content) .counts)
-  unfolding writtenOut
-  counts-are = ap (λ (u : Tables). u .counts) (sound .written)
+  facts : SoundFacts limits channels t (sound .content)
+  facts = sound-facts sound
 
   -- the first of the counts is that of the books
   pub book-count : getD (t .counts) 0 0 ≡ length (sound .content .books)
-  unfolding layout
-  book-count =
-      let r = room-parts limits t (sound .room) .counts in
-      ap (λ (l : List ℕ). getD l 0 0) counts-are
-      ∙ pad-get (length (t .counts)) (layout (sound .content) .counts) 0 (omega arith)
-
-  books-are : t .books ≡ pad (length (t .books)) (bookRows start items)
-  unfolding writtenOut layout
-  books-are = ap (λ (u : Tables). u .books) (sound .written)
-
-  lengths-are : t .lengths ≡ pad (length (t .lengths)) (allLengths items)
-  unfolding writtenOut layout
-  lengths-are = ap (λ (u : Tables). u .lengths) (sound .written)
-
-  codewords-are : t .codewords ≡ pad (length (t .codewords)) (allCodewords items)
-  unfolding writtenOut layout
-  codewords-are = ap (λ (u : Tables). u .codewords) (sound .written)
+  book-count = facts .written .counts .first
 
   module _ (b : ℕ) (h : b < length (sound .content .books)) where
     abbrev own : Book
@@ -122,9 +95,9 @@ module _ {limits : Limits} {channels : ℕ} {t : Tables} (sound : Sound limits c
 
     number : (column : ℕ) → column < bookWidth → numberAt (t .books) b column ≡ getD (bookRow (andThese start (take b items) .entries) (andThese start (take b items) .values) own) column 0
     number column low =
-        let r = room-parts limits t (sound .room) .books in
-        let c = sound-valid sound .book-count .high in
-        ap (λ (l : List ℕ). getD l (bookWidth * b + column) 0) books-are
+        let r = facts .room .books in
+        let c = facts .valid .book-count .high in
+        ap (λ (l : List ℕ). getD l (bookWidth * b + column) 0) (facts .written .books)
         ∙ pad-get (length (t .books)) (bookRows start items) (bookWidth * b + column) (omega arith)
         ∙ row-at start items b column noBook h low
 
@@ -147,21 +120,21 @@ module _ {limits : Limits} {channels : ℕ} {t : Tables} (sound : Sound limits c
     codewords-count = entries-are ∙ sym (codewords-length (own .lengths))
 
     fits : length (allLengths items) ≤ limits .entries
-    fits = let w = entries-within limits start items (sound-valid sound .books) (omega arith) in omega arith
+    fits = let w = within-entries limits start items (omega arith) (facts .valid .books) in omega arith
 
     own-lengths : entriesOf (t .books) b (t .lengths) ≡ own .lengths
     own-lengths =
-        let r = room-parts limits t (sound .room) .lengths in
+        let r = facts .room .lengths in
         let f = fits in
-        ap (entriesOf (t .books) b) lengths-are
+        ap (entriesOf (t .books) b) (facts .written .lengths)
         ∙ part-is (λ x. x .lengths) items b h (firstEntryAt (t .books) b) (entriesAt (t .books) b) first-is entries-are (length (t .lengths)) (omega arith)
 
     own-codewords : entriesOf (t .books) b (t .codewords) ≡ ledgerCodewords (own .lengths)
     own-codewords =
-        let r = room-parts limits t (sound .room) .codewords in
+        let r = facts .room .codewords in
         let f = fits in
         let c = codewords-long items in
-        ap (entriesOf (t .books) b) codewords-are
+        ap (entriesOf (t .books) b) (facts .written .codewords)
         ∙ part-is (λ x. ledgerCodewords (x .lengths)) items b h (firstEntryAt (t .books) b) (entriesAt (t .books) b) first-word codewords-count (length (t .codewords)) (omega arith)
 
     -- THE LENGTHS OF BOOK b IN THE TABLES are those of the content
@@ -172,10 +145,9 @@ module _ {limits : Limits} {channels : ℕ} {t : Tables} (sound : Sound limits c
     -- AND THE BOOK LIES WHOLE
     pub book-stored : BookStored (t .books) (t .lengths) (t .codewords) b
     book-stored =
-        let v = valid-at limits start items b (sound-valid sound .books) h in
-        let r = room-parts limits t (sound .room) in
-        let rl = r .lengths in
-        let rc = r .codewords in
+        let v = valid-at limits start items b (facts .valid .books) h in
+        let rl = facts .room .lengths in
+        let rc = facts .room .codewords in
         let f = fits in
         let w = part-within (λ x. x .lengths) items b h (firstEntryAt (t .books) b) (entriesAt (t .books) b) first-is entries-are in
         let high = v .entries-high in

@@ -1,29 +1,27 @@
--- THE CALL THAT READS ONE CODEWORD, by a book of tables that anyone hands in (01, "What the reader takes and gives"; "Bits and books", "Reading").
-use Prim.Native.Nat.{ℕ, _≤_, _<_}
-use mathlib.Core.List.{List, [], map}
-use mathlib.Core.Path.{_≡_}
-use lib.ListN.{length, getD}
-use Rattle.reading.specs.Outcome.{refusal, Outcome, bad}
+-- LATER CALLS, which are handed an identity and tables, each as one equation of what was handed in (01, "What the reader takes and gives"); and the one that
+-- reads one codeword (01, "Bits and books", "Reading"). A fault that no field has carries place 0: 18, and 11 of a book's number that was handed in.
+use Prim.Native.Nat.{ℕ}
+use mathlib.Core.List.{List}
+use lib.Dec.{ltb}
+use lib.ListN.{length}
+use Rattle.reading.specs.Outcome.{refusal, Outcome, need}
 use Rattle.limits.specs.declared.Limits.{Limits}
 use Rattle.identification.specs.declared.Identity.{Identity}
-use Rattle.identification.specs.Sound as I
 use Rattle.codeword.specs.Codeword.{codeword}
-use Rattle.setup.specs.Content.{Setup}
+use Rattle.setup.specs.Content.{Setup, lengthsOf}
 use Rattle.setup.specs.Layout.{Tables}
-use Rattle.setup.specs.Sound as T
+use Rattle.setup.specs.Decode.{decodeSetup}
+use Rattle.setup.specs.SoundTest.{soundTest}
 
--- book b's entry lengths, 0 for an unused entry; none for a book that is not set up
-unfoldable pub lengthsOf : Setup → ℕ → List ℕ
-lengthsOf c b = getD (map (λ x. x .lengths) (c .books)) b []
+-- EVERY LATER CALL: 18 where identity or tables are not sound; else what it answers by the content of the tables, which is one alone
+module _ {A : Type 0} where
+  unfoldable pub laterCall : Limits → Identity → Tables → (Setup → Outcome A) → Outcome A
+  laterCall limits i t answer = need (soundTest limits i t) (refusal 18 0) (answer (decodeSetup t))
 
--- identity and tables are sound (01, refusal 18)
-pub record SoundCall (limits : Limits) (i : Identity) (t : Tables) : Type 0 where
-  pub identity : I.Sound (limits .channels) i
-  pub tables : T.Sound limits (i .channels) t
+-- one codeword of book b of a content, at bit k of the packet s: 11 where no such book is set up, else the entry with the position behind it, or the cut
+unfoldable pub codewordOf : ℕ → List ℕ → ℕ → Setup → Outcome (ℕ × ℕ)
+codewordOf b s k c = need (ltb b (length (c .books))) (refusal 11 0) (codeword (lengthsOf c b) s k)
 
--- ONE CODEWORD of book b, at bit k of the packet s: 18, then 11, then the entry with the position behind it, or the cut. Nothing is read before 18
--- and 11 are judged: their place is the position that was asked for. Where 18 is not given, the content of the tables is the only one there is
-pub record CodewordCall (limits : Limits) (i : Identity) (t : Tables) (b : ℕ) (s : List ℕ) (k : ℕ) (r : Outcome (ℕ × ℕ)) : Type 0 where
-  pub unsound : (SoundCall limits i t → ⊥) → r ≡ bad (refusal 18 k)
-  pub not-set-up : (x : SoundCall limits i t) → length (x .tables .content .books) ≤ b → r ≡ bad (refusal 11 k)
-  pub read : (x : SoundCall limits i t) → b < length (x .tables .content .books) → r ≡ codeword (lengthsOf (x .tables .content) b) s k
+-- ONE CODEWORD, by tables that anyone hands in
+unfoldable pub codewordCall : Limits → Identity → Tables → ℕ → List ℕ → ℕ → Outcome (ℕ × ℕ)
+codewordCall limits i t b s k = laterCall limits i t (codewordOf b s k)

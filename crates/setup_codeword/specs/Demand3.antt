@@ -14,12 +14,12 @@ use Rattle.codespace.specs.Claims.{Balanced}
 use Rattle.codeword_assignment.specs.Book.{used, isLone, firstUsed, freeAfter, ledgerCodewords, verdict, Begins}
 use Rattle.codeword_assignment.specs.declared.book.Assigned.the-variants.{Accepted}
 use Rattle.codeword.specs.Codeword.{bitsAt}
-use Rattle.setup.specs.Content.{Setup}
+use Rattle.setup.specs.Content.{Setup, lengthsOf}
 use Rattle.setup.specs.Layout.{Tables}
 use Rattle.setup.specs.Call.{setupOf, setupCall}
 use Rattle.setup_judged.specs.Judged.{LedgerTakes, LengthsRead, JudgedByCall}
 use Rattle.setup_judged.specs.Example.{AcceptsExample}
-use Rattle.setup_codeword.specs.Call.{lengthsOf, CodewordCall}
+use Rattle.setup_codeword.specs.Call.{codewordCall}
 
 -- BOOK b OF TABLES t, whose entry lengths are ls
 pub record BookDecodes (limits : Limits) (i : Identity) (t : Tables) (b : ℕ) (ls : List ℕ) : Type 0 where
@@ -34,10 +34,9 @@ pub record BookDecodes (limits : Limits) (i : Identity) (t : Tables) (b : ℕ) (
       → (e : ℕ)
       × Begins ls (ledgerCodewords ls) string e
       × ((f : ℕ) → Begins ls (ledgerCodewords ls) string f → f ≡ e)
-      × ((s : List ℕ) (k : ℕ) → k + 32 ≤ 8 * length s → bitsAt s k 32 ≡ string
-      → (r : Outcome (ℕ × ℕ)) → CodewordCall limits i t b s k r → r ≡ ok (e, k + getD ls e 0))
+      × ((s : List ℕ) (k : ℕ) → k + 32 ≤ 8 * length s → bitsAt s k 32 ≡ string → codewordCall limits i t b s k ≡ ok (e, k + getD ls e 0))
   -- a lone entry of length one is given for every string, and takes none of its bits
-  pub lone : isLone (used ls) ≡ true → (s : List ℕ) (k : ℕ) → k ≤ 8 * length s → (r : Outcome (ℕ × ℕ)) → CodewordCall limits i t b s k r → r ≡ ok (firstUsed ls, k)
+  pub lone : isLone (used ls) ≡ true → (s : List ℕ) (k : ℕ) → k ≤ 8 * length s → codewordCall limits i t b s k ≡ ok (firstUsed ls, k)
 
 pub record Demand3 (limits : Limits) : Type 0 where
   -- every list of lengths, entered one by one from an empty space, refused ones included; `torchvalley_enter_lengths` gives these answers

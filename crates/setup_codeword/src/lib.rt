@@ -6,21 +6,22 @@ use bits::Refusal;
 use identification::Identity;
 use limits::Limits;
 use reading::buffers::get_u32;
-ghost use mathlib.Core.Bool.{true};
-ghost use mathlib.Core.Logic.{_↔_};
 ghost use mathlib.Core.Path.{_≡_};
 ghost use lib.Dec.{ltb};
 ghost use lib.ListN.{getD};
 ghost use Rattle.reading.specs.Outcome.{refusal, bad};
 ghost use Rattle.bits.specs.Cursors.{position, outcome};
-ghost use Rattle.setup.specs.Layout.{tables};
+ghost use Rattle.setup.specs.Handed.{handed};
 ghost use Rattle.setup.specs.Parts.{Small};
-ghost use Rattle.setup_codeword.specs.Call.{SoundCall, CodewordCall};
+ghost use Rattle.setup.specs.SoundTest.{soundTest, Tested};
+ghost use Rattle.setup_codeword.specs.Call.{codewordCall};
 ghost use Rattle.setup_codeword.specs.Demand3.{Demand3};
 
-fn refused(number: u8, place: Cursor) -> Field
-    ensures { λ r. ⌜ outcome r ≡ bad (refusal number (position place)) ⌝ }
+// A fault that no field has: its place is the first bit of the packet.
+fn refused(number: u8) -> Field
+    ensures { λ r. ⌜ outcome r ≡ bad (refusal number 0) ⌝ }
 {
+    let place = Cursor::start();
     Field::Refused(Refusal { number, place })
 }
 
@@ -47,7 +48,8 @@ pub fn are_sound(
     modes: &[u8],
 ) -> bool
     requires { ⌜ Small limits ⌝ }
-    ensures { λ r. ⌜ (r ≡ true) ↔ SoundCall limits identity (tables (now (counts .entry)) (now (books .entry)) (now (lengths .entry)) (now (codewords .entry)) (now (multiplicands .entry)) (now (floors .entry)) (now (residues .entry)) (now (plans .entry)) (now (mappings .entry)) (now (modes .entry))) ⌝ }
+    ensures { λ r. ⌜ r ≡ soundTest limits identity (handed counts books lengths codewords multiplicands floors residues plans mappings modes) ⌝ }
+    ensures { λ _. ⌜ Tested limits identity (handed counts books lengths codewords multiplicands floors residues plans mappings modes) ⌝ }
 {
     if !identification::sound::is_sound(identity, limits) {
         return false;
@@ -87,7 +89,9 @@ pub fn read_codeword(
     from: Cursor,
 ) -> Field
     requires { ⌜ Small limits ⌝ }
-    ensures { λ r. ⌜ CodewordCall limits identity (tables (now (counts .entry)) (now (books .entry)) (now (lengths .entry)) (now (codewords .entry)) (now (multiplicands .entry)) (now (floors .entry)) (now (residues .entry)) (now (plans .entry)) (now (mappings .entry)) (now (modes .entry))) book (now (packet .entry)) (position from) (outcome r) ⌝ }
+    ensures { λ r. ⌜ outcome r
+        ≡ codewordCall limits identity (handed counts books lengths codewords multiplicands floors residues plans mappings modes)
+        book (now (packet .entry)) (position from) ⌝ }
     ensures { λ _. ⌜ Demand3 limits ⌝ }
 {
     let sound = are_sound(
@@ -106,10 +110,10 @@ pub fn read_codeword(
     );
     let set_up = is_set_up(counts, book);
     if !sound {
-        return refused(18, from);
+        return refused(18);
     }
     if !set_up {
-        return refused(11, from);
+        return refused(11);
     }
     book_codeword::read_entry(packet, from, book, books, lengths, codewords)
 }

@@ -105,10 +105,10 @@ module _ (limits : Limits) (channels : ℕ) (cs bs ls ws vs fs rs ps ms os : Lis
       → (false ≡ true) ↔ Sound limits channels (tables cs bs ls ws vs fs rs ps ms os)
   sound-front p n = iff-false (λ s. refuted p n (sound-parts limits channels _ s .front))
 
-  pub sound-end : {b₀ b₁ b₂ b₃ : Bool} → b₀ ≡ hasRoom limits (tables cs bs ls ws vs fs rs ps ms os) → not b₀ ≡ false
+  pub sound-end : channels ≤ 255 → {b₀ b₁ b₂ b₃ : Bool} → b₀ ≡ hasRoom limits (tables cs bs ls ws vs fs rs ps ms os) → not b₀ ≡ false
       → (b₁ ≡ true) ↔ CountsRecognised cs → not b₁ ≡ false → (b₂ ≡ true) ↔ FrontRecognised limits cs bs ls ws vs fs → not b₂ ≡ false
       → (b₃ ≡ true) ↔ BackRecognised channels cs bs rs ps ms os → (b₃ ≡ true) ↔ Sound limits channels (tables cs bs ls ws vs fs rs ps ms os)
-  sound-end e₀ y₀ p₁ y₁ p₂ y₂ p₃ = (
-    (λ t. parts-sound limits channels _ (record { room = shown (room-said e₀) y₀; numbers = shown p₁ y₁; front = shown p₂ y₂; back = p₃ .0 t })),
+  sound-end few e₀ y₀ p₁ y₁ p₂ y₂ p₃ = (
+    (λ t. parts-sound limits channels _ few (record { room = shown (room-said e₀) y₀; numbers = shown p₁ y₁; front = shown p₂ y₂; back = p₃ .0 t })),
     (λ s. p₃ .1 (sound-parts limits channels _ s .back)),
   )

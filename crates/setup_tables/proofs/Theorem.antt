@@ -1,75 +1,47 @@
--- THE THEOREM: tables that stand part by part, each with its count, are the writing-out of one setup that meets every rule, and back; and that no other
--- setup shares them. Assumes nothing.
+-- THE THEOREM: tables that stand part by part, each with its count, are the writing-out of a setup that meets every rule, and back. Assumes nothing.
 use Prim.Native.Nat.{ℕ, _≤_}
 use native.Mathlib.Omega.{arith}
 use mathlib.Core.List.{List, [], _∷_}
 use mathlib.Core.Path.{_≡_, sym, ap, subst, _∙_}
 use lib.ListN.{length, getD}
-use Rattle.reading.specs.Lists.{rows}
 use Rattle.reading.specs.Pad.{pad}
-use Rattle.reading.specs.Encoding.{Each, Encodes}
-use Rattle.reading.proofs.Encodes.{rows-length, encodes-same}
+use Rattle.reading.specs.Encoding.{Each}
+use Rattle.reading.proofs.Encodes.{rows-length}
 use Rattle.limits.specs.declared.Limits.{Limits}
 use Rattle.book.specs.Content.{Book}
 use Rattle.book.specs.Layout.{booksNeed}
 use Rattle.book_head.specs.Answers.{totals}
 use Rattle.book_reading.specs.Rows.{bookRows}
-use Rattle.book_tables.specs.Recognised.{Countable, BooksRecognised}
-use Rattle.book_tables.proofs.HeldLaws as BookLaws
+use Rattle.book_tables.specs.Recognised.{BooksRecognised}
 use Rattle.floor.specs.Content.{Floor}
-use Rattle.floor.specs.Decode.{decodeFloor}
-use Rattle.floor.specs.Layout.{floorRow}
 use Rattle.floor.specs.Valid.{ValidFloor, ValidFloors}
-use Rattle.floor.proofs.Decoded.{floor-long, floor-decoded}
 use Rattle.floor_tables.specs.Recognised.{FloorsRecognised}
 use Rattle.residue.specs.Content.{Residue}
 use Rattle.residue.specs.FromTable.{booksOf}
 use Rattle.residue.specs.Reading.{Books}
 use Rattle.residue.specs.Valid.{ValidResidue, AllValid}
 use Rattle.residue_tables.specs.Recognised.{ResiduesRecognised}
-use Rattle.residue_tables.proofs.RecogniseTheorem as ResidueLaws
 use Rattle.mapping.specs.declared.Known.{Known}
 use Rattle.mapping.specs.Layout.{mappingRow}
 use Rattle.mapping.specs.Valid.{ValidMapping}
 use Rattle.mapping.proofs.RowLaws.{mapping-wide}
 use Rattle.mapping_tables.specs.Recognised.{MappingsRecognised}
-use Rattle.mapping_tables.proofs.Laws as MappingLaws
 use Rattle.mode.specs.Layout.{modeRow}
 use Rattle.mode.specs.Valid.{ValidMode}
 use Rattle.mode.specs.Recognised.{ModesRecognised}
-use Rattle.mode.proofs.Laws as ModeLaws
+use Rattle.mode.proofs.Laws.{mode-wide}
 use Rattle.setup.specs.Content.{Setup, booksKnown, known}
 use Rattle.setup.specs.Layout.{Tables, layout, writtenOut, tables}
-use Rattle.setup.specs.Parts.{Small}
 use Rattle.setup.specs.Carried.{Counted}
 use Rattle.setup.specs.Valid.{ValidSetup}
 use Rattle.setup.specs.Sound.{Sound}
-use Rattle.setup.proofs.RuleLaws.{valid-carried, valid-meets, sound-valid}
+use Rattle.setup.proofs.RuleLaws.{valid-carried, valid-meets}
 use Rattle.setup.proofs.BookLinks.{books-link}
-use Rattle.setup.proofs.TableLaws.{RoomParts, room-parts}
-use Rattle.setup_tables.specs.Recognised.{CountsRecognised, knownBy, PartsRecognised, OneContent}
-use Rattle.setup_tables.proofs.Counts.{five, five-written, Five, written-five}
-
--- each floor, each residue
-pub floors-each : (n : ℕ) (fs : List Floor) → ValidFloors n fs → Each (ValidFloor n) fs
-unfolding ValidFloors Each
-floors-each n [] v = tt
-floors-each n (f ∷ fs) v = (v .0, floors-each n fs (v .1))
-
-pub each-floors : (n : ℕ) (fs : List Floor) → Each (ValidFloor n) fs → ValidFloors n fs
-unfolding ValidFloors Each
-each-floors n [] v = tt
-each-floors n (f ∷ fs) v = (v .0, each-floors n fs (v .1))
-
-pub residues-each : (books : Books) (rs : List Residue) → AllValid books rs → Each (ValidResidue books) rs
-unfolding AllValid Each
-residues-each books [] v = tt
-residues-each books (r ∷ rs) v = (v .0, residues-each books rs (v .1))
-
-pub each-residues : (books : Books) (rs : List Residue) → Each (ValidResidue books) rs → AllValid books rs
-unfolding AllValid Each
-each-residues books [] v = tt
-each-residues books (r ∷ rs) v = (v .0, each-residues books rs (v .1))
+use Rattle.setup.proofs.TableLaws.{room-parts}
+use Rattle.setup.proofs.CountsLaws.{five, five-written}
+use Rattle.setup.proofs.EachLaws.{floors-each, each-floors, residues-each, each-residues}
+use Rattle.setup.proofs.WrittenLaws.{SoundFacts, sound-facts}
+use Rattle.setup_tables.specs.Recognised.{CountsRecognised, knownBy, PartsRecognised}
 
 -- the books as the table has them are the books of the content
 pub books-are : (count : ℕ) (t : List ℕ) (bs : List Book) → count ≡ length bs → count ≤ 256 → booksNeed ≤ length t → t ≡ pad (length t) (bookRows (totals 0 0) bs)
@@ -82,7 +54,7 @@ known-is channels cs fs rs e f = λ j. record { channels = channels; floors = e 
 
 module _ (limits : Limits) (channels : ℕ) (t : Tables) where
   -- FROM THE PARTS TO THE WHOLE
-  module _ (p : PartsRecognised limits channels t) where
+  module _ (few : channels ≤ 255) (p : PartsRecognised limits channels t) where
     abbrev whole : Setup
     whole =
         record {
@@ -152,7 +124,7 @@ module _ (limits : Limits) (channels : ℕ) (t : Tables) where
     parts-sound =
         record {
           content = whole;
-          carried = valid-carried limits channels whole whole-valid;
+          carried = valid-carried limits channels whole few whole-valid;
           rules = valid-meets limits channels whole whole-valid;
           room = p .room;
           written = whole-written;
@@ -160,104 +132,91 @@ module _ (limits : Limits) (channels : ℕ) (t : Tables) where
 
   -- FROM THE WHOLE TO THE PARTS
   module _ (s : Sound limits channels t) where
-    space : RoomParts limits t
-    space = room-parts limits t (s .room)
-
-    numbers : Five (t .counts) (length (s .content .books)) (length (s .content .floors)) (length (s .content .residues)) (length (s .content .mappings)) (length (s .content .modes))
-    unfolding writtenOut layout
-    numbers = written-five (t .counts) _ _ _ _ _ (space .counts) (ap (λ (u : Tables). u .counts) (s .written))
+    facts : SoundFacts limits channels t (s .content)
+    facts = sound-facts s
 
     counts-recognised : CountsRecognised (t .counts)
     counts-recognised =
         record {
-          books = subst (Counted 256) (sym (numbers .first)) (sound-valid s .book-count);
-          floors = subst (Counted 64) (sym (numbers .second)) (sound-valid s .floor-count);
-          residues = subst (Counted 64) (sym (numbers .third)) (sound-valid s .residue-count);
-          mappings = subst (Counted 64) (sym (numbers .fourth)) (sound-valid s .mapping-count);
-          modes = subst (Counted 64) (sym (numbers .fifth)) (sound-valid s .mode-count);
-          zeros = numbers .after;
+          books = subst (Counted 256) (sym (facts .written .counts .first)) (facts .valid .book-count);
+          floors = subst (Counted 64) (sym (facts .written .counts .second)) (facts .valid .floor-count);
+          residues = subst (Counted 64) (sym (facts .written .counts .third)) (facts .valid .residue-count);
+          mappings = subst (Counted 64) (sym (facts .written .counts .fourth)) (facts .valid .mapping-count);
+          modes = subst (Counted 64) (sym (facts .written .counts .fifth)) (facts .valid .mode-count);
+          zeros = facts .written .counts .after;
         }
 
-    book-rows-written : t .books ≡ pad (length (t .books)) (bookRows (totals 0 0) (s .content .books))
-    unfolding writtenOut layout
-    book-rows-written = ap (λ (u : Tables). u .books) (s .written)
-
     books-recognised : BooksRecognised limits (getD (t .counts) 0 0) (t .books) (t .lengths) (t .codewords) (t .multiplicands)
-    unfolding writtenOut layout
     books-recognised =
         record {
-          books-room = space .books;
-          lengths-room = space .lengths;
-          codewords-room = space .codewords;
-          multiplicands-room = space .multiplicands;
+          books-room = facts .room .books;
+          lengths-room = facts .room .lengths;
+          codewords-room = facts .room .codewords;
+          multiplicands-room = facts .room .multiplicands;
           content = s .content .books;
-          counted = sym (numbers .first);
-          valid = sound-valid s .books;
-          book-rows = book-rows-written;
-          all-lengths = ap (λ (u : Tables). u .lengths) (s .written);
-          all-codewords = ap (λ (u : Tables). u .codewords) (s .written);
-          all-multiplicands = ap (λ (u : Tables). u .multiplicands) (s .written);
+          counted = sym (facts .written .counts .first);
+          valid = facts .valid .books;
+          book-rows = facts .written .books;
+          all-lengths = facts .written .lengths;
+          all-codewords = facts .written .codewords;
+          all-multiplicands = facts .written .multiplicands;
         }
 
     floors-recognised : FloorsRecognised (getD (t .counts) 0 0) (getD (t .counts) 1 0) (t .floors)
-    unfolding writtenOut layout
     floors-recognised =
         record {
-          room = space .floors;
+          room = facts .room .floors;
           content = s .content .floors;
-          counted = sym (numbers .second);
-          valid = subst (λ (n : ℕ). ValidFloors n (s .content .floors)) (sym (numbers .first)) (each-floors _ _ (sound-valid s .floors));
-          written = ap (λ (u : Tables). u .floors) (s .written);
+          counted = sym (facts .written .counts .second);
+          valid = subst (λ (n : ℕ). ValidFloors n (s .content .floors)) (sym (facts .written .counts .first)) (each-floors _ _ (facts .valid .floors));
+          written = facts .written .floors;
         }
 
     books-known : booksOf (getD (t .counts) 0 0) (t .books) ≡ booksKnown (s .content .books)
     books-known =
-        books-are (getD (t .counts) 0 0) (t .books) (s .content .books) (numbers .first) (counts-recognised .books .high) (space .books) book-rows-written
+        books-are (getD (t .counts) 0 0) (t .books) (s .content .books) (facts .written .counts .first) (counts-recognised .books .high) (facts .room .books) (facts .written .books)
 
     residues-recognised : ResiduesRecognised (booksOf (getD (t .counts) 0 0) (t .books)) (getD (t .counts) 2 0) (t .residues) (t .plans)
-    unfolding writtenOut layout
     residues-recognised =
         record {
-          room = space .residues;
-          room-plans = space .plans;
+          room = facts .room .residues;
+          room-plans = facts .room .plans;
           content = s .content .residues;
           holds = record {
-            count = sym (numbers .third);
-            valid = subst (λ (k : Books). AllValid k (s .content .residues)) (sym books-known) (each-residues _ _ (sound-valid s .residues));
-            head-rows = ap (λ (u : Tables). u .residues) (s .written);
-            plan-rows = ap (λ (u : Tables). u .plans) (s .written);
+            count = sym (facts .written .counts .third);
+            valid = subst (λ (k : Books). AllValid k (s .content .residues)) (sym books-known) (each-residues _ _ (facts .valid .residues));
+            head-rows = facts .written .residues;
+            plan-rows = facts .written .plans;
           };
         }
 
     mappings-recognised : MappingsRecognised (knownBy channels (t .counts)) (getD (t .counts) 3 0) (t .mappings)
-    unfolding writtenOut layout
     mappings-recognised =
         let long = rows-length mappingRow (ValidMapping (knownBy channels (t .counts))) 804 mapping-wide (s .content .mappings) in
-        let few = sound-valid s .mapping-count .high in
-        let room = space .mappings in
+        let few = facts .valid .mapping-count .high in
+        let room = facts .room .mappings in
         record {
           items = s .content .mappings;
-          number = sym (numbers .fourth);
+          number = sym (facts .written .counts .fourth);
           valid =
               subst (λ (k : Known). Each (ValidMapping k) (s .content .mappings))
-              (sym (known-is channels (t .counts) (s .content .floors) (s .content .residues) (numbers .second) (numbers .third)))
-              (sound-valid s .mappings);
+              (sym (known-is channels (t .counts) (s .content .floors) (s .content .residues) (facts .written .counts .second) (facts .written .counts .third)))
+              (facts .valid .mappings);
           fits = omega arith;
-          written = ap (λ (u : Tables). u .mappings) (s .written);
+          written = facts .written .mappings;
         }
 
     modes-recognised : ModesRecognised (getD (t .counts) 3 0) (getD (t .counts) 4 0) (t .modes)
-    unfolding writtenOut layout
     modes-recognised =
-        let long = rows-length modeRow (ValidMode (getD (t .counts) 3 0)) 2 ModeLaws.mode-wide (s .content .modes) in
-        let few = sound-valid s .mode-count .high in
-        let room = space .modes in
+        let long = rows-length modeRow (ValidMode (getD (t .counts) 3 0)) 2 mode-wide (s .content .modes) in
+        let few = facts .valid .mode-count .high in
+        let room = facts .room .modes in
         record {
           items = s .content .modes;
-          number = sym (numbers .fifth);
-          valid = subst (λ (n : ℕ). Each (ValidMode n) (s .content .modes)) (sym (numbers .fourth)) (sound-valid s .modes);
+          number = sym (facts .written .counts .fifth);
+          valid = subst (λ (n : ℕ). Each (ValidMode n) (s .content .modes)) (sym (facts .written .counts .fourth)) (facts .valid .modes);
           fits = omega arith;
-          written = ap (λ (u : Tables). u .modes) (s .written);
+          written = facts .written .modes;
         }
 
     pub sound-parts : PartsRecognised limits channels t
@@ -268,34 +227,3 @@ module _ (limits : Limits) (channels : ℕ) (t : Tables) where
           front = record { book-tables = books-recognised; floor-table = floors-recognised };
           back = record { residue-tables = residues-recognised; mapping-table = mappings-recognised; mode-table = modes-recognised };
         }
-
--- floors as the other rows
-floors-rows : (books n : ℕ) (t : List ℕ) (s : FloorsRecognised books n t) → n ≤ 64 → Encodes floorRow (ValidFloor books) n t
-floors-rows books n t s few =
-    let long = rows-length floorRow (ValidFloor books) 277 floor-long (s .content) in
-    let room = s .room in
-    let number = s .counted in
-    record { items = s .content; number = s .counted; valid = floors-each books (s .content) (s .valid); fits = omega arith; written = s .written }
-
--- ONE WRITING-OUT, ONE CONTENT
-pub one-content : (limits : Limits) (channels : ℕ) (t : Tables) → Small limits → channels ≤ 255 → OneContent limits channels t
-unfolding sound-parts books-recognised floors-recognised floors-rows residues-recognised mappings-recognised modes-recognised
-one-content limits channels t small few =
-    record {
-      same = λ x y.
-          let p = sound-parts limits channels t x in
-          let q = sound-parts limits channels t y in
-          let asked : Countable limits (getD (t .counts) 0 0) = record { few-books = p .numbers .books .high; few-entries = small .few-entries; few-values = small .few-values } in
-          let books = BookLaws.one-content limits (getD (t .counts) 0 0) (t .books) (t .lengths) (t .codewords) (t .multiplicands) asked in
-          let residues = ResidueLaws.one-content (booksOf (getD (t .counts) 0 0) (t .books)) (getD (t .counts) 2 0) (t .residues) (t .plans) (p .numbers .residues .high) in
-          let b : x .content .books ≡ y .content .books = books .decoded (p .front .book-tables) ∙ sym (books .decoded (q .front .book-tables)) in
-          let f : x .content .floors ≡ y .content .floors =
-          encodes-same floorRow (ValidFloor (getD (t .counts) 0 0)) 277 floor-long decodeFloor (floor-decoded (getD (t .counts) 0 0)) (getD (t .counts) 1 0) (t .floors)
-          (floors-rows (getD (t .counts) 0 0) (getD (t .counts) 1 0) (t .floors) (p .front .floor-table) (p .numbers .floors .high))
-          (floors-rows (getD (t .counts) 0 0) (getD (t .counts) 1 0) (t .floors) (q .front .floor-table) (q .numbers .floors .high)) in
-          let r : x .content .residues ≡ y .content .residues = residues .decoded (p .back .residue-tables) ∙ sym (residues .decoded (q .back .residue-tables)) in
-          let m : x .content .mappings ≡ y .content .mappings =
-          MappingLaws.one-content (knownBy channels (t .counts)) (getD (t .counts) 3 0) (t .mappings) (omega arith) (p .back .mapping-table) (q .back .mapping-table) in
-          let o : x .content .modes ≡ y .content .modes = ModeLaws.one-content (getD (t .counts) 3 0) (getD (t .counts) 4 0) (t .modes) (p .back .mode-table) (q .back .mode-table) in
-          λ j. record { books = b j; floors = f j; residues = r j; mappings = m j; modes = o j };
-    }

@@ -1,5 +1,5 @@
 -- What the tables of a setup are tested for, table by table, with the counts that the first one gives (docs/TABLES.md); proofs/Theorem shows that all of it
--- together is `Sound` of the crate setup, no more and no less. And that sound tables are the writing-out of one content alone.
+-- together is `Sound` of the crate setup, no more and no less.
 use Prim.Native.Nat.{ℕ}
 use mathlib.Core.Bool.{true}
 use mathlib.Core.List.{List}
@@ -16,7 +16,6 @@ use Rattle.mapping_tables.specs.Recognised.{MappingsRecognised}
 use Rattle.mode.specs.Recognised.{ModesRecognised}
 use Rattle.setup.specs.Layout.{Tables, hasRoom}
 use Rattle.setup.specs.Carried.{Counted}
-use Rattle.setup.specs.Sound.{Sound}
 
 -- how many books, floors, residues, mappings and modes there are, each as its field can carry it; zeros behind them (003, 4.2.4)
 pub record CountsRecognised (counts : List ℕ) : Type 0 where
@@ -48,7 +47,3 @@ pub record PartsRecognised (limits : Limits) (channels : ℕ) (t : Tables) : Typ
   pub numbers : CountsRecognised (t .counts)
   pub front : FrontRecognised limits (t .counts) (t .books) (t .lengths) (t .codewords) (t .multiplicands) (t .floors)
   pub back : BackRecognised channels (t .counts) (t .books) (t .residues) (t .plans) (t .mappings) (t .modes)
-
--- one writing-out, one content: sound tables have no two (01, "What the reader takes and gives")
-pub record OneContent (limits : Limits) (channels : ℕ) (t : Tables) : Type 0 where
-  pub same : (x y : Sound limits channels t) → x .content ≡ y .content

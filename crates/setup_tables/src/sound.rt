@@ -5,10 +5,9 @@ ghost use mathlib.Core.Bool.{true};
 ghost use mathlib.Core.Logic.{_↔_};
 ghost use mathlib.Core.Path.{_≡_};
 ghost use Prim.Native.Nat.{_≤_};
-ghost use Rattle.setup.specs.Layout.{tables};
+ghost use Rattle.setup.specs.Handed.{handed};
 ghost use Rattle.setup.specs.Parts.{Small};
-ghost use Rattle.setup.specs.Sound.{Sound};
-ghost use Rattle.setup_tables.specs.Recognised.{OneContent};
+ghost use Rattle.setup.specs.Sound.{Sound, OneContent};
 
 // Whether the tables are the writing-out of some setup that meets every rule for so many channels.
 pub fn are_sound(
@@ -26,8 +25,8 @@ pub fn are_sound(
     modes: &[u8],
 ) -> bool
     requires { ⌜ Small limits × (channels ≤ 255) ⌝ }
-    ensures { λ r. ⌜ (r ≡ true) ↔ Sound limits channels (tables (now (counts .entry)) (now (books .entry)) (now (lengths .entry)) (now (codewords .entry)) (now (multiplicands .entry)) (now (floors .entry)) (now (residues .entry)) (now (plans .entry)) (now (mappings .entry)) (now (modes .entry))) ⌝ }
-    ensures { λ _. ⌜ OneContent limits channels (tables (now (counts .entry)) (now (books .entry)) (now (lengths .entry)) (now (codewords .entry)) (now (multiplicands .entry)) (now (floors .entry)) (now (residues .entry)) (now (plans .entry)) (now (mappings .entry)) (now (modes .entry))) ⌝ }
+    ensures { λ r. ⌜ (r ≡ true) ↔ Sound limits channels (handed counts books lengths codewords multiplicands floors residues plans mappings modes) ⌝ }
+    ensures { λ _. ⌜ OneContent (handed counts books lengths codewords multiplicands floors residues plans mappings modes) ⌝ }
 {
     if !setup_buffers::have_room(
         limits,

@@ -1,27 +1,29 @@
 -- The front door's calls for a setup, at the standard limits, as the code asks them. Assumes nothing.
-use Prim.Native.Nat.{ℕ, _+_, _*_, _≤_}
+use Prim.Native.Nat.{ℕ, _*_, _^_, _/_, _%_, _≤_, _<_}
 use native.Mathlib.Omega.{arith}
 use borrow.Author.Needs.{needs}
-use mathlib.Core.Bool.{Bool, true}
+use mathlib.Core.Bool.{Bool}
 use mathlib.Core.List.{List}
-use mathlib.Core.Logic.{_↔_}
 use mathlib.Core.Path.{_≡_, refl, sym, ap, subst, _∙_}
+use lib.ListN.{length}
 use Rattle.reading.specs.Outcome.{Outcome, ok, bad}
 use Rattle.bits.specs.declared.Cursor.{Cursor}
 use Rattle.bits.specs.declared.Refusal.{Refusal}
 use Rattle.bits.specs.declared.Field.{Field}
 use Rattle.bits.specs.declared.Field.the-variants.{Value, Refused}
-use Rattle.bits.specs.Cursors.{position, refusalOf, outcome}
+use Rattle.bits.specs.Cursors.{position, outcome}
 use Rattle.limits.specs.declared.Limits.{Limits}
 use Rattle.identification.specs.declared.Identity.{Identity}
 use Rattle.setup.specs.Layout.{Tables}
 use Rattle.setup.specs.Call.{Left, setupCall}
 use Rattle.setup.specs.Accepted.{AcceptedSound}
 use Rattle.setup.specs.Parts.{Small}
-use Rattle.setup_codeword.specs.Call.{SoundCall, CodewordCall}
+use Rattle.setup.specs.SoundTest.{soundTest, Tested}
+use Rattle.setup_codeword.specs.Call.{codewordCall}
 use Rattle.setup_codeword.specs.Demand3.{Demand3}
+use Rattle.setup_codeword.proofs.CallLaws.{call-within}
 use Rattle.torchvalley.specs.Standard.{standard}
-use Rattle.torchvalley.specs.Codeword.{Says, CodewordAnswered}
+use Rattle.torchvalley.specs.Codeword.{codewordAnswer, Addressable}
 use Rattle.torchvalley.specs.declared.tables.CodewordAnswer.{CodewordAnswer}
 
 -- what `standard` answers is the standard
@@ -35,25 +37,36 @@ module _ {l : Limits} (e : (l .channels ≡ 8) × (l .«book_entries» ≡ 8192)
   pub setup-standard : {i : Identity} {s : List ℕ} {t : Tables} {r : Left} → (r ≡ setupCall l i s t) × AcceptedSound l i s t → (r ≡ setupCall standard i s t) × AcceptedSound standard i s t
   setup-standard {i} {s} {t} {r} p = subst (λ (x : Limits). (r ≡ setupCall x i s t) × AcceptedSound x i s t) same p
 
-  pub sound-standard : {i : Identity} {t : Tables} {r : Bool} → (r ≡ true) ↔ SoundCall l i t → (r ≡ true) ↔ SoundCall standard i t
-  sound-standard {i} {t} {r} p = subst (λ (x : Limits). (r ≡ true) ↔ SoundCall x i t) same p
+  pub sound-standard : {i : Identity} {t : Tables} {r : Bool} → (r ≡ soundTest l i t) × Tested l i t → (r ≡ soundTest standard i t) × Tested standard i t
+  sound-standard {i} {t} {r} p = subst (λ (x : Limits). (r ≡ soundTest x i t) × Tested x i t) same p
 
-  pub demand-standard : Demand3 l → Demand3 standard
-  demand-standard p = subst Demand3 same p
+  -- one codeword: the call's outcome under the standard limits, and what is answered of it
+  pub codeword-standard : (i : Identity) (t : Tables) (b k : ℕ) (s : List ℕ) (f : Field) {r : CodewordAnswer} → (outcome f ≡ codewordCall l i t b s k) × Demand3 l
+      → r ≡ codewordAnswer (outcome f) → (r ≡ codewordAnswer (codewordCall standard i t b s k)) × Demand3 standard
+  codeword-standard i t b k s f {r} p e =
+      subst (λ (x : Limits). (r ≡ codewordAnswer (codewordCall x i t b s k)) × Demand3 x) same (e ∙ ap codewordAnswer (p .0), p .1)
 
-  pub codeword-standard : {i : Identity} {t : Tables} {b k : ℕ} {s : List ℕ} (f : Field) {r : CodewordAnswer} → CodewordCall l i t b s k (outcome f) → Says (outcome f) r → CodewordAnswered standard i t b s k r
-  codeword-standard {i} {t} {b} {k} {s} f call says = record { outcome = outcome f; call = subst (λ (x : Limits). CodewordCall x i t b s k (outcome f)) same call; says = says }
+-- a codeword that was read lies in its packet, so the place behind it can be counted in bytes
+addressable-ok : (o : Outcome (ℕ × ℕ)) (n : ℕ) → n < 2 ^ 64 → ((x : ℕ × ℕ) → o ≡ ok x → x .1 ≤ 8 * n) → Addressable o
+unfolding Addressable
+addressable-ok (ok x) n h w = let y = w x refl in omega arith
+addressable-ok (bad z) n h w = tt
+
+pub call-addressable : {l : Limits} (i : Identity) (t : Tables) (b k : ℕ) (s : List ℕ) (f : Field) → (outcome f ≡ codewordCall l i t b s k) × Demand3 l → length s < 2 ^ 64 → Addressable (outcome f)
+call-addressable {l} i t b k s f p h = addressable-ok (outcome f) (length s) h (λ x e. call-within l i t b s k x (sym (p .0) ∙ e))
 
 -- what the answer of one codeword says
 module _ (f : Field) where
-  pub says-refused : {z : Refusal} {n : ℕ} → f ≡ Refused z → n ≡ z .number → Says (outcome f) (record { refusal = n; entry = 0; byte = 0; bit = 0 })
-  unfolding outcome Says
-  says-refused {z} {n} q h = rw q (λ j. record { refusal = h j; entry = 0; byte = 0; bit = 0 })
+  pub answer-refused : {z : Refusal} {n : ℕ} → f ≡ Refused z → n ≡ z .number → record { refusal = n; entry = 0; byte = 0; bit = 0 } ≡ codewordAnswer (outcome f)
+  unfolding outcome codewordAnswer
+  answer-refused {z} {n} q h = rw q (λ j. record { refusal = h j; entry = 0; byte = 0; bit = 0 })
 
-  pub says-read : {v : ℕ} {c : Cursor} → f ≡ Value v c → Says (outcome f) (record { refusal = 0; entry = v; byte = c .byte; bit = c .bit })
-  unfolding outcome Says
-  says-read {v} {c} q = rw q (refl, refl, refl)
+  pub answer-read : {v byte bit : ℕ} {c : Cursor} → f ≡ Value v c → byte ≡ position c / 8 → bit ≡ position c % 8 → record { refusal = 0; entry = v; byte = byte; bit = bit } ≡ codewordAnswer (outcome f)
+  unfolding outcome codewordAnswer
+  answer-read {v} {byte} {bit} {c} q h g = rw q (λ j. record { refusal = 0; entry = v; byte = h j; bit = g j })
 
-pub ruleset setup-laws = (needs, small, setup-standard, sound-standard, demand-standard, codeword-standard)
+  pub place-addressable : {v : ℕ} {c : Cursor} → f ≡ Value v c → Addressable (outcome f) → position c ≤ 8 * 18446744073709551615
+  unfolding outcome Addressable
+  place-addressable q h = rw q at h
 
-pub ruleset says-laws = (needs, says-refused, says-read)
+pub ruleset answer-laws = (needs, answer-refused, answer-read, place-addressable)

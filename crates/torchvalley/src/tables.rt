@@ -4,17 +4,16 @@ use bits::Field;
 use identification::Identity;
 use limits::Limits;
 ghost use mathlib.Core.Path.{_≡_};
-ghost use mathlib.Core.Bool.{true};
-ghost use mathlib.Core.Logic.{_↔_};
-ghost use Prim.Native.Nat.{_+_, _*_};
-ghost use Rattle.setup.specs.Layout.{tables};
+ghost use Prim.Native.Nat.{_+_, _*_, _/_, _%_, _≤_};
+ghost use Rattle.setup.specs.Handed.{handed, leftIn};
+ghost use Rattle.setup.specs.SoundTest.{soundTest, Tested};
 ghost use Rattle.setup.specs.Call.{left, setupCall};
 ghost use Rattle.setup.specs.Accepted.{AcceptedSound};
-ghost use Rattle.setup_codeword.specs.Call.{SoundCall};
+ghost use Rattle.setup_codeword.specs.Call.{codewordCall};
 ghost use Rattle.setup_codeword.specs.Demand3.{Demand3};
 ghost use Rattle.torchvalley.specs.Standard.{standard};
-ghost use Rattle.bits.specs.Cursors.{outcome};
-ghost use Rattle.torchvalley.specs.Codeword.{Says, CodewordAnswered};
+ghost use Rattle.bits.specs.Cursors.{position, outcome};
+ghost use Rattle.torchvalley.specs.Codeword.{codewordAnswer, Addressable};
 
 // Reads a setup packet into the lent tables, under 01's limits. 0 where it is accepted: the tables hold its content, and zeros behind it. Else the
 // number of the refusal, and every table is all zero.
@@ -33,8 +32,10 @@ pub extern "C" fn torchvalley_setup(
     mappings: &mut [u8],
     modes: &mut [u8],
 ) -> u32
-    ensures { λ r. ⌜ left r (tables (now (counts .exit)) (now (books .exit)) (now (lengths .exit)) (now (codewords .exit)) (now (multiplicands .exit)) (now (floors .exit)) (now (residues .exit)) (now (plans .exit)) (now (mappings .exit)) (now (modes .exit))) ≡ setupCall standard identity (now (packet .entry)) (tables (now (counts .entry)) (now (books .entry)) (now (lengths .entry)) (now (codewords .entry)) (now (multiplicands .entry)) (now (floors .entry)) (now (residues .entry)) (now (plans .entry)) (now (mappings .entry)) (now (modes .entry))) ⌝ }
-    ensures { λ _. ⌜ AcceptedSound standard identity (now (packet .entry)) (tables (now (counts .entry)) (now (books .entry)) (now (lengths .entry)) (now (codewords .entry)) (now (multiplicands .entry)) (now (floors .entry)) (now (residues .entry)) (now (plans .entry)) (now (mappings .entry)) (now (modes .entry))) ⌝ }
+    ensures { λ r. ⌜ left r (leftIn counts books lengths codewords multiplicands floors residues plans mappings modes)
+        ≡ setupCall standard identity (now (packet .entry)) (handed counts books lengths codewords multiplicands floors residues plans mappings modes) ⌝ }
+    ensures { λ _. ⌜ AcceptedSound standard identity (now (packet .entry))
+        (handed counts books lengths codewords multiplicands floors residues plans mappings modes) ⌝ }
 {
     setup_call::read_setup(
         packet,
@@ -68,7 +69,8 @@ pub extern "C" fn torchvalley_setup_sound(
     mappings: &[u8],
     modes: &[u8],
 ) -> bool
-    ensures { λ r. ⌜ (r ≡ true) ↔ SoundCall standard identity (tables (now (counts .entry)) (now (books .entry)) (now (lengths .entry)) (now (codewords .entry)) (now (multiplicands .entry)) (now (floors .entry)) (now (residues .entry)) (now (plans .entry)) (now (mappings .entry)) (now (modes .entry))) ⌝ }
+    ensures { λ r. ⌜ r ≡ soundTest standard identity (handed counts books lengths codewords multiplicands floors residues plans mappings modes) ⌝ }
+    ensures { λ _. ⌜ Tested standard identity (handed counts books lengths codewords multiplicands floors residues plans mappings modes) ⌝ }
 {
     setup_codeword::are_sound(
         identity,
@@ -91,15 +93,38 @@ pub extern "C" fn torchvalley_setup_sound(
 pub struct CodewordAnswer {
     // 0 where a codeword was read, else 01's number of the refusal; all else is zero then.
     pub refusal: u32,
-    // The entry that was read, and the place behind its codeword.
+    // The entry that was read.
     pub entry: u32,
+    // The place behind its codeword: the byte, and the bit in it, 0 to 7.
     pub byte: usize,
     pub bit: u8,
 }
 
+fn wide(x: u8) -> usize
+    ensures { λ r. ⌜ r ≡ x ⌝ }
+{
+    x as usize
+}
+
+// The byte that a place lies in: a bit above 7 counts on into the next ones.
+fn byte_of(place: Cursor) -> usize
+    requires { ⌜ position place ≤ 8 * 18446744073709551615 ⌝ }
+    ensures { λ r. ⌜ r ≡ position place / 8 ⌝ }
+{
+    place.byte + wide(place.bit / 8)
+}
+
+// And its bit there.
+fn bit_of(place: Cursor) -> u8
+    ensures { λ r. ⌜ r ≡ position place % 8 ⌝ }
+{
+    place.bit % 8
+}
+
 // 0, the entry and the place behind its codeword; or the number of the refusal alone.
 fn codeword_answer(read: Field) -> CodewordAnswer
-    ensures { λ r. ⌜ Says (outcome read) r ⌝ }
+    requires { ⌜ Addressable (outcome read) ⌝ }
+    ensures { λ r. ⌜ r ≡ codewordAnswer (outcome read) ⌝ }
 {
     match read {
         Field::Refused(refusal) => CodewordAnswer {
@@ -111,8 +136,8 @@ fn codeword_answer(read: Field) -> CodewordAnswer
         Field::Value(entry, next) => CodewordAnswer {
             refusal: 0,
             entry,
-            byte: next.byte,
-            bit: next.bit,
+            byte: byte_of(next),
+            bit: bit_of(next),
         },
     }
 }
@@ -136,7 +161,9 @@ pub extern "C" fn torchvalley_codeword(
     byte: usize,
     bit: u8,
 ) -> CodewordAnswer
-    ensures { λ r. ⌜ CodewordAnswered standard identity (tables (now (counts .entry)) (now (books .entry)) (now (lengths .entry)) (now (codewords .entry)) (now (multiplicands .entry)) (now (floors .entry)) (now (residues .entry)) (now (plans .entry)) (now (mappings .entry)) (now (modes .entry))) book (now (packet .entry)) (8 * byte + bit) r ⌝ }
+    ensures { λ r. ⌜ r ≡ codewordAnswer
+        (codewordCall standard identity (handed counts books lengths codewords multiplicands floors residues plans mappings modes)
+        book (now (packet .entry)) (8 * byte + bit)) ⌝ }
     ensures { λ _. ⌜ Demand3 standard ⌝ }
 {
     let read = setup_codeword::read_codeword(

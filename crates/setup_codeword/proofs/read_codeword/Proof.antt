@@ -14,19 +14,19 @@ refused-requires : tie.Need-refused-requires
 refused-requires c κs = search needs
 
 returns : tie.Need-returns
-returns c = call-unsound (c .before .before .before .are-sound .ensures) _ _ _ (c .before .if1 .taken) (c .refused .ensures)
+returns c = call-unsound (search needs) (c .before .before .before .are-sound .ensures .1) (c .before .before .before .are-sound .ensures .0) _ _ _ (c .before .if1 .taken) (c .refused .ensures)
 
 refused-requires-2 : tie.Need-refused-requires-2
 refused-requires-2 c κs = search needs
 
 returns-2 : tie.Need-returns-2
-returns-2 c = call-not-there (c .before .before .before .before .are-sound .ensures) _ _ _ (c .before .before .if1 .left) (c .before .before .before .is-set-up .ensures) (c .before .if2 .taken) (c .refused2 .ensures)
+returns-2 c = call-not-there (search needs) (c .before .before .before .before .are-sound .ensures .1) (c .before .before .before .before .are-sound .ensures .0) _ _ _ (c .before .before .if1 .left) (c .before .before .before .is-set-up .ensures) (c .before .if2 .taken) (c .refused2 .ensures)
 
 read-entry-requires : tie.Need-read-entry-requires
-read-entry-requires c κs = call-stored (c .before .before .before .are-sound .ensures) (c .before .if1 .left) _ (c .before .before .is-set-up .ensures) (c .if2 .left)
+read-entry-requires c κs = call-stored (c .before .before .before .are-sound .ensures .1) (c .before .before .before .are-sound .ensures .0) (c .before .if1 .left) _ (c .before .before .is-set-up .ensures) (c .if2 .left)
 
 returns-3 : tie.Need-returns-3
-returns-3 c = call-read (c .before .before .before .before .are-sound .ensures) _ _ _ (c .before .before .if1 .left) (c .before .before .before .is-set-up .ensures) (c .before .if2 .left) (c .read-entry .ensures)
+returns-3 c = call-read (search needs) (c .before .before .before .before .are-sound .ensures .1) (c .before .before .before .before .are-sound .ensures .0) _ _ _ (c .before .before .if1 .left) (c .before .before .before .is-set-up .ensures) (c .before .if2 .left) (c .read-entry .ensures)
 
 pub read-codeword-spec : {M : Type 1} → statement M
 read-codeword-spec =
