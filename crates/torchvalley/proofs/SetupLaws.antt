@@ -1,5 +1,5 @@
 -- The front door's calls for a setup, at the standard limits, as the code asks them. Assumes nothing.
-use Prim.Native.Nat.{ℕ, _*_, _^_, _/_, _%_, _≤_, _<_}
+use Prim.Native.Nat.{ℕ, _+_, _*_, _^_, _/_, _%_, _≤_, _<_}
 use native.Mathlib.Omega.{arith}
 use borrow.Author.Needs.{needs}
 use mathlib.Core.Bool.{Bool}
@@ -54,6 +54,13 @@ addressable-ok (bad z) n h w = tt
 
 pub call-addressable : {l : Limits} (i : Identity) (t : Tables) (b k : ℕ) (s : List ℕ) (f : Field) → (outcome f ≡ codewordCall l i t b s k) × Demand3 l → length s < 2 ^ 64 → Addressable (outcome f)
 call-addressable {l} i t b k s f p h = addressable-ok (outcome f) (length s) h (λ x e. call-within l i t b s k x (sym (p .0) ∙ e))
+
+-- byte and bit of a place
+pub byte-is : (byte bit : ℕ) {w : ℕ} → w ≡ bit / 8 → byte + w ≡ (8 * byte + bit) / 8
+byte-is byte bit e = omega arith
+
+pub bit-is : (byte bit : ℕ) → bit % 8 ≡ (8 * byte + bit) % 8
+bit-is byte bit = omega arith
 
 -- what the answer of one codeword says
 module _ (f : Field) where
