@@ -82,7 +82,7 @@ module _ (limits : Limits) (n entries values : ℕ) (rs ls ws ms : List ℕ) (ro
   -- one book more: it meets the rules, and the others are held behind it
   pub left-first : BooksLeft limits (suc n) entries values rs ls ws ms → BookRules limits entries values (rowOf rs) ls ws ms × After limits n entries values (rowOf rs) rs ls ws ms
   unfolding bookRows rows ValidBooks
-  left-first left = go (left .content) (left .counted) (left .valid) (left .book-rows) (left .all-lengths) (left .all-codewords) (left .all-multiplicands)
+  left-first books = go (books .content) (books .counted) (books .valid) (books .book-rows) (books .all-lengths) (books .all-codewords) (books .all-multiplicands)
     where
       go : (bs : List Book) → length bs ≡ suc n → ValidBooks limits (totals entries values) bs → rs ≡ pad (length rs) (bookRows (totals entries values) bs)
           → ls ≡ pad (length ls) (allLengths bs) → ws ≡ pad (length ws) (allCodewords bs) → ms ≡ pad (length ms) (allMultiplicands bs)
@@ -117,7 +117,7 @@ module _ (limits : Limits) (n entries values : ℕ) (rs ls ws ms : List ℕ) (ro
 
   pub left-cons : BookRules limits entries values (rowOf rs) ls ws ms → After limits n entries values (rowOf rs) rs ls ws ms → BooksLeft limits (suc n) entries values rs ls ws ms
   unfolding bookRows rows ValidBooks
-  left-cons r left =
+  left-cons r others =
       let b : Book = bookOf (rowOf rs) ls ms in
       let r₁ = room .rows-room in
       let r₂ = room .lengths-room in
@@ -128,17 +128,17 @@ module _ (limits : Limits) (n entries values : ℕ) (rs ls ws ms : List ℕ) (ro
       let l₁ : length (take (getD rs 1 0) ls) ≡ getD rs 1 0 = lengths-long limits entries values (rowOf rs) ls ws ms r₂ r₄ r in
       let l₂ : length (take (getD rs 8 0) ms) ≡ getD rs 8 0 = values-long limits entries values (rowOf rs) ls ws ms r₂ r₄ r in
       let l₃ : length (ledgerCodewords (take (getD rs 1 0) ls)) ≡ getD rs 1 0 = codewords-length (take (getD rs 1 0) ls) ∙ l₁ in
-      let rest : bookRows (totals (entries + getD rs 1 0) (values + getD rs 8 0)) (left .content) ≡ bookRows (andThis (totals entries values) b) (left .content) = rw (l₁, l₂) in
+      let rest : bookRows (totals (entries + getD rs 1 0) (values + getD rs 8 0)) (others .content) ≡ bookRows (andThis (totals entries values) b) (others .content) = rw (l₁, l₂) in
       record {
-        content = b ∷ left .content;
-        counted = ap suc (left .counted);
-        valid = (rules-valid limits entries values (rowOf rs) ls ws ms r₂ r₄ r, rw (l₁, l₂) (left .valid));
+        content = b ∷ others .content;
+        counted = ap suc (others .counted);
+        valid = (rules-valid limits entries values (rowOf rs) ls ws ms r₂ r₄ r, rw (l₁, l₂) (others .valid));
         book-rows =
             join bookWidth rs (bookRow entries values b) _ (row-length entries values b) (omega arith) (written-row limits entries values rs ls ws ms (omega arith) r₂ r₄ r)
-            (left .book-rows ∙ ap (pad (length (drop bookWidth rs))) rest);
-        all-lengths = join (getD rs 1 0) ls (b .lengths) (allLengths (left .content)) l₁ (omega arith) refl (left .all-lengths);
-        all-codewords = join (getD rs 1 0) ws (ledgerCodewords (b .lengths)) (allCodewords (left .content)) l₃ (omega arith) (r .coded .assigned) (left .all-codewords);
-        all-multiplicands = join (getD rs 8 0) ms (b .multiplicands) (allMultiplicands (left .content)) l₂ (omega arith) refl (left .all-multiplicands);
+            (others .book-rows ∙ ap (pad (length (drop bookWidth rs))) rest);
+        all-lengths = join (getD rs 1 0) ls (b .lengths) (allLengths (others .content)) l₁ (omega arith) refl (others .all-lengths);
+        all-codewords = join (getD rs 1 0) ws (ledgerCodewords (b .lengths)) (allCodewords (others .content)) l₃ (omega arith) (r .coded .assigned) (others .all-codewords);
+        all-multiplicands = join (getD rs 8 0) ms (b .multiplicands) (allMultiplicands (others .content)) l₂ (omega arith) refl (others .all-multiplicands);
       }
 
 -- ONE CONTENT for one writing-out

@@ -9,7 +9,6 @@ use floor::PARTITIONS_PLACE;
 use floor::RANGE_PLACE;
 use floor::X_LIST_PLACE;
 use floor::X_VALUES_PLACE;
-use floor::floor;
 use reading::buffers;
 use reading::widths::wide_u16;
 use reading::widths::wide_u32;
@@ -52,7 +51,7 @@ fn are_named(floors: &[u16], at: usize, books: usize) -> bool
         return false;
     }
     if count
-        != floor::class_count(
+        != floor::floor::class_count(
             &floors[at + PARTITIONS_PLACE..at + CLASSES_PLACE],
             number(floors, at),
         )
@@ -82,7 +81,7 @@ fn is_counted(floors: &[u16], at: usize) -> bool
     if values < 2 {
         return false;
     }
-    let read = floor::value_count(
+    let read = floor::floor::value_count(
         &floors[at + PARTITIONS_PLACE..at + CLASSES_PLACE],
         number(floors, at),
         &floors[at + CLASSES_PLACE..at + X_LIST_PLACE],

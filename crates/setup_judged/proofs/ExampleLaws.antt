@@ -5,7 +5,7 @@ use native.Mathlib.Omega.{arith}
 use mathlib.Core.Bool.{true}
 use mathlib.Core.List.{List, [], _∷_}
 use mathlib.Core.Option.{Option, some}
-use mathlib.Core.Path.{_≡_, refl, ap, _∙_}
+use mathlib.Core.Path.{_≡_, refl, sym, ap, _∙_}
 use Rattle.reading.specs.Outcome.{refusal, ok, bad}
 use Rattle.reading.specs.Least.{lowest}
 use Rattle.reading.specs.Reader.{many, each, mapped}
@@ -41,7 +41,7 @@ use Rattle.setup_judged.proofs.JudgedLaws.{none-7, takes-8, number-0, n
 
 -- the verdict of lengths, by the model's answers
 by-model : (ls : List ℕ) → B.refusal (verdict ls) ≡ B.refusal (verdictBy ls (runAnswers emptyBlocks ls))
-by-model ls = ap B.refusal (verdict-is ls) ∙ ap (λ (os : List (Option ℕ)). B.refusal (verdictBy ls os)) (answers-are ls)
+by-model ls = ap B.refusal (verdict-is ls) ∙ ap (λ (os : List (Option ℕ)). B.refusal (verdictBy ls os)) (sym (answers-are ls))
 
 -- lines of 01's table of figures
 taken : LedgerTakes (2 ∷ 1 ∷ 2 ∷ [])
@@ -73,7 +73,7 @@ lengths-read : L.lengths 64 3 packet 128 ≡ ok (2 ∷ 1 ∷ 2 ∷ [], 145)
 unfolding L.lengths L.entryLength many mapped field valueAt bitAt
 lengths-read = refl
 
-lookup-read : U.lookup 64 3 1 16384 packet 145 ≡ ok (U.noLookup, 149)
+lookup-read : U.lookup 64 3 1 16384 0 packet 145 ≡ ok (U.noLookup, 149)
 unfolding U.lookup field valueAt bitAt
 lookup-read = refl
 
@@ -82,11 +82,11 @@ unfolding section timeValue many field valueAt bitAt
 times-read = refl
 
 floors-read : section (F.floor 1) packet 171 ≡ ok (content .floors, 204)
-unfolding section F.floor F.floorType F.floor1 X.ends X.xValues classCount valueCount many distinct listed field valueAt bitAt
+unfolding section F.floor F.floorType F.floor1 F.floorFrom X.ends X.endsFrom X.xValues classCount valueCount many distinct listed field valueAt bitAt
 floors-read = refl
 
 residues-read : section (R.residue (booksKnown (content .books))) packet 204 ≡ ok (content .residues, 316)
-unfolding section R.residue R.head R.cascade R.planRow R.planBook R.residueFits R.placeFits booksKnown all rows each many mapped field valueAt bitAt
+unfolding section R.residue R.residueFrom R.head R.headFrom R.cascade R.planRow R.planBook R.residueFits R.placeFits booksKnown all rows each many mapped field valueAt bitAt
 residues-read = refl
 
 mappings-read : section (M.mapping (known 1 (content .floors) (content .residues))) packet 316 ≡ ok (content .mappings, 366)

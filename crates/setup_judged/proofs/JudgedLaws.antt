@@ -152,16 +152,16 @@ or-true true = refl
 or-true false = refl
 
 -- rules 7 and 8 of each
-refuses-7 : (ls : List ℕ) (e : ℕ) → firstRefused ls ≡ some e → meets7 ls ≡ false
+refuses-7 : (ls : List ℕ) (e : ℕ) → firstRefused ls ≡ some e → meets7 (firstRefused ls) ≡ false
 refuses-7 ls e p = rw p
 
-pub none-7 : (ls : List ℕ) → firstRefused ls ≡ none → meets7 ls ≡ true
+pub none-7 : (ls : List ℕ) → firstRefused ls ≡ none → meets7 (firstRefused ls) ≡ true
 none-7 ls p = rw p
 
-leaves-8 : (ls : List ℕ) → LeavesSpace ls → meets8 ls ≡ false
+leaves-8 : (ls : List ℕ) → LeavesSpace ls → meets8 (freeAfter ls) (isLone (used ls)) ≡ false
 leaves-8 ls l = let h = l .left in rw (ne-eqb (freeAfter ls) 0 (λ e. omega arith), l .not-lone)
 
-pub takes-8 : (ls : List ℕ) → LedgerTakes ls → meets8 ls ≡ true
+pub takes-8 : (ls : List ℕ) → LedgerTakes ls → meets8 (freeAfter ls) (isLone (used ls)) ≡ true
 takes-8 ls t =
     ⊎-elim
     (λ (z : freeAfter ls ≡ 0). rw (eq-eqb (freeAfter ls) 0 z))
@@ -244,7 +244,7 @@ module _ {limits : Limits} {i : Identity} {s : List ℕ} {t : Tables} {place : �
       let h = past-ok (head-past place s limits (counted (x .before)) place (omega arith)) (x .head-read) in
       let l = past-ok (lengths-past place s place (x .this .entries) (x .after-head) h) (x .lengths-read) in
       rw (x .head-read, x .lengths-read, none-7 ls (k .none-refused), takes-8 ls k)
-      (then-past place (lookup-past place s place (x .this .entries) (x .this .dimensions) (limits .multiplicands - multiplicandsInAll (x .before)) (x .after) l) (λ (y : Lookup × ℕ) q. read _ q))
+      (then-past place (lookup-past place s place (x .this .entries) (x .this .dimensions) (limits .multiplicands) (multiplicandsInAll (x .before)) (x .after) l) (λ (y : Lookup × ℕ) q. read _ q))
 
   books-onward : LedgerTakes ls → Past place (books limits (counted (x .before)) (suc left) s place)
   unfolding books

@@ -2,7 +2,7 @@
 -- book since the book begins further on. One law for each way to build an outcome, and then one for each reader of a setup packet. Assumes nothing.
 use Prim.Native.Nat.{ℕ, zero, suc, _+_, _-_, _*_, _^_, _≤_, _<_}
 use native.Mathlib.Omega.{arith}
-use mathlib.Core.Bool.{Bool, true, false, not, cond}
+use mathlib.Core.Bool.{Bool, true, false, not, cond, _||_}
 use mathlib.Core.List.{List, [], _∷_, map}
 use mathlib.Core.Path.{_≡_, ap}
 use lib.Dec.{eqb, leb, ltb}
@@ -14,6 +14,7 @@ use Rattle.bits.specs.Field.{valueAt, field}
 use Rattle.bits.specs.Ilog.{ilog}
 use Rattle.header.specs.Header.{framing}
 use Rattle.limits.specs.declared.Limits.{Limits}
+use Rattle.codeword_assignment.specs.Book.{used, firstRefused, freeAfter, isLone}
 use Rattle.rules.specs.Rules.{meets7, meets8}
 use Rattle.book.specs.Content.{Book}
 use Rattle.book_head.specs.Reading as H
@@ -145,13 +146,14 @@ module _ (place : ℕ) (s : List ℕ) where
       either place (eqb sparse 0) (mapped-past place suc (field-past 5 k h))
       (then-past place (field-past 1 k h) (λ (f : ℕ × ℕ) p. either place (eqb (f .0) 0) (read (0, f .1) p) (mapped-past place suc (field-past 5 (f .1) p))))
 
-  runs-past : (first t left : ℕ) → Onward (L.runs first t left)
+  runs-past : (first turns length left : ℕ) → Onward (L.runs first turns length left)
   unfolding L.runs
-  runs-past first zero left k h = need-past place (eqb left 0) (refusal 6 first) (by-number place other6) (read ([], k) h)
-  runs-past first (suc t) left k h =
+  runs-past first zero length left k h = refused (refusal 6 first) (by-number place other6)
+  runs-past first (suc turns) length left k h =
       either place (eqb left 0) (read ([], k) h)
+      (need-past place (leb length 32 || eqb left 0) (refusal 6 first) (by-number place other6)
       (then-past place (judged-field (λ n. leb n left) 6 (ilog left) other6 k h) (λ (n : ℕ × ℕ) p.
-      then-past place (runs-past first t (left - n .0) (n .1) p) (λ (rest : List ℕ × ℕ) q. read _ q)))
+      then-past place (runs-past first turns (length + 1) (left - n .0) (n .1) p) (λ (rest : List ℕ × ℕ) q. read _ q))))
 
   pub lengths-past : (first entries : ℕ) → Onward (L.lengths first entries)
   unfolding L.lengths
@@ -159,28 +161,29 @@ module _ (place : ℕ) (s : List ℕ) where
       then-past place (field-past 1 k h) (λ (ordered : ℕ × ℕ) p.
       either place (eqb (ordered .0) 0)
       (then-past place (field-past 1 (ordered .1) p) (λ (sparse : ℕ × ℕ) q. many-past (L.entryLength (sparse .0)) (length-past (sparse .0)) entries (sparse .1) q))
-      (then-past place (field-past 5 (ordered .1) p) (λ (len : ℕ × ℕ) q. runs-past first (32 - len .0) entries (len .1) q)))
+      (then-past place (field-past 5 (ordered .1) p) (λ (len : ℕ × ℕ) q. runs-past first 33 (len .0 + 1) entries (len .1) q)))
 
   -- 7 and 8 of a book that begins behind the place
   entered-past : (first : ℕ) (ls : List ℕ × ℕ) → place < first → place < ls .1 → Past place (L.entered first (ls .0) (ok ls))
   unfolding L.entered
-  entered-past first ls h p = need-past place (meets7 (ls .0)) (refusal 7 first) (by-place place h) (need-past place (meets8 (ls .0)) (refusal 8 first) (by-place place h) (read ls p))
+  entered-past first ls h p = need-past place (meets7 (firstRefused (ls .0))) (refusal 7 first) (by-place place h)
+      (need-past place (meets8 (freeAfter (ls .0)) (isLone (used (ls .0)))) (refusal 8 first) (by-place place h) (read ls p))
 
-  values-past : (first type count room : ℕ) → Onward (U.values first type count room)
+  values-past : (first type count most before : ℕ) → Onward (U.values first type count most before)
   unfolding U.values
-  values-past first type count room k h =
+  values-past first type count most before k h =
       then-past place (field-past 32 k h) (λ (minimum : ℕ × ℕ) p.
       then-past place (field-past 32 (minimum .1) p) (λ (delta : ℕ × ℕ) q.
       then-past place (field-past 4 (delta .1) q) (λ (width : ℕ × ℕ) t.
       then-past place (field-past 1 (width .1) t) (λ (sequence : ℕ × ℕ) u.
-      need-past place (leb count room) (refusal 14 first) (by-number place other14)
+      need-past place (leb (before + count) most) (refusal 14 first) (by-number place other14)
       (then-past place (many-past (field (width .0 + 1)) (field-past (width .0 + 1)) count (sequence .1) u) (λ (list : List ℕ × ℕ) v. read _ v))))))
 
-  pub lookup-past : (first entries dimensions room : ℕ) → Onward (U.lookup first entries dimensions room)
+  pub lookup-past : (first entries dimensions most before : ℕ) → Onward (U.lookup first entries dimensions most before)
   unfolding U.lookup
-  lookup-past first entries dimensions room k h =
+  lookup-past first entries dimensions most before k h =
       then-past place (judged-field (λ v. leb v 2) 6 4 other6 k h) (λ (type : ℕ × ℕ) p.
-      either place (eqb (type .0) 0) (read (U.noLookup, type .1) p) (values-past first (type .0) (U.valueCount (type .0) entries dimensions) room (type .1) p))
+      either place (eqb (type .0) 0) (read (U.noLookup, type .1) p) (values-past first (type .0) (U.valueCount (type .0) entries dimensions) most before (type .1) p))
 
   -- a head, even where it begins at the place itself: its first field has some bits
   pub head-past : (limits : Limits) (before : H.Before) (k : ℕ) → place ≤ k → Past place (H.head limits before s k)
@@ -197,7 +200,7 @@ module _ (place : ℕ) (s : List ℕ) where
   book-past limits before k h =
       then-past place (head-past limits before k (omega arith)) (λ (x : H.Head × ℕ) p.
       then-past place (then-past place (lengths-past k (x .0 .entries) (x .1) p) (λ (ls : List ℕ × ℕ) q. entered-past k ls h q)) (λ (ls : List ℕ × ℕ) q.
-      then-past place (lookup-past k (x .0 .entries) (x .0 .dimensions) (limits .multiplicands - before .values) (ls .1) q) (λ (l : U.Lookup × ℕ) t. read _ t)))
+      then-past place (lookup-past k (x .0 .entries) (x .0 .dimensions) (limits .multiplicands) (before .values) (ls .1) q) (λ (l : U.Lookup × ℕ) t. read _ t)))
 
   pub books-past : (limits : Limits) (n : ℕ) (before : H.Before) → Onward (K.books limits before n)
   unfolding K.books
@@ -216,7 +219,7 @@ module _ (place : ℕ) (s : List ℕ) where
       then-past place (many-past (C.subclassBook books) (judged-field (λ v. leb v books) 11 8 other11) (2 ^ subclasses .0) (master .1) t) (λ (list : List ℕ × ℕ) u. read _ u))))
 
   ends-past : (first n : ℕ) → Onward (X.ends first n)
-  unfolding X.ends X.xValues
+  unfolding X.ends X.endsFrom X.xValues
   ends-past first n k h =
       then-past place (field-past 2 k h) (λ (multiplier : ℕ × ℕ) p.
       then-past place (field-past 4 (multiplier .1) p) (λ (rangebits : ℕ × ℕ) q.
@@ -225,7 +228,7 @@ module _ (place : ℕ) (s : List ℕ) where
       need-past place (distinct (xList (rangebits .0) (xs .0))) (refusal 12 first) (by-number place other12) (read _ t))))
 
   pub floor-past : (books : ℕ) → Onward (F.floor books)
-  unfolding F.floor F.floorType F.floor1
+  unfolding F.floor F.floorType F.floor1 F.floorFrom
   floor-past books k h =
       then-past place (judged-past (λ v. leb v 1) 10 (judged (λ v. not (eqb v 0)) 14 (field 16)) k other10 (judged-field (λ v. not (eqb v 0)) 14 16 other14 k h)) (λ (type : ℕ × ℕ) p.
       then-past place (field-past 5 (type .1) p) (λ (count : ℕ × ℕ) q.
@@ -247,7 +250,7 @@ module _ (place : ℕ) (s : List ℕ) where
       each-past (R.planBook count) (λ bit j p. either place (eqb bit 0) (read (0, j) p) (mapped-past place suc (judged-field (λ v. ltb v count) 11 8 other11 j p))) (R.passes c) k h
 
   fields-past : (count : ℕ) → Onward (R.head count)
-  unfolding R.head
+  unfolding R.head R.headFrom
   fields-past count k h =
       then-past place (judged-field (λ v. leb v 2) 10 16 other10 k h) (λ (type : ℕ × ℕ) p.
       then-past place (field-past 24 (type .1) p) (λ (begin : ℕ × ℕ) q.
@@ -257,7 +260,7 @@ module _ (place : ℕ) (s : List ℕ) where
       then-past place (judged-field (λ v. ltb v count) 11 8 other11 (classifications .1) v) (λ (classbook : ℕ × ℕ) w. read _ w))))))
 
   pub residue-past : (books : R.Books) → Onward (R.residue books)
-  unfolding R.residue
+  unfolding R.residue R.residueFrom
   residue-past books k h =
       then-past place (fields-past (books .count) k h) (λ (x : R.Head × ℕ) p.
       then-past place (many-past R.cascade cascade-past (x .0 .classifications) (x .1) p) (λ (cascades : List ℕ × ℕ) q.

@@ -10,6 +10,7 @@ use Rattle.bits.specs.Field.{field}
 use Rattle.header.specs.Header.{commonHeader, framing}
 use Rattle.limits.specs.declared.Limits.{Limits}
 use Rattle.identification.specs.declared.Identity.{Identity}
+use Rattle.codeword_assignment.specs.Book.{used, firstRefused, freeAfter, isLone}
 use Rattle.rules.specs.Rules.{meets7, meets8}
 use Rattle.book.specs.Content.{Book}
 use Rattle.book_head.specs.Reading.{Before, Head, head}
@@ -87,10 +88,10 @@ unfolding book entered
 book-lengths limits before s k {x} e =
     let h = then-ok (head limits before s k) _ e in
     let l = then-ok (then (lengths k (h .0 .0 .entries) s (h .0 .1)) (λ ls. entered k (ls .0) (ok ls))) _ (h .2) in
-    let u = then-ok (lookup k (h .0 .0 .entries) (h .0 .0 .dimensions) (limits .multiplicands - before .values) s (l .0 .1)) _ (l .2) in
+    let u = then-ok (lookup k (h .0 .0 .entries) (h .0 .0 .dimensions) (limits .multiplicands) (before .values) s (l .0 .1)) _ (l .2) in
     let m = then-ok (lengths k (h .0 .0 .entries) s (h .0 .1)) _ (l .1) in
-    let a = need-ok (meets7 (m .0 .0)) (refusal 7 k) _ (m .2) in
-    let b = need-ok (meets8 (m .0 .0)) (refusal 8 k) _ (a .1) in
+    let a = need-ok (meets7 (firstRefused (m .0 .0))) (refusal 7 k) _ (m .2) in
+    let b = need-ok (meets8 (freeAfter (m .0 .0)) (isLone (used (m .0 .0)))) (refusal 8 k) _ (a .1) in
     let p : l .0 .0 ≡ x .0 .lengths = ap (λ (y : Book × ℕ). y .0 .lengths) (ok-is (u .2)) in
     let q : m .0 .0 ≡ l .0 .0 = ap (λ (y : List ℕ × ℕ). y .0) (ok-is (b .1)) in
     subst (LengthsOf limits before s k) (q ∙ p) (record { this = h .0 .0; after-head = h .0 .1; head-read = h .1; after = m .0 .1; lengths-read = m .1 })

@@ -76,11 +76,11 @@ pub fn read_floor_part(
             step: Step::Refused(z),
         },
         Step::Next(next) => {
-            let after = read_residue_section(packet, next, count, books, residues, plans);
-            let after = after.step;
+            let section = read_residue_section(packet, next, count, books, residues, plans);
+            let after = section.step;
             FloorPart {
                 floors: number,
-                residues: after.count,
+                residues: section.count,
                 step: after,
             }
         }
@@ -114,11 +114,11 @@ pub fn read_mapping_part(
             step: Step::Refused(z),
         },
         Step::Next(next) => {
-            let after = read_mode_section(packet, next, number, modes);
-            let after = after.step;
+            let section = read_mode_section(packet, next, number, modes);
+            let after = section.step;
             MappingPart {
                 mappings: number,
-                modes: after.count,
+                modes: section.count,
                 step: after,
             }
         }
