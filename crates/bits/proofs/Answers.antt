@@ -9,7 +9,7 @@ use Rattle.bits.specs.declared.Cursor.{Cursor}
 use Rattle.bits.specs.declared.Refusal.{Refusal}
 use Rattle.bits.specs.declared.Field.{Field}
 use Rattle.bits.specs.declared.Field.the-variants.{Value, Refused}
-use Rattle.bits.specs.Cursors.{position, refusalOf, outcome}
+use Rattle.bits.specs.inner.Cursors.{position, refusalOf, outcome}
 use Rattle.bits.specs.Field.{valueAt, field}
 use Rattle.bits.proofs.Fields.{field-whole, field-cut, field-ok}
 

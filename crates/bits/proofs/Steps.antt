@@ -14,7 +14,7 @@ use Rattle.bits.specs.declared.Cursor.{Cursor}
 use Rattle.bits.specs.declared.Refusal.{Refusal}
 use Rattle.bits.specs.declared.Step.{Step}
 use Rattle.bits.specs.declared.Step.the-variants.{Next, Refused}
-use Rattle.bits.specs.Cursors.{position, refusalOf, stepped, Wrote}
+use Rattle.bits.specs.inner.Cursors.{position, refusalOf, stepped, Wrote}
 
 -- what a step alone says
 pub next-is : {r : Step} {o : Outcome ℕ} {c : Cursor} → stepped r ≡ o → r ≡ Next c → o ≡ ok (position c)

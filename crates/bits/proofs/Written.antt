@@ -10,7 +10,7 @@ use Rattle.bits.specs.declared.Cursor.{Cursor}
 use Rattle.bits.specs.declared.Refusal.{Refusal}
 use Rattle.bits.specs.declared.Step.{Step}
 use Rattle.bits.specs.declared.Step.the-variants.{Next, Refused}
-use Rattle.bits.specs.Cursors.{position, refusalOf, Wrote}
+use Rattle.bits.specs.inner.Cursors.{position, refusalOf, Wrote}
 use Rattle.bits.proofs.Steps.{wrote-bad, wrote-ok}
 
 -- the reading o came to a value, which f made into t

@@ -1,5 +1,5 @@
 pub mod Field
-pub mod Cursors
 pub mod Signed
 pub mod Ilog
 pub mod Vectors
+pub mod inner

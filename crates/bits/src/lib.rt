@@ -7,7 +7,7 @@ ghost use mathlib.Core.Path.{_≡_};
 ghost use Prim.Native.Nat.{_+_, _*_, _%_, _^_, _≤_};
 ghost use lib.ListN.{length};
 ghost use Rattle.bits.specs.Field.{valueAt, field};
-ghost use Rattle.bits.specs.Cursors.{position, outcome};
+ghost use Rattle.bits.specs.inner.Cursors.{position, outcome};
 ghost use Rattle.bits.specs.Signed.{signed};
 
 // A position in a packet: bit `bit` of byte `byte`. A slice may have 2^63 - 1 bytes, so a count of bits would not fit 64 bits;

@@ -6,12 +6,12 @@ use mathlib.Core.Path.{_≡_, _∙_}
 use lib.ListN.{take, drop}
 use Rattle.codeword_assignment.specs.Book.{loneMark}
 use Rattle.book.specs.Layout.{entriesAt, firstEntryAt, loneAt}
-use Rattle.codeword.specs.Book.{Codebook}
-use Rattle.codeword.specs.Claims.{Settled}
+use Rattle.codeword.specs.inner.Book.{Codebook}
+use Rattle.codeword.specs.inner.Claims.{Settled}
 use Rattle.codeword.specs.Codeword.{codeword}
-use Rattle.bits.specs.Cursors.{outcome}
+use Rattle.bits.specs.inner.Cursors.{outcome}
 use Rattle.bits.specs.declared.Field.{Field}
-use Rattle.book_codeword.specs.Stored.{entriesOf, BookStored}
+use Rattle.book_codeword.specs.inner.Stored.{entriesOf, BookStored}
 
 -- first and count as the code holds them
 module _ {books lengths codewords : List ℕ} {b : ℕ} (l : BookStored books lengths codewords b) {f f′ n n′ : ℕ} (e₁ : f′ ≡ f) (e₂ : f ≡ firstEntryAt books b) (e₃ : n′ ≡ n)

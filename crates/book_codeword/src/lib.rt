@@ -2,10 +2,10 @@
 use bits::Cursor;
 use bits::Field;
 ghost use mathlib.Core.Path.{_≡_};
-ghost use Rattle.bits.specs.Cursors.{position, outcome};
+ghost use Rattle.bits.specs.inner.Cursors.{position, outcome};
 ghost use Rattle.codeword.specs.Codeword.{codeword};
-ghost use Rattle.codeword.specs.Claims.{Settled};
-ghost use Rattle.book_codeword.specs.Stored.{entriesOf, BookStored};
+ghost use Rattle.codeword.specs.inner.Claims.{Settled};
+ghost use Rattle.book_codeword.specs.inner.Stored.{entriesOf, BookStored};
 
 fn wide(x: u32) -> usize
     ensures { λ r. ⌜ r ≡ x ⌝ }

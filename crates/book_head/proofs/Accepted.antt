@@ -14,7 +14,7 @@ use Rattle.bits.specs.Field.{field}
 use Rattle.bits.proofs.Fields.{field-ok}
 use Rattle.limits.specs.declared.Limits.{Limits}
 use Rattle.book_head.specs.Reading.{Before, Head, head}
-use Rattle.book_head.specs.Answers.{totals, headOf, headRead}
+use Rattle.book_head.specs.inner.Answers.{totals, headOf, headRead}
 use Rattle.book_head.specs.declared.head.Head as D
 use Rattle.book_head.specs.declared.head.HeadRead.{HeadRead}
 use Rattle.book_head.specs.declared.head.HeadRead.the-variants as H

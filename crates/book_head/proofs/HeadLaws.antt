@@ -11,13 +11,13 @@ use Rattle.bits.specs.declared.Cursor.{Cursor}
 use Rattle.bits.specs.declared.Refusal.{Refusal}
 use Rattle.bits.specs.declared.Field.{Field}
 use Rattle.bits.specs.declared.Field.the-variants.{Value, Refused}
-use Rattle.bits.specs.Cursors.{position, outcome}
+use Rattle.bits.specs.inner.Cursors.{position, outcome}
 use Rattle.bits.specs.Field.{field}
 use Rattle.bits.proofs.Answers.{value-is, refused-is}
 use Rattle.limits.specs.declared.Limits.{Limits}
 use Rattle.book_head.specs.Reading.{head}
-use Rattle.book_head.specs.Parts.{entryCount}
-use Rattle.book_head.specs.Answers.{totals, headRead}
+use Rattle.book_head.specs.inner.Parts.{entryCount}
+use Rattle.book_head.specs.inner.Answers.{totals, headRead}
 use Rattle.book_head.specs.declared.head.HeadRead.the-variants as H
 
 abbrev at : ℕ → Cursor → Refusal

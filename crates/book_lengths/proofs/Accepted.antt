@@ -20,7 +20,7 @@ use Rattle.codeword_assignment.specs.declared.book.Assigned.the-variants.{Accep
 use Rattle.rules.specs.Rules.{meets7, meets8}
 use Rattle.book_lengths.proofs.Verdict.{meets-accepted}
 use Rattle.book_lengths.specs.Reading.{entryLength, runs, lengths, entered}
-use Rattle.book_lengths.specs.Parts.{entries}
+use Rattle.book_lengths.specs.inner.Parts.{entries}
 use Rattle.book_lengths.proofs.LengthLaws.{entry-small, length-run}
 
 -- tests along lists

@@ -14,7 +14,7 @@ use Rattle.bits.specs.declared.Cursor.{Cursor}
 use Rattle.bits.specs.declared.Refusal.{Refusal}
 use Rattle.bits.specs.declared.Step.{Step}
 use Rattle.bits.specs.declared.Step.the-variants.{Next, Refused}
-use Rattle.bits.specs.Cursors.{position, Wrote}
+use Rattle.bits.specs.inner.Cursors.{position, Wrote}
 use Rattle.bits.proofs.Steps.{wrote-bad, wrote-ok, wrote-refused, wrote-next}
 use Rattle.codeword_assignment.specs.Book.{verdict, assigned, written, ledgerCodewords}
 use Rattle.codeword_assignment.specs.declared.book.Assigned.{Assigned}
@@ -23,7 +23,7 @@ use Rattle.codeword_assignment.proofs.Laws.{codewords-length}
 use Rattle.book_lengths.proofs.Verdict.{accepted-meets, overspecified-breaks7, underspecified-breaks8, verdict-not-short}
 use Rattle.filling.proofs.Written.{mapped-mapped, wrote-mapped, wrote-as, part-back}
 use Rattle.book_lengths.specs.Reading.{lengths, entered}
-use Rattle.book_lengths.specs.Parts.{entries, coded, stored}
+use Rattle.book_lengths.specs.inner.Parts.{entries, coded, stored}
 
 abbrev at : ℕ → Cursor → Refusal
 at n c = record { number = n; place = c }

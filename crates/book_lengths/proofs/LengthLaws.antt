@@ -21,7 +21,7 @@ use Rattle.bits.specs.declared.Field.{Field}
 use Rattle.bits.specs.declared.Field.the-variants.{Value, Refused}
 use Rattle.bits.specs.declared.Step.{Step}
 use Rattle.bits.specs.declared.Step.the-variants as S
-use Rattle.bits.specs.Cursors.{position, outcome, Wrote}
+use Rattle.bits.specs.inner.Cursors.{position, outcome, Wrote}
 use Rattle.bits.specs.Field.{field}
 use Rattle.bits.specs.Ilog.{ilog}
 use Rattle.bits.proofs.Answers.{value-is, refused-is, value-below}
@@ -29,7 +29,7 @@ use Rattle.bits.proofs.Fields.{field-ok}
 use Rattle.bits.proofs.Ilogs.{ilog-places}
 use Rattle.bits.proofs.Steps.{wrote-refused, wrote-next}
 use Rattle.book_lengths.specs.Reading.{entryLength, runs, lengths}
-use Rattle.book_lengths.specs.Parts.{runNumber, unordered, ordered}
+use Rattle.book_lengths.specs.inner.Parts.{runNumber, unordered, ordered}
 use Rattle.filling.proofs.Filling.{after, after-nil, after-append, after-bad, after-none, take-sets}
 
 abbrev at : ℕ → Cursor → Refusal

@@ -10,9 +10,9 @@ ghost use Prim.Native.Nat.{_+_, _<_, _≤_};
 ghost use lib.ListN.{length};
 ghost use Rattle.reading.specs.Outcome.{ok};
 ghost use Rattle.reading.specs.Reader.{mapped};
-ghost use Rattle.bits.specs.Cursors.{position, Wrote};
+ghost use Rattle.bits.specs.inner.Cursors.{position, Wrote};
 ghost use Rattle.book_lengths.specs.Reading.{entered};
-ghost use Rattle.book_lengths.specs.Parts.{entries, coded, stored};
+ghost use Rattle.book_lengths.specs.inner.Parts.{entries, coded, stored};
 
 // Lengths entered into an empty space of their own. `place` is the book's first bit, `next` the one behind its lengths.
 fn enter_lengths(lengths: &[u8], codewords: &mut [u32], place: Cursor, next: Cursor) -> Step

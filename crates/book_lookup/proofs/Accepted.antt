@@ -16,7 +16,7 @@ use Rattle.reading.proofs.Accepted.{many-number, many-all}
 use Rattle.bits.specs.Field.{field}
 use Rattle.bits.proofs.Fields.{field-ok}
 use Rattle.book_lookup.specs.Reading.{Lookup, noLookup, valueCount, values, lookup}
-use Rattle.book_lookup.specs.Parts.{Parameters, parameters}
+use Rattle.book_lookup.specs.inner.Parts.{Parameters, parameters}
 use Rattle.book_lookup.proofs.LookupLaws.{Narrow, parameters-ok, withValues, afterParameters, values-as}
 
 pub record LookupKnown (entries dimensions most before : ℕ) (l : Lookup) : Type 0 where

@@ -19,15 +19,15 @@ use Rattle.bits.specs.declared.Field.{Field}
 use Rattle.bits.specs.declared.Field.the-variants.{Value, Refused}
 use Rattle.bits.specs.declared.Step.{Step}
 use Rattle.bits.specs.declared.Step.the-variants as S
-use Rattle.bits.specs.Cursors.{position, refusalOf, outcome, Wrote}
+use Rattle.bits.specs.inner.Cursors.{position, refusalOf, outcome, Wrote}
 use Rattle.bits.specs.Field.{field}
 use Rattle.bits.proofs.Answers.{value-is, refused-is, value-below}
 use Rattle.bits.proofs.Fields.{field-ok}
 use Rattle.bits.proofs.Steps.{wrote-refused, wrote-next}
 use Rattle.power.proofs.Laws.{product-fits}
 use Rattle.book_lookup.specs.Reading.{Lookup, lookup1Values, valueCount, values, lookup}
-use Rattle.book_lookup.specs.Parts.{Parameters, parameters, stored}
-use Rattle.book_lookup.specs.Answers.{parametersRead}
+use Rattle.book_lookup.specs.inner.Parts.{Parameters, parameters, stored}
+use Rattle.book_lookup.specs.inner.Answers.{parametersRead}
 use Rattle.book_lookup.specs.declared.lookup.ParametersRead.{ParametersRead}
 use Rattle.book_lookup.specs.declared.lookup.ParametersRead.the-variants as P
 use Rattle.book_lookup.specs.declared.lookup.Parameters as D

@@ -1,4 +1,3 @@
 pub mod Reading
-pub mod Parts
-pub mod Answers
 pub mod Vectors
+pub mod inner

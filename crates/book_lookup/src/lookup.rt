@@ -9,10 +9,10 @@ ghost use Prim.Native.Nat.{_+_, _≤_};
 ghost use lib.ListN.{length};
 ghost use Rattle.reading.specs.Reader.{mapped, many};
 ghost use Rattle.bits.specs.Field.{field};
-ghost use Rattle.bits.specs.Cursors.{position, Wrote};
+ghost use Rattle.bits.specs.inner.Cursors.{position, Wrote};
 ghost use Rattle.book_lookup.specs.Reading.{valueCount, values, lookup};
-ghost use Rattle.book_lookup.specs.Parts.{parameters, stored};
-ghost use Rattle.book_lookup.specs.Answers.{parametersRead, numbersOf};
+ghost use Rattle.book_lookup.specs.inner.Parts.{parameters, stored};
+ghost use Rattle.book_lookup.specs.inner.Answers.{parametersRead, numbersOf};
 
 pub struct Parameters {
     pub minimum: u32,

@@ -10,12 +10,12 @@ use Rattle.limits.specs.declared.Limits.{Limits}
 use Rattle.book.specs.Content.{Book}
 use Rattle.book_head.specs.Reading.{Before, Head, head}
 use Rattle.book_head.proofs.Accepted.{HeadKnown, head-ok}
-use Rattle.book_lengths.specs.Parts.{entries}
+use Rattle.book_lengths.specs.inner.Parts.{entries}
 use Rattle.book_lengths.proofs.Accepted.{EntriesKnown, entries-known}
 use Rattle.book_lookup.specs.Reading.{Lookup, valueCount, lookup}
 use Rattle.book_lookup.proofs.Accepted.{LookupKnown, lookup-known}
 use Rattle.book_reading.specs.Reading.{book, books, andThis}
-use Rattle.book_reading.specs.Parts.{bookOf}
+use Rattle.book_reading.specs.inner.Parts.{bookOf}
 use Rattle.book_reading.specs.Valid.{ValidBook, ValidBooks}
 
 -- A BOOK THAT WAS READ IS VALID, where the multiplicands before are within the limit

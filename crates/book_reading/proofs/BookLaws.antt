@@ -13,25 +13,25 @@ use Rattle.bits.specs.declared.Cursor.{Cursor}
 use Rattle.bits.specs.declared.Refusal.{Refusal}
 use Rattle.bits.specs.declared.Step.{Step}
 use Rattle.bits.specs.declared.Step.the-variants as S
-use Rattle.bits.specs.Cursors.{position, Wrote}
+use Rattle.bits.specs.inner.Cursors.{position, Wrote}
 use Rattle.bits.proofs.Steps.{wrote-bad, wrote-ok, wrote-refused}
 use Rattle.limits.specs.declared.Limits.{Limits}
 use Rattle.codeword_assignment.specs.Book.{ledgerCodewords, loneMark}
 use Rattle.book.specs.Layout.{bookWidth, bookRow}
 use Rattle.filling.proofs.Written.{mapped-then, mapped-mapped, wrote-mapped, wrote-as}
 use Rattle.book_head.specs.Reading.{Head, head}
-use Rattle.book_head.specs.Answers.{totals, headOf, headRead}
+use Rattle.book_head.specs.inner.Answers.{totals, headOf, headRead}
 use Rattle.book_head.specs.declared.head.Head as D
 use Rattle.book_head.specs.declared.head.HeadRead.{HeadRead}
 use Rattle.book_head.specs.declared.head.HeadRead.the-variants as H
-use Rattle.book_lengths.specs.Parts.{entries}
-use Rattle.book_lengths.specs.Parts as L
+use Rattle.book_lengths.specs.inner.Parts.{entries}
+use Rattle.book_lengths.specs.inner.Parts as L
 use Rattle.book_lengths.proofs.Accepted.{entries-known}
 use Rattle.book_lookup.specs.Reading.{Lookup, lookup}
-use Rattle.book_lookup.specs.Parts.{stored}
+use Rattle.book_lookup.specs.inner.Parts.{stored}
 use Rattle.book_reading.specs.Reading.{book}
-use Rattle.book_reading.specs.Parts.{bookOf, body}
-use Rattle.book_reading.specs.Layout.{Tables, tables, putBook, finished}
+use Rattle.book_reading.specs.inner.Parts.{bookOf, body}
+use Rattle.book_reading.specs.inner.Layout.{Tables, tables, putBook, finished}
 
 -- the lookup and the row
 module _ (h : Head) (bk m : List ℕ) (index before values lone : ℕ) where

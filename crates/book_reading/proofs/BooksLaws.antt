@@ -12,15 +12,15 @@ use Rattle.bits.specs.declared.Cursor.{Cursor}
 use Rattle.bits.specs.declared.Refusal.{Refusal}
 use Rattle.bits.specs.declared.Step.{Step}
 use Rattle.bits.specs.declared.Step.the-variants.{Next, Refused}
-use Rattle.bits.specs.Cursors.{position, Wrote}
+use Rattle.bits.specs.inner.Cursors.{position, Wrote}
 use Rattle.bits.proofs.Steps.{wrote-bad, wrote-ok, wrote-refused, wrote-next}
 use Rattle.limits.specs.declared.Limits.{Limits}
 use Rattle.book.specs.Content.{Book}
-use Rattle.book_head.specs.Answers.{totals}
+use Rattle.book_head.specs.inner.Answers.{totals}
 use Rattle.book_reading.specs.Reading.{andThis, book, books}
-use Rattle.book_reading.specs.Parts.{section}
-use Rattle.book_reading.specs.Layout.{Tables, tables, putBook}
-use Rattle.book_reading.specs.BookBuffers.{BookBuffers}
+use Rattle.book_reading.specs.inner.Parts.{section}
+use Rattle.book_reading.specs.inner.Layout.{Tables, tables, putBook}
+use Rattle.book_reading.specs.inner.BookBuffers.{BookBuffers}
 
 into-cons : (b : Book) (o : Outcome (List Book × ℕ)) (t : Tables) → into putBook (then o (λ y. ok (b ∷ y .0, y .1))) t ≡ into putBook o (putBook b t)
 unfolding into mapped puts

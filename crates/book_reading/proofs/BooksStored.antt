@@ -18,7 +18,7 @@ use Rattle.book.specs.Content.{Book}
 use Rattle.book.specs.Layout.{bookWidth, bookRow}
 use Rattle.book_head.specs.Reading.{Before}
 use Rattle.book_reading.specs.Reading.{andThis}
-use Rattle.book_reading.specs.Layout.{Tables, tables, putBook}
+use Rattle.book_reading.specs.inner.Layout.{Tables, tables, putBook}
 use Rattle.book_reading.specs.Rows.{bookRows, allLengths, allCodewords, allMultiplicands, andThese, decodeBook, decodeBooks}
 use Rattle.book_reading.specs.Valid.{ValidBooks}
 

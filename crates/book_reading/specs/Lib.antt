@@ -1,6 +1,4 @@
 pub mod Reading
-pub mod Parts
-pub mod Layout
-pub mod BookBuffers
 pub mod Rows
 pub mod Valid
+pub mod inner

@@ -16,14 +16,14 @@ use Rattle.codeword_assignment.specs.Book.{ledgerCodewords}
 use Rattle.book.specs.Content.{Book}
 use Rattle.book.specs.Layout.{bookWidth, bookRow}
 use Rattle.book_head.specs.Reading.{Before}
-use Rattle.book_head.specs.Answers.{totals}
+use Rattle.book_head.specs.inner.Answers.{totals}
 use Rattle.book_reading.specs.Reading.{andThis}
 use Rattle.book_reading.specs.Rows.{bookRows, allLengths, allCodewords, allMultiplicands, decodeBooks}
 use Rattle.book_reading.specs.Valid.{ValidBooks}
 use Rattle.book_reading.proofs.BooksStored.{codewords-length, row-length, within-entries, within-values, decode-books}
 use Rattle.book_tables.specs.declared.row.Row.{Row}
-use Rattle.book_tables.specs.Rules.{rowOf, BookRules}
-use Rattle.book_tables.specs.Recognised.{Countable, BooksLeft, Clear, OneContent}
+use Rattle.book_tables.specs.inner.Rules.{rowOf, BookRules}
+use Rattle.book_tables.specs.inner.Recognised.{Countable, BooksLeft, Clear, OneContent}
 use Rattle.book_tables.proofs.Written.{bookOf, rowFor, lengths-long, values-long, rules-valid, rules-at, row-written, written-row}
 
 -- a buffer that is filled from the front: its first part, and what is left

@@ -22,8 +22,8 @@ use Rattle.codeword_assignment.specs.Book.{Coded, loneMark}
 use Rattle.book.specs.Layout.{bookWidth}
 use Rattle.book_lookup.specs.Reading.{valueCount}
 use Rattle.book_tables.specs.declared.row.Row.{Row}
-use Rattle.book_tables.specs.Recognised.{Clear}
-use Rattle.book_tables.specs.Rules.{rowOf, HeadRules, PlaceRules, NoneRules, SomeRules, LookupRules, BookRules, Begun}
+use Rattle.book_tables.specs.inner.Recognised.{Clear}
+use Rattle.book_tables.specs.inner.Rules.{rowOf, HeadRules, PlaceRules, NoneRules, SomeRules, LookupRules, BookRules, Begun}
 
 -- a test that failed, and one that passed
 pub refuted : {b : Bool} {P : Type 0} → (b ≡ true) ↔ P → not b ≡ true → P → ⊥

@@ -14,11 +14,11 @@ use Rattle.limits.specs.declared.Limits.{Limits}
 use Rattle.codeword_assignment.specs.Book.{ledgerCodewords, loneMark}
 use Rattle.book.specs.Content.{Book}
 use Rattle.book.specs.Layout.{bookWidth, bookRow}
-use Rattle.book_head.specs.Answers.{totals}
+use Rattle.book_head.specs.inner.Answers.{totals}
 use Rattle.book_reading.specs.Valid.{NoLookup, SomeLookup, ValidBook}
 use Rattle.book_reading.proofs.BooksStored.{codewords-length}
 use Rattle.book_tables.specs.declared.row.Row.{Row}
-use Rattle.book_tables.specs.Rules.{rowOf, NoneRules, SomeRules, BookRules}
+use Rattle.book_tables.specs.inner.Rules.{rowOf, NoneRules, SomeRules, BookRules}
 use Rattle.book_tables.proofs.Small.{accepted-small}
 
 -- the book of a row, with its lengths and multiplicands at the front of what is left of theirs

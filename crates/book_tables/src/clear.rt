@@ -3,7 +3,7 @@ ghost use mathlib.Core.Bool.{true};
 ghost use mathlib.Core.Logic.{_↔_};
 ghost use mathlib.Core.Path.{_≡_};
 ghost use lib.ListN.{drop};
-ghost use Rattle.book_tables.specs.Recognised.{Clear};
+ghost use Rattle.book_tables.specs.inner.Recognised.{Clear};
 
 // `rows` numbers of rows, and so many entries and multiplicands, are written.
 pub fn are_clear(

@@ -12,7 +12,7 @@ ghost use lib.Dec.{ltb};
 ghost use lib.ListN.{length, take, drop};
 ghost use Rattle.reading.specs.Lists.{all};
 ghost use Rattle.codeword_assignment.specs.Book.{Coded, loneMark};
-ghost use Rattle.book_tables.specs.Rules.{HeadRules, PlaceRules, NoneRules, SomeRules, LookupRules, BookRules, Begun};
+ghost use Rattle.book_tables.specs.inner.Rules.{HeadRules, PlaceRules, NoneRules, SomeRules, LookupRules, BookRules, Begun};
 
 fn long(x: u32) -> u64
     ensures { λ r. ⌜ r ≡ x ⌝ }

@@ -3,7 +3,7 @@ ghost use mathlib.Core.Path.{_≡_};
 ghost use Prim.Native.Nat.{_*_, _<_};
 ghost use lib.ListN.{getD, drop};
 ghost use Rattle.book.specs.Layout.{bookWidth};
-ghost use Rattle.book_tables.specs.Rules.{rowOf};
+ghost use Rattle.book_tables.specs.inner.Rules.{rowOf};
 
 pub struct Row {
     pub dimensions: u32,

@@ -12,7 +12,7 @@ use native.Mathlib.Omega.{arith}
 use lib.Dec.{eqb}
 use borrow.Author.Tests.{lt-ltb, le-ltb}
 use Rattle.reading.specs.Least.{count}
-use Rattle.codespace.specs.Blocks.{vacant, Block, smallest, halve, blockAbove, keep}
+use Rattle.codespace.specs.inner.Blocks.{vacant, Block, smallest, halve, blockAbove, keep}
 use Rattle.reading.proofs.Count.{Gap, Full, count-gap, count-full, count-mono, gap-cat, no-gap}
 
 -- a is a multiple of p

@@ -8,7 +8,7 @@ use native.Mathlib.Omega.{arith}
 use lib.ListN.{length, getD, take}
 use Rattle.codespace.specs.Ledger.{Codeword, freeStrings, answer, enlist, after, answers, IsLength}
 use Rattle.codespace.specs.Claims.{handedOut, handedOutBy, without, Balanced}
-use Rattle.codespace.specs.Blocks.{emptyBlocks, enterAnswer, enterBlocks, runBlocks, Reached}
+use Rattle.codespace.specs.inner.Blocks.{emptyBlocks, enterAnswer, enterBlocks, runBlocks, Reached}
 use Rattle.codespace.proofs.Lengths.{no-length}
 use Rattle.codespace.proofs.Whole.{answer-are, some-says, balance, refused-is, exactly-one}
 

@@ -16,8 +16,8 @@ use Rattle.reading.proofs.Least.{lt-or-le}
 use Rattle.reading.proofs.Pads.{pad-nil, pad-set}
 use Rattle.codespace.specs.Ledger.{Codeword, answer, enlist, after, answers, IsLength}
 use Rattle.codespace.specs.Claims.{Balanced}
-use Rattle.codespace.specs.Blocks.{enterAnswer, enterBlocks, Reached}
-use Rattle.codespace.specs.Steps.{firstOccupied}
+use Rattle.codespace.specs.inner.Blocks.{enterAnswer, enterBlocks, Reached}
+use Rattle.codespace.specs.inner.Steps.{firstOccupied}
 use Rattle.codespace.specs.Answers.{number, outcome, isNone}
 use Rattle.codespace.specs.Entering.{Entered, enteredAll}
 use Rattle.codespace.proofs.Whole.{AnswerMeans, answer-says}

@@ -13,7 +13,7 @@ use lib.Dec.{ltb}
 use Rattle.reading.proofs.Least.{true-or-false}
 use Rattle.codespace.specs.Ledger.{isLength}
 use Rattle.codespace.specs.Answers.{number}
-use Rattle.codespace.specs.Blocks.{vacant, Block, halve, smallest, keep, blockAbove, blockFor, valueOf, restOf, enterAnswer, enterBlocks, runBlocks, emptyBlocks, Reached}
+use Rattle.codespace.specs.inner.Blocks.{vacant, Block, halve, smallest, keep, blockAbove, blockFor, valueOf, restOf, enterAnswer, enterBlocks, runBlocks, emptyBlocks, Reached}
 
 -- a block out of n places
 abbrev Fits : ℕ → Option Block → Type 0

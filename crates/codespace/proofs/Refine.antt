@@ -15,7 +15,7 @@ use Rattle.reading.specs.Least.{count, lowest}
 use Rattle.reading.proofs.Least.{no-true, every-at, every-all, lowest-is, lowest-none, true-or-false}
 use Rattle.reading.proofs.Count.{Full, count-full, count-mono, count-zero}
 use Rattle.codespace.specs.Ledger.{Codeword, codeword, share, begins, taken, free, freeStrings, freeCodeword, isLength, IsLength, answer, enlist, after, answers}
-use Rattle.codespace.specs.Blocks.{vacant, Block, blockAbove, blockFor, valueOf, restOf, enterAnswer, enterBlocks, runAnswers, runBlocks}
+use Rattle.codespace.specs.inner.Blocks.{vacant, Block, blockAbove, blockFor, valueOf, restOf, enterAnswer, enterBlocks, runAnswers, runBlocks}
 use Rattle.codespace.proofs.Lengths.{is-length, length-is}
 use Rattle.codespace.proofs.Chain.{Chain, Less, Taken, Provided, block-above-ok}
 

@@ -16,9 +16,9 @@ use borrow.Author.Tests.{lt-ltb, le-ltb}
 use mathlib.Core.Bool.{cond}
 use Rattle.reading.proofs.Least.{lt-or-le}
 use Rattle.codespace.specs.Ledger.{IsLength}
-use Rattle.codespace.specs.Blocks.{vacant, Block, smallest, halve, blockAbove, keep, blockFor, enterAnswer, enterBlocks}
+use Rattle.codespace.specs.inner.Blocks.{vacant, Block, smallest, halve, blockAbove, keep, blockFor, enterAnswer, enterBlocks}
 use Rattle.codespace.specs.Answers.{number}
-use Rattle.codespace.specs.Steps.{firstOccupied, upperHalves}
+use Rattle.codespace.specs.inner.Steps.{firstOccupied, upperHalves}
 use Rattle.codespace.proofs.Lengths.{is-length, no-length}
 
 -- a bit, as the machine shifts it

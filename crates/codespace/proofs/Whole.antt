@@ -14,7 +14,7 @@ use Rattle.reading.proofs.Least.{no-true, true-or-false, lowest-ok, IsLowest}
 use Rattle.reading.proofs.Count.{Gap, Full, count-gap, count-full, count-agree, count-zero, count-none, no-gap}
 use Rattle.codespace.specs.Ledger.{Codeword, codeword, share, begins, taken, free, freeStrings, freeCodeword, isLength, IsLength, answer, enlist, after, answers}
 use Rattle.codespace.specs.Claims.{accepted, acceptedShare, starts, startsWith}
-use Rattle.codespace.specs.Blocks.{vacant, Block, blockAbove, blockFor, valueOf, restOf, enterAnswer, enterBlocks, runAnswers, runBlocks, emptyBlocks}
+use Rattle.codespace.specs.inner.Blocks.{vacant, Block, blockAbove, blockFor, valueOf, restOf, enterAnswer, enterBlocks, runAnswers, runBlocks, emptyBlocks}
 use Rattle.codespace.proofs.Lengths.{is-length, length-is}
 use Rattle.codespace.proofs.Chain.{Chain, end, gone, occupied, Next, Provided, block-above-ok}
 use Rattle.codespace.proofs.Refine.{less, begins-then, codeword-full, codeword-count, whole, ends, enter-ok, run-ok}

@@ -7,7 +7,7 @@ use lib.Dec.{ltb}
 use lib.ListN.{length}
 use Rattle.reading.specs.Pad.{pad}
 use Rattle.codespace.specs.Ledger.{answer, after, answers}
-use Rattle.codespace.specs.Blocks.{enterAnswer, enterBlocks, Reached}
+use Rattle.codespace.specs.inner.Blocks.{enterAnswer, enterBlocks, Reached}
 use Rattle.codespace.specs.Answers.{number}
 
 -- ENTERING ONE LENGTH: the space bs before it, the length, the number r that is given, the space bs′ after it

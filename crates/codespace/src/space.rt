@@ -8,8 +8,8 @@ ghost use mathlib.Core.List.{[], map};
 ghost use Prim.Native.Nat.{_-_, _<_, _≤_};
 ghost use lib.ListN.{length, set, take};
 ghost use Rattle.codespace.specs.Claims.{Balanced};
-ghost use Rattle.codespace.specs.Blocks.{vacant, emptyBlocks, enterAnswer, Reached};
-ghost use Rattle.codespace.specs.Steps.{firstOccupied, upperHalves};
+ghost use Rattle.codespace.specs.inner.Blocks.{vacant, emptyBlocks, enterAnswer, Reached};
+ghost use Rattle.codespace.specs.inner.Steps.{firstOccupied, upperHalves};
 ghost use Rattle.codespace.specs.Answers.{outcome, isNone};
 ghost use Rattle.codespace.specs.Entering.{Entered, enteredAll};
 

@@ -23,11 +23,11 @@ use Rattle.codespace.specs.Ledger.{share}
 use Rattle.codeword_assignment.specs.declared.book.Assigned.the-variants.{Accepted}
 use Rattle.codeword_assignment.proofs.Laws.{accepted-decodable, used-length}
 use Rattle.codeword.specs.Codeword.{bitsAt, isCodeword, entryOf, orGoOn, matching, loneBits, codeword}
-use Rattle.bits.specs.Cursors.{position, outcome}
+use Rattle.bits.specs.inner.Cursors.{position, outcome}
 use Rattle.bits.specs.declared.Cursor.{Cursor}
 use Rattle.bits.specs.declared.Field.{Field}
-use Rattle.codeword.specs.Book.{Codebook}
-use Rattle.codeword.specs.Claims.{Settled}
+use Rattle.codeword.specs.inner.Book.{Codebook}
+use Rattle.codeword.specs.inner.Claims.{Settled}
 use Rattle.codeword.proofs.Accepted.{none-refused}
 use Rattle.codeword.proofs.Bits.{bits-lt, bits-begin, bits-cut}
 use Rattle.codeword_assignment.proofs.Lone.{none-used, mark-none, mark-lone}

@@ -14,7 +14,7 @@ use mir.Val.{Fits}
 use lib.ListN.{length, getD}
 use Rattle.reading.specs.Outcome.{refusal, Outcome, ok, bad}
 use Rattle.bits.specs.Field.{bitAt}
-use Rattle.bits.specs.Cursors.{position, refusalOf, outcome}
+use Rattle.bits.specs.inner.Cursors.{position, refusalOf, outcome}
 use Rattle.bits.specs.declared.Cursor.{Cursor}
 use Rattle.bits.specs.declared.Field.{Field}
 use Rattle.bits.specs.declared.Field.the-variants.{Value}
@@ -22,7 +22,7 @@ use Rattle.reading.proofs.Least.{lt-or-le}
 use Rattle.codeword_assignment.specs.Book.{ledgerCodewords, PrefixCode}
 use Rattle.codeword_assignment.proofs.Laws.{accepted-decodable, used-length, codewords-length}
 use Rattle.codeword.specs.Codeword.{bitsAt, matching}
-use Rattle.codeword.specs.Book.{Codebook}
+use Rattle.codeword.specs.inner.Book.{Codebook}
 use Rattle.codeword.proofs.Accepted.{none-refused}
 use Rattle.codeword.proofs.Bits.{bits-more, double-fits, more-fits}
 use Rattle.codeword.proofs.Matching.{Starts, NoneBefore, none-fewer, passes-short, passes-other, turn-never, turn-on, turn-found, turn-end, turn-cut}

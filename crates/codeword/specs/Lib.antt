@@ -1,3 +1,2 @@
 pub mod Codeword
-pub mod Book
-pub mod Claims
+pub mod inner

@@ -9,11 +9,11 @@ ghost use lib.ListN.{length};
 ghost use Rattle.reading.specs.Outcome.{refusal, bad};
 ghost use Rattle.reading.specs.Reader.{mapped};
 ghost use Rattle.bits.specs.Field.{bitAt, field};
-ghost use Rattle.bits.specs.Cursors.{position, outcome};
+ghost use Rattle.bits.specs.inner.Cursors.{position, outcome};
 ghost use Rattle.codeword_assignment.specs.Book.{loneMark};
 ghost use Rattle.codeword.specs.Codeword.{codeword, loneBits, matching};
-ghost use Rattle.codeword.specs.Book.{Codebook};
-ghost use Rattle.codeword.specs.Claims.{Settled};
+ghost use Rattle.codeword.specs.inner.Book.{Codebook};
+ghost use Rattle.codeword.specs.inner.Claims.{Settled};
 
 // The entry whose codeword stands at the cursor, with the position behind it; or the cut, where the packet ends within the codeword. `lone` is the
 // number of the book's sole used entry of length 1 plus one, or 0 where it has none.

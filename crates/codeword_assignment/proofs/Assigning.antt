@@ -17,7 +17,7 @@ use Rattle.reading.proofs.Least.{lt-or-le, lowest-is, lowest-none, below-suc}
 use Rattle.reading.proofs.Pads.{pad-nil, pad-set}
 use Rattle.reading.proofs.Tabulate.{tabulate-length}
 use Rattle.codespace.specs.Ledger.{freeStrings, IsLength, answer, after}
-use Rattle.codespace.specs.Blocks.{vacant, enterAnswer, enterBlocks, Reached}
+use Rattle.codespace.specs.inner.Blocks.{vacant, enterAnswer, enterBlocks, Reached}
 use Rattle.codespace.specs.Answers.{number, isNone}
 use Rattle.codeword_assignment.specs.Book.{used, isUsed, entryAnswer, orZero, isRefused, firstRefused, codewordOf, ledgerCodewords, freeAfter, isLone, verdict, assigned, written, Decodable, NextUsed}
 use Rattle.codeword_assignment.specs.declared.book.Assigned.{Assigned}

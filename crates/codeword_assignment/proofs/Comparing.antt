@@ -10,7 +10,7 @@ use lib.ListN.{length, getD, set, take}
 use Rattle.reading.proofs.Least.{lt-or-le}
 use Rattle.reading.specs.Tabulate.{tabulate}
 use Rattle.reading.proofs.Tabulate.{tabulate-at, tabulate-length, tabulate-store, tabulate-all}
-use Rattle.codespace.specs.Blocks.{vacant, enterAnswer, enterBlocks, Reached}
+use Rattle.codespace.specs.inner.Blocks.{vacant, enterAnswer, enterBlocks, Reached}
 use Rattle.codespace.specs.Answers.{number, isNone}
 use Rattle.codeword_assignment.specs.Book.{used, codewordOf, ledgerCodewords, isLone, Coded}
 use Rattle.codeword_assignment.proofs.Assigning.{Assigning, assigning-start, assigning-turn, word-is, overspecified, full-accepted, lone-accepted, underspecified, over-accepted, under-accepted}

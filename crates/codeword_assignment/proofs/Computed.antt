@@ -15,7 +15,7 @@ use Rattle.reading.specs.Least.{lowest}
 use Rattle.reading.proofs.Least.{lowest-same, and-split, true-or-false}
 use Rattle.codespace.specs.Ledger.{isLength, answer, after, answers, freeStrings}
 use Rattle.codespace.specs.Claims.{accepted}
-use Rattle.codespace.specs.Blocks.{smallest, blockAbove, blockFor, enterAnswer, enterBlocks, runAnswers, emptyBlocks}
+use Rattle.codespace.specs.inner.Blocks.{smallest, blockAbove, blockFor, enterAnswer, enterBlocks, runAnswers, emptyBlocks}
 use Rattle.codespace.specs.Answers.{isNone}
 use Rattle.codeword_assignment.specs.Book.{used, isUsed, entryAnswer, orZero, isRefused, firstRefused, codewordOf, ledgerCodewords, freeAfter, isLone, refusedOr, verdict, refusal}
 use Rattle.codeword_assignment.specs.declared.book.Assigned.{Assigned}

@@ -25,7 +25,7 @@ use Rattle.reading.specs.Least.{lowest}
 use Rattle.reading.proofs.Least.{true-or-false, true-not-false, lt-or-le, lowest-fails, below-suc}
 use Rattle.reading.proofs.Tabulate.{tabulate-length, tabulate-at}
 use Rattle.codespace.specs.Ledger.{Codeword, codeword, share, begins, taken, freeStrings, isLength, IsLength, answer, enlist, after}
-use Rattle.codespace.specs.Blocks.{runBlocks, enterAnswer, blockFor, blockAbove, smallest, emptyBlocks}
+use Rattle.codespace.specs.inner.Blocks.{runBlocks, enterAnswer, blockFor, blockAbove, smallest, emptyBlocks}
 use Rattle.codespace.specs.Answers.{isNone}
 use Rattle.codeword_assignment.specs.Book.{used, isUsed, handedOutBefore, entryAnswer, orZero, isRefused, firstRefused, codewordOf, ledgerCodewords, freeAfter, isLone, refusedOr, verdict, Begins, PrefixCode, Complete, Decodable}
 use Rattle.codeword_assignment.specs.declared.book.Assigned.the-variants.{Accepted, Overspecified, Underspecified}

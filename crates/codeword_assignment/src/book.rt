@@ -12,7 +12,7 @@ ghost use Prim.Native.Nat.{_<_, _≤_};
 ghost use lib.Dec.{eqb};
 ghost use lib.ListN.{length, take, replicate};
 ghost use Rattle.reading.specs.Pad.{pad};
-ghost use Rattle.codespace.specs.Blocks.{enterAnswer, enterBlocks};
+ghost use Rattle.codespace.specs.inner.Blocks.{enterAnswer, enterBlocks};
 ghost use Rattle.codespace.specs.Answers.{number};
 ghost use Rattle.codeword_assignment.specs.Book.{used, isLone, verdict, assigned, written, ledgerCodewords, Decodable, NextUsed, Coded};
 

@@ -14,7 +14,7 @@ use Rattle.reading.specs.Least.{lowest}
 use Rattle.reading.proofs.Least.{and-split}
 use Rattle.codespace.specs.Ledger.{isLength, answers}
 use Rattle.codespace.specs.Claims.{accepted}
-use Rattle.codespace.specs.Blocks.{smallest, blockAbove, blockFor, enterAnswer, enterBlocks, runAnswers, emptyBlocks}
+use Rattle.codespace.specs.inner.Blocks.{smallest, blockAbove, blockFor, enterAnswer, enterBlocks, runAnswers, emptyBlocks}
 use Rattle.codeword_assignment.specs.Book.{used, isUsed, isLone, orZero, refusal}
 use Rattle.codespace.proofs.Whole.{answers-are}
 use Rattle.codeword_assignment.proofs.Computed.{verdictBy, verdict-is, codewords-are, free-is}

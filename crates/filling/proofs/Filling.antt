@@ -13,7 +13,7 @@ use Rattle.reading.specs.Reader.{Reader, many}
 use Rattle.bits.specs.declared.Cursor.{Cursor}
 use Rattle.bits.specs.declared.Refusal.{Refusal}
 use Rattle.bits.specs.declared.Step.the-variants.{Next, Refused}
-use Rattle.bits.specs.Cursors.{position, refusalOf, Wrote}
+use Rattle.bits.specs.inner.Cursors.{position, refusalOf, Wrote}
 use Rattle.bits.proofs.Steps.{wrote-refused, wrote-next}
 
 -- what is done, and then what is read

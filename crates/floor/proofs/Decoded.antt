@@ -10,13 +10,13 @@ use Rattle.reading.specs.Pad.{pad}
 use Rattle.reading.proofs.Pads.{length-pad}
 use Rattle.reading.proofs.Stored.{Stored, stored-at, stored-left, stored-right, stored-first, stored-rest, stored-slice, stored-self}
 use Rattle.floor_class.specs.Layout.{classRow}
-use Rattle.floor_class.specs.Decode.{classesAt}
+use Rattle.floor_class.specs.inner.Decode.{classesAt}
 use Rattle.floor_class.proofs.Decoded.{classes-decoded}
 use Rattle.floor_x_list.specs.Content.{xList}
 use Rattle.floor.specs.Content.{Floor}
 use Rattle.floor.specs.Layout.{floorRow}
-use Rattle.floor.specs.Valid.{ValidFloor}
-use Rattle.floor.specs.Decode.{floorAt, decodeFloor}
+use Rattle.floor.specs.inner.Valid.{ValidFloor}
+use Rattle.floor.specs.inner.Decode.{floorAt, decodeFloor}
 use Rattle.floor.proofs.RowLaws.{class-count-most}
 
 -- the row of a floor has 277 numbers

@@ -11,11 +11,11 @@ use Rattle.bits.specs.declared.Cursor.{Cursor}
 use Rattle.bits.specs.declared.Refusal.{Refusal}
 use Rattle.bits.specs.declared.Field.{Field}
 use Rattle.bits.specs.declared.Field.the-variants.{Value, Refused}
-use Rattle.bits.specs.Cursors.{position, outcome}
+use Rattle.bits.specs.inner.Cursors.{position, outcome}
 use Rattle.bits.specs.Field.{field}
 use Rattle.bits.proofs.Answers.{value-is, refused-is}
 use Rattle.floor.specs.Reading.{floorType}
-use Rattle.floor.specs.Pieces.{classesTo, valuesTo}
+use Rattle.floor.specs.inner.Pieces.{classesTo, valuesTo}
 
 abbrev at : ℕ → Cursor → Refusal
 at n c = record { number = n; place = c }

@@ -14,7 +14,7 @@ use Rattle.reading.specs.Outcome.{Outcome, ok, bad, then}
 use Rattle.reading.specs.Reader.{many, mapped, into, into1}
 use Rattle.reading.specs.Lists.{all, rows}
 use Rattle.reading.specs.Pad.{pad}
-use Rattle.reading.specs.Table.{Table, table, putRow}
+use Rattle.reading.specs.inner.Table.{Table, table, putRow}
 use Rattle.reading.proofs.Least.{and-split}
 use Rattle.reading.proofs.Pads.{pad-nil, pad-get, length-pad}
 use Rattle.reading.proofs.Readers.{mapped-ok, mapped-bad}
@@ -25,11 +25,11 @@ use Rattle.bits.specs.declared.Field.{Field}
 use Rattle.bits.specs.declared.Field.the-variants.{Value, Refused}
 use Rattle.bits.specs.declared.Step.{Step}
 use Rattle.bits.specs.declared.Step.the-variants as S
-use Rattle.bits.specs.Cursors.{position, outcome, Wrote}
+use Rattle.bits.specs.inner.Cursors.{position, outcome, Wrote}
 use Rattle.bits.specs.Field.{field}
 use Rattle.bits.proofs.Answers.{value-is, refused-is, value-below}
 use Rattle.bits.proofs.Steps.{wrote-refused, wrote-next, wrote-bad, wrote-ok}
-use Rattle.numbers.specs.Cell.{cell}
+use Rattle.numbers.specs.inner.Cell.{cell}
 use Rattle.numbers.proofs.Collected.{Collected, collected, rows-cell, wrote-as, two-runs}
 use Rattle.numbers.proofs.ListLaws.{take-pad}
 use Rattle.numbers.proofs.Accepted.{field-below}
@@ -39,12 +39,12 @@ use Rattle.floor_class.specs.Reading.{class}
 use Rattle.floor_class.proofs.Decoded.{class-long}
 use Rattle.floor_x_list.specs.Content.{xList}
 use Rattle.floor_x_list.specs.Reading.{Ends, ends}
-use Rattle.floor_x_list.specs.Pieces.{EndsRead, endsRead, endsInBuffer}
+use Rattle.floor_x_list.specs.inner.Pieces.{EndsRead, endsRead, endsInBuffer}
 use Rattle.floor_x_list.proofs.Accepted.{EndsFit, ends-fit}
 use Rattle.floor.specs.Content.{classCount, valueCount}
 use Rattle.floor.specs.Layout.{floorRow}
 use Rattle.floor.specs.Reading.{floorType, floor1, floor, floorFrom}
-use Rattle.floor.specs.Pieces.{classesTo, valuesTo, rowOf, Partitions}
+use Rattle.floor.specs.inner.Pieces.{classesTo, valuesTo, rowOf, Partitions}
 
 -- the row is stored in two runs: the 5 counts with the 31 places for partitions, then the rest
 pub two-runs-at : (entry : List ℕ) (at : ℕ) (first second third : List ℕ) {middle last : List ℕ} → length first ≡ 5 → length second ≡ 31

@@ -18,12 +18,12 @@ ghost use Prim.Native.Nat.{_+_, _*_, _<_, _≤_, max};
 ghost use lib.ListN.{length, take};
 ghost use lib.Seq.{sets};
 ghost use Rattle.reading.specs.Reader.{many, into, into1};
-ghost use Rattle.reading.specs.Table.{table, putRow};
-ghost use Rattle.bits.specs.Cursors.{position, outcome, Wrote};
+ghost use Rattle.reading.specs.inner.Table.{table, putRow};
+ghost use Rattle.bits.specs.inner.Cursors.{position, outcome, Wrote};
 ghost use Rattle.floor_x_list.specs.Reading.{ends};
 ghost use Rattle.floor.specs.Layout.{floorRow, partitionsRoom, classesRoom, floorWidth};
 ghost use Rattle.floor.specs.Reading.{floorType, floor1, floor, floorFrom};
-ghost use Rattle.floor.specs.Pieces.{classesTo, valuesTo, rowOf, Partitions};
+ghost use Rattle.floor.specs.inner.Pieces.{classesTo, valuesTo, rowOf, Partitions};
 
 // The type field: 0 is refusal 14, above 1 is 10.
 pub fn read_type(packet: &[u8], from: Cursor) -> Field

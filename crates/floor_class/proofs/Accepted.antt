@@ -15,7 +15,7 @@ use Rattle.bits.proofs.Fields.{field-ok}
 use Rattle.numbers.proofs.Collected.{many-length}
 use Rattle.floor_class.specs.Content.{Class}
 use Rattle.floor_class.specs.Reading.{masterBook, subclassBook, class}
-use Rattle.floor_class.specs.Valid.{ValidClass, ValidClasses}
+use Rattle.floor_class.specs.inner.Valid.{ValidClass, ValidClasses}
 use Rattle.floor_class.proofs.ClassLaws.{master-ok}
 
 pub class-valid : (books : ℕ) (s : List ℕ) (k : ℕ) {x : Class × ℕ} → class books s k ≡ ok x → ValidClass books (x .0)

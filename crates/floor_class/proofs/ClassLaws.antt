@@ -14,7 +14,7 @@ use lib.Seq.{sets}
 use Rattle.reading.specs.Outcome.{Outcome, ok, bad, then}
 use Rattle.reading.specs.Reader.{many, judged, mapped, into, into1}
 use Rattle.reading.specs.Pad.{pad}
-use Rattle.reading.specs.Table.{Table, table, putRow}
+use Rattle.reading.specs.inner.Table.{Table, table, putRow}
 use Rattle.reading.proofs.Outcomes.{judged-ok}
 use Rattle.reading.proofs.Pads.{pad-nil, length-pad}
 use Rattle.reading.proofs.Readers.{mapped-ok, mapped-bad}
@@ -24,16 +24,16 @@ use Rattle.bits.specs.declared.Field.{Field}
 use Rattle.bits.specs.declared.Field.the-variants.{Value, Refused}
 use Rattle.bits.specs.declared.Step.{Step}
 use Rattle.bits.specs.declared.Step.the-variants as S
-use Rattle.bits.specs.Cursors.{position, outcome, Wrote}
+use Rattle.bits.specs.inner.Cursors.{position, outcome, Wrote}
 use Rattle.bits.specs.Field.{field}
 use Rattle.bits.proofs.Answers.{value-is, refused-is, value-below}
 use Rattle.bits.proofs.Steps.{wrote-refused, wrote-next, wrote-bad}
-use Rattle.numbers.specs.Cell.{cell}
+use Rattle.numbers.specs.inner.Cell.{cell}
 use Rattle.numbers.proofs.Collected.{collected, rows-cell, wrote-as}
 use Rattle.floor_class.specs.Layout.{classRow}
 use Rattle.floor_class.specs.Reading.{masterBook, subclassBook, class}
-use Rattle.floor_class.specs.Pieces.{classRowOf}
-use Rattle.floor_class.specs.Valid.{MasterFits}
+use Rattle.floor_class.specs.inner.Pieces.{classRowOf}
+use Rattle.floor_class.specs.inner.Valid.{MasterFits}
 
 abbrev at : ℕ → Cursor → Refusal
 at n c = record { number = n; place = c }

@@ -14,8 +14,8 @@ use Rattle.reading.proofs.Stored.{Stored, stored-at, stored-left, stored-right,
 use Rattle.reading.proofs.Encodes.{pad-append}
 use Rattle.floor_class.specs.Content.{Class}
 use Rattle.floor_class.specs.Layout.{classRow}
-use Rattle.floor_class.specs.Valid.{ValidClasses}
-use Rattle.floor_class.specs.Decode.{classAt, classesAt}
+use Rattle.floor_class.specs.inner.Valid.{ValidClasses}
+use Rattle.floor_class.specs.inner.Decode.{classAt, classesAt}
 
 -- the row of a class has 11 numbers
 pub class-long : (c : Class) → length (classRow c) ≡ 11

@@ -1,6 +1,4 @@
 pub mod Content
 pub mod Reading
 pub mod Layout
-pub mod Valid
-pub mod Pieces
-pub mod Decode
+pub mod inner

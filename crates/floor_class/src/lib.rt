@@ -8,12 +8,12 @@ use reading::widths::wide_u16;
 ghost use mathlib.Core.Path.{_≡_};
 ghost use Prim.Native.Nat.{_+_, _*_, _^_, _<_, _≤_};
 ghost use Rattle.reading.specs.Reader.{many, into, into1};
-ghost use Rattle.reading.specs.Table.{table, putRow};
-ghost use Rattle.bits.specs.Cursors.{position, outcome, Wrote};
-ghost use Rattle.numbers.specs.Cell.{cell};
+ghost use Rattle.reading.specs.inner.Table.{table, putRow};
+ghost use Rattle.bits.specs.inner.Cursors.{position, outcome, Wrote};
+ghost use Rattle.numbers.specs.inner.Cell.{cell};
 ghost use Rattle.floor_class.specs.Layout.{classRow, classWidth};
 ghost use Rattle.floor_class.specs.Reading.{masterBook, subclassBook, class};
-ghost use Rattle.floor_class.specs.Pieces.{classRowOf};
+ghost use Rattle.floor_class.specs.inner.Pieces.{classRowOf};
 
 // The width of a class's row (specs/Layout.antt).
 pub const CLASS_WIDTH: usize = 11;

@@ -12,7 +12,7 @@ use borrow.Author.Tests.{lt-ltb, le-ltb, eq-eqb, ne-eqb, ltb-true, eqb-true}
 use Rattle.floor_line.proofs.Integers.{lt-or-le}
 use Rattle.floor_line.proofs.LineLaws.{height-le}
 use Rattle.floor_curve.specs.Curve.{xOr, lastAt, nextAfter, heightAt, lineAt, between, curveAt, places, fitting, Left, left, curve, Bytes}
-use Rattle.floor_curve.specs.Drawing.{Drawn, Flat, Points}
+use Rattle.floor_curve.specs.inner.Drawing.{Drawn, Flat, Points}
 use Rattle.floor_curve.proofs.PointLaws.{within, last-le, last-ge, next-is, Clear, last-same, next-same, clear-next, clear-past}
 use Rattle.floor_curve.proofs.DrawLaws.{are-places, line-height-at}
 

@@ -8,13 +8,13 @@ use mathlib.Core.Path.{_≡_, refl, sym, ap, _∙_}
 use lib.IntN.{pos}
 use lib.ListN.{length, getD, set, length-set}
 use lib.Seq.{getD-set-same, getD-set-other, ext-getD}
-use Rattle.floor_line.specs.LineHeight.{lineHeight}
+use Rattle.floor_line.specs.inner.LineHeight.{lineHeight}
 use Rattle.floor_line.proofs.Integers.{lt-or-le}
 use Rattle.floor_line.proofs.LineLaws.{line-pos, height-le}
-use Rattle.floor_line.specs.RenderLine.{renderLine}
+use Rattle.floor_line.specs.inner.RenderLine.{renderLine}
 use Rattle.floor_line.proofs.RenderLaws.{render-is-line}
 use Rattle.floor_curve.specs.Curve.{natural, lineAt, heightAt, places}
-use Rattle.floor_curve.specs.Drawing.{Drawn, Flat}
+use Rattle.floor_curve.specs.inner.Drawing.{Drawn, Flat}
 
 -- ---- heights are bytes
 pub line-height-at : (x0 y0 x1 y1 x : ℕ) → lineAt x0 y0 x1 y1 x ≡ lineHeight x0 y0 x1 y1 x

@@ -1,2 +1,2 @@
 pub mod Curve
-pub mod Drawing
+pub mod inner

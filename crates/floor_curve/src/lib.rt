@@ -12,7 +12,7 @@ ghost use mathlib.Core.Path.{_≡_};
 ghost use lib.ListN.{length, replicate};
 ghost use Rattle.floor_curve.specs.Curve as drawing;
 ghost use Rattle.floor_curve.specs.Curve.{left, places, curveAt, Bytes};
-ghost use Rattle.floor_curve.specs.Drawing.{Points};
+ghost use Rattle.floor_curve.specs.inner.Drawing.{Points};
 
 // Line by line, from each flagged point to the next, as far as `out` has places; past the last point flat.
 fn draw_points(x: &[u16], y: &[u8], flags: &[u8], multiplier: u8, out: &mut [u8])

@@ -4,7 +4,7 @@ ghost use mathlib.Core.Path.{_≡_};
 ghost use Prim.Native.Nat.{_≤_, _<_, min};
 ghost use lib.ListN.{length};
 ghost use Rattle.floor_curve.specs.Curve.{lineAt};
-ghost use Rattle.floor_curve.specs.Drawing.{Drawn, Flat};
+ghost use Rattle.floor_curve.specs.inner.Drawing.{Drawn, Flat};
 
 fn lesser(a: usize, b: usize) -> usize
     ensures { λ r. ⌜ r ≡ min a b ⌝ }

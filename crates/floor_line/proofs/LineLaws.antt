@@ -8,7 +8,7 @@ use mathlib.Core.Path.{_≡_, refl, sym, ap, _∙_}
 use lib.IntN.{ℤ, pos, natAbs, _+ℤ_, _-ℤ_}
 use borrow.Author.Tests.{lt-ltb, le-ltb}
 use Rattle.floor_line.specs.Line.{offset, line}
-use Rattle.floor_line.specs.LineHeight.{difference, lineHeight}
+use Rattle.floor_line.specs.inner.LineHeight.{difference, lineHeight}
 use Rattle.floor_line.proofs.Integers.{lt-or-le, same-difference, pos-difference, minus-difference, abs-difference, ltZ-difference, plus, minus}
 
 -- ---- the offset, as the program computes it

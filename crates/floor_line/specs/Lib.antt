@@ -1,5 +1,4 @@
 pub mod Line
-pub mod LineHeight
-pub mod RenderLine
 pub mod Search
 pub mod Neighbours
+pub mod inner

@@ -2,7 +2,7 @@
 ghost use mathlib.Core.Path.{_≡_};
 ghost use Prim.Native.Nat.{_≤_, _<_};
 ghost use Rattle.floor_line.specs.Line as rule;
-ghost use Rattle.floor_line.specs.LineHeight.{lineHeight};
+ghost use Rattle.floor_line.specs.inner.LineHeight.{lineHeight};
 
 // floor(|dy| * (x - x0) / (x1 - x0)); the product of two 32-bit numbers fits 64 bits.
 fn offset(x0: u32, x1: u32, ady: u32, x: u32) -> u32

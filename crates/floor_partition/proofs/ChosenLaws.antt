@@ -15,20 +15,20 @@ use Rattle.reading.specs.Lists.{all}
 use Rattle.reading.specs.Outcome.{ok, bad}
 use Rattle.reading.specs.Outcome as O
 use Rattle.reading.specs.Reader.{each, into, into1}
-use Rattle.reading.specs.Table.{Table, table, putRow}
+use Rattle.reading.specs.inner.Table.{Table, table, putRow}
 use Rattle.reading.proofs.Least.{and-split}
 use Rattle.reading.proofs.Readers.{each-done, each-bad, each-next, mapped-ok, mapped-bad}
 use Rattle.bits.specs.declared.Cursor.{Cursor}
 use Rattle.bits.specs.declared.Refusal.{Refusal}
 use Rattle.bits.specs.declared.Step.{Step}
 use Rattle.bits.specs.declared.Step.the-variants.{Next, Refused}
-use Rattle.bits.specs.Cursors.{position, refusalOf, Wrote}
+use Rattle.bits.specs.inner.Cursors.{position, refusalOf, Wrote}
 use Rattle.bits.proofs.Steps.{wrote-refused, wrote-next, wrote-bad, wrote-ok}
-use Rattle.numbers.specs.Cell.{cell}
+use Rattle.numbers.specs.inner.Cell.{cell}
 use Rattle.floor_class.specs.Content.{Class}
-use Rattle.floor_class.specs.Decode.{classAt}
-use Rattle.floor_partition.specs.Partition.{chosen, value}
-use Rattle.floor_partition.specs.Stored.{lengthsIn, classIn, PlaceStored, ClassStored}
+use Rattle.floor_class.specs.inner.Decode.{classAt}
+use Rattle.floor_partition.specs.inner.Partition.{chosen, value}
+use Rattle.floor_partition.specs.inner.Stored.{lengthsIn, classIn, PlaceStored, ClassStored}
 
 pub all-get : (f : ℕ → Bool) (l : List ℕ) (i : ℕ) → all f l ≡ true → i < length l → f (getD l i 0) ≡ true
 unfolding all

@@ -9,23 +9,23 @@ use lib.ListN.{getD, set, drop, length-take}
 use lib.Pow.{shl-exact}
 use Rattle.reading.specs.Outcome.{ok}
 use Rattle.reading.specs.Reader.{mapped, into1}
-use Rattle.reading.specs.Table.{Table, table, putRow}
+use Rattle.reading.specs.inner.Table.{Table, table, putRow}
 use Rattle.bits.specs.declared.Cursor.{Cursor}
 use Rattle.bits.specs.declared.Refusal.{Refusal}
 use Rattle.bits.specs.declared.Field.{Field}
 use Rattle.bits.specs.declared.Field.the-variants.{Value, Refused}
 use Rattle.bits.specs.declared.Step.the-variants as S
-use Rattle.bits.specs.Cursors.{position, outcome, Wrote}
+use Rattle.bits.specs.inner.Cursors.{position, outcome, Wrote}
 use Rattle.bits.proofs.Answers.{value-is, refused-is}
 use Rattle.bits.proofs.Steps.{wrote-refused, wrote-next}
 use Rattle.codeword.specs.Codeword.{codeword}
 use Rattle.codeword.proofs.Laws.{read-used}
 use Rattle.book.specs.Layout.{entriesAt, firstEntryAt}
-use Rattle.book_codeword.specs.Stored.{entriesOf, BookStored}
-use Rattle.numbers.specs.Cell.{cell}
-use Rattle.floor_class.specs.Decode.{classAt}
-use Rattle.floor_partition.specs.Partition.{classValue, value}
-use Rattle.floor_partition.specs.Stored.{lengthsIn, classIn, Readable, PlaceStored, ClassStored}
+use Rattle.book_codeword.specs.inner.Stored.{entriesOf, BookStored}
+use Rattle.numbers.specs.inner.Cell.{cell}
+use Rattle.floor_class.specs.inner.Decode.{classAt}
+use Rattle.floor_partition.specs.inner.Partition.{classValue, value}
+use Rattle.floor_partition.specs.inner.Stored.{lengthsIn, classIn, Readable, PlaceStored, ClassStored}
 
 -- 1 << e, as the machine computes it
 pub one-shifted : (e : ℕ) → e ≤ 3 → (1 * 2 ^ e) % 2 ^ 32 ≡ 2 ^ e

@@ -6,7 +6,7 @@ use lib.ListN.{length}
 use lib.Seq.{sets}
 use Rattle.reading.specs.Outcome.{Outcome, ok, bad}
 use Rattle.reading.specs.Reader.{each, mapped, into, into1}
-use Rattle.reading.specs.Table.{Table, table, putRow}
+use Rattle.reading.specs.inner.Table.{Table, table, putRow}
 use Rattle.reading.proofs.Tables.{puts-rows}
 use Rattle.bits.specs.declared.Cursor.{Cursor}
 use Rattle.bits.specs.declared.Refusal.{Refusal}
@@ -14,13 +14,13 @@ use Rattle.bits.specs.declared.Field.{Field}
 use Rattle.bits.specs.declared.Field.the-variants.{Value, Refused}
 use Rattle.bits.specs.declared.Step.{Step}
 use Rattle.bits.specs.declared.Step.the-variants as S
-use Rattle.bits.specs.Cursors.{position, outcome, Wrote}
+use Rattle.bits.specs.inner.Cursors.{position, outcome, Wrote}
 use Rattle.bits.proofs.Answers.{value-is, refused-is}
 use Rattle.bits.proofs.Steps.{wrote-refused}
-use Rattle.numbers.specs.Cell.{cell}
+use Rattle.numbers.specs.inner.Cell.{cell}
 use Rattle.floor_class.specs.Content.{Class}
 use Rattle.numbers.proofs.Collected.{rows-cell, wrote-as}
-use Rattle.floor_partition.specs.Partition.{classValue, chosen, value, partition, whole}
+use Rattle.floor_partition.specs.inner.Partition.{classValue, chosen, value, partition, whole}
 
 -- numbers written one by one, and as one run
 pub as-run : (o : Outcome (List ℕ × ℕ)) (l : List ℕ) (i : ℕ) → into (putRow cell) o (table l i) ≡ into1 (putRow whole) o (table l i)

@@ -1,2 +1,1 @@
-pub mod Partition
-pub mod Stored
+pub mod inner

@@ -6,11 +6,11 @@ use reading::buffers;
 ghost use mathlib.Core.Path.{_≡_};
 ghost use Prim.Native.Nat.{_+_, _^_, _<_, _≤_};
 ghost use Rattle.reading.specs.Reader.{each, into, into1};
-ghost use Rattle.reading.specs.Table.{table, putRow};
-ghost use Rattle.bits.specs.Cursors.{position, outcome, Wrote};
-ghost use Rattle.numbers.specs.Cell.{cell};
-ghost use Rattle.floor_partition.specs.Partition.{classValue, chosen, value, partition, whole};
-ghost use Rattle.floor_partition.specs.Stored.{lengthsIn, classIn, PlaceStored, ClassStored};
+ghost use Rattle.reading.specs.inner.Table.{table, putRow};
+ghost use Rattle.bits.specs.inner.Cursors.{position, outcome, Wrote};
+ghost use Rattle.numbers.specs.inner.Cell.{cell};
+ghost use Rattle.floor_partition.specs.inner.Partition.{classValue, chosen, value, partition, whole};
+ghost use Rattle.floor_partition.specs.inner.Stored.{lengthsIn, classIn, PlaceStored, ClassStored};
 
 pub fn wide(x: u16) -> usize
     ensures { λ r. ⌜ r ≡ x ⌝ }

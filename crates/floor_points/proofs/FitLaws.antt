@@ -11,7 +11,7 @@ use lib.ListN.{length, getD, replicate, take}
 use lib.Seq.{length-take-le}
 use borrow.Author.Tests.{lt-ltb, le-ltb, eq-eqb, ne-eqb, ltb-true, eqb-true}
 use Rattle.floor_points.specs.FinalY.{rangeOf, fitting, Left, left, finalYs, clamped, points, Multiplies}
-use Rattle.floor_points.specs.Heights.{Ready}
+use Rattle.floor_points.specs.inner.Heights.{Ready}
 
 -- ---- ranges
 pub range-1 : (m : ℕ) → m ≡ 1 → 256 ≡ rangeOf m

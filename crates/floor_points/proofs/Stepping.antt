@@ -8,9 +8,9 @@ use lib.IntN.{ℤ, pos}
 use lib.ListN.{length, getD, set, replicate}
 use Rattle.floor_line.specs.Line.{line}
 use Rattle.floor_points.specs.FinalY.{Points, predicted, unwrapped, flagged, step, steps, begun, points, clamped}
-use Rattle.floor_line.specs.LineHeight.{lineHeight}
+use Rattle.floor_line.specs.inner.LineHeight.{lineHeight}
 use Rattle.floor_line.specs.Neighbours.{lowNeighbour, highNeighbour}
-use Rattle.floor_points.specs.Heights.{yOf, heightOf, clampedHeight, pointsOf, Bounded, Ready}
+use Rattle.floor_points.specs.inner.Heights.{yOf, heightOf, clampedHeight, pointsOf, Bounded, Ready}
 use Rattle.floor_line.proofs.Integers.{same-difference, pos-difference}
 use Rattle.floor_line.proofs.LineLaws.{line-height, height-le}
 use Rattle.floor_points.proofs.Filling.{Filling, fill-end, getD-map, map-set}

@@ -13,8 +13,8 @@ use lib.IntN.{ℤ, pos, negsuc, _+ℤ_, _-ℤ_, _*ℤ_, -ℤ-+ℤ-cancel}
 use lib.Signed.{ltZ, leZ}
 use borrow.Author.Tests.{lt-ltb, le-ltb, le-leb, lt-leb, eq-eqb, ne-eqb}
 use Rattle.floor_points.specs.FinalY.{room, unwrapped, clamped, flagged}
-use Rattle.floor_line.specs.LineHeight.{difference}
-use Rattle.floor_points.specs.Heights.{yOf, movedHeight}
+use Rattle.floor_line.specs.inner.LineHeight.{difference}
+use Rattle.floor_points.specs.inner.Heights.{yOf, movedHeight}
 use Rattle.floor_line.proofs.Integers.{lt-or-le, same-ltb, same-leb, below, above, same-difference, pos-difference, add-difference, twice-difference, ltZ-difference, leZ-difference, plus, minus, from}
 
 -- a height moved by half a value

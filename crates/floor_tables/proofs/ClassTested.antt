@@ -11,13 +11,13 @@ use Rattle.reading.specs.Lists.{rows}
 use Rattle.reading.specs.Pad.{pad}
 use Rattle.floor_class.specs.Content.{Class}
 use Rattle.floor_class.specs.Layout.{classRow}
-use Rattle.floor_class.specs.Valid.{ValidClass, ValidClasses}
-use Rattle.floor_class.specs.Decode.{classAt, classesAt, noClass}
+use Rattle.floor_class.specs.inner.Valid.{ValidClass, ValidClasses}
+use Rattle.floor_class.specs.inner.Decode.{classAt, classesAt, noClass}
 use Rattle.reading.proofs.Stored.{Stored, stored-at, stored-both}
 use Rattle.floor_class.proofs.Decoded.{class-long}
 use Rattle.floor_class.proofs.Decoded.{ClassStored, class-stored}
 use Rattle.floor_row.proofs.Laws.{class-row}
-use Rattle.floor_tables.specs.ClassRules.{ClassRules, ClassesRules}
+use Rattle.floor_tables.specs.inner.ClassRules.{ClassRules, ClassesRules}
 use Rattle.floor_tables.proofs.Runs.{slice-long, stored-cons, slice-stored, stored-padded, padded-zeros, padded-below, slice-below, same-limit, other-limit}
 
 -- ---- a class

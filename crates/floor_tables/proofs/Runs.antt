@@ -15,7 +15,7 @@ use Rattle.reading.specs.Pad.{pad}
 use Rattle.reading.proofs.Least.{and-split}
 use Rattle.reading.proofs.Pads.{pad-get, length-pad}
 use Rattle.reading.proofs.Stored.{Stored, stored-both}
-use Rattle.floor_tables.specs.ClassRules.{Below}
+use Rattle.floor_tables.specs.inner.ClassRules.{Below}
 
 -- ---- tests of every number, place by place
 

@@ -18,18 +18,18 @@ use Rattle.floor.specs.Content.{Floor, classCount, valueCount}
 use Rattle.floor_x_list.specs.Content.{xList}
 use Rattle.floor_class.specs.Layout.{classRow}
 use Rattle.floor.specs.Layout.{floorRow}
-use Rattle.floor.specs.Valid.{ValidFloor, ValidFloors}
-use Rattle.floor.specs.Pieces.{classesTo, valuesTo}
-use Rattle.floor_tables.specs.Rules.{ListRules, FloorRules, FloorsRules}
-use Rattle.floor_class.specs.Decode.{classesAt}
-use Rattle.floor.specs.Decode.{floorAt, noFloor}
-use Rattle.floor_tables.specs.Recognised.{FloorsRecognised}
+use Rattle.floor.specs.inner.Valid.{ValidFloor, ValidFloors}
+use Rattle.floor.specs.inner.Pieces.{classesTo, valuesTo}
+use Rattle.floor_tables.specs.inner.Rules.{ListRules, FloorRules, FloorsRules}
+use Rattle.floor_class.specs.inner.Decode.{classesAt}
+use Rattle.floor.specs.inner.Decode.{floorAt, noFloor}
+use Rattle.floor_tables.specs.inner.Recognised.{FloorsRecognised}
 use Rattle.reading.proofs.Stored.{Stored, stored-at, stored-both, stored-first, stored-rest, stored-slice, stored-of}
 use Rattle.floor_class.proofs.Decoded.{class-long}
 use Rattle.floor.proofs.RowLaws.{class-count-most, classes-counted, values-counted}
 use Rattle.floor.proofs.Decoded.{floor-long, FloorStored, floor-stored, xs-stored}
 use Rattle.floor.proofs.Laws.{floors-row}
-use Rattle.floor_tables.specs.ClassRules.{Below}
+use Rattle.floor_tables.specs.inner.ClassRules.{Below}
 use Rattle.reading.proofs.Encodes.{rows-length, iff-false, refuted, shown}
 use Rattle.floor_tables.proofs.Runs.{slice-long, stored-cons, slice-stored, stored-padded, padded-zeros, padded-below, slice-below, stored-whole, place}
 use Rattle.floor_tables.proofs.ClassTested.{classes-recognised, classes-tested}

@@ -1,3 +1,1 @@
-pub mod ClassRules
-pub mod Rules
-pub mod Recognised
+pub mod inner

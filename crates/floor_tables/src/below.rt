@@ -6,7 +6,7 @@ ghost use mathlib.Core.Bool.{true};
 ghost use mathlib.Core.Logic.{_↔_};
 ghost use Prim.Native.Nat.{_<_};
 ghost use lib.ListN.{getD};
-ghost use Rattle.floor_tables.specs.ClassRules.{Below};
+ghost use Rattle.floor_tables.specs.inner.ClassRules.{Below};
 
 // A place of the table.
 pub fn number(floors: &[u16], at: usize) -> usize

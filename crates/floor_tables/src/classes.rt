@@ -8,8 +8,8 @@ ghost use mathlib.Core.Path.{_≡_};
 ghost use mathlib.Core.Bool.{true};
 ghost use mathlib.Core.Logic.{_↔_};
 ghost use Prim.Native.Nat.{_≤_};
-ghost use Rattle.floor_class.specs.Valid.{MasterFits};
-ghost use Rattle.floor_tables.specs.ClassRules.{BookRules, ClassRules, ClassesRules};
+ghost use Rattle.floor_class.specs.inner.Valid.{MasterFits};
+ghost use Rattle.floor_tables.specs.inner.ClassRules.{BookRules, ClassRules, ClassesRules};
 
 // Whether there is a master book exactly where there are subclass bits, and it is set up.
 fn is_master(books: usize, subclasses: usize, master: usize) -> bool

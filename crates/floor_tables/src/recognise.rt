@@ -17,8 +17,8 @@ ghost use mathlib.Core.Bool.{true};
 ghost use mathlib.Core.Logic.{_↔_};
 ghost use Prim.Native.Nat.{_+_, _≤_};
 ghost use lib.ListN.{length, getD};
-ghost use Rattle.floor_tables.specs.Rules.{PartitionRules, NamedRules, CountRules, HeadRules, ListRules, FloorRules, FloorsRules};
-ghost use Rattle.floor_tables.specs.Recognised.{FloorsRecognised};
+ghost use Rattle.floor_tables.specs.inner.Rules.{PartitionRules, NamedRules, CountRules, HeadRules, ListRules, FloorRules, FloorsRules};
+ghost use Rattle.floor_tables.specs.inner.Recognised.{FloorsRecognised};
 ghost use Rattle.floor.specs.Layout.{floorWidth};
 
 // Whether the partitions of the floor at place `at` stand.

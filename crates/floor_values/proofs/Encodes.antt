@@ -5,16 +5,16 @@ use mathlib.Core.List.{List, [], _∷_}
 use mathlib.Core.Path.{_≡_}
 use lib.ListN.{length, getD}
 use Rattle.floor.specs.Content.{Floor}
-use Rattle.floor.specs.Decode.{noFloor}
+use Rattle.floor.specs.inner.Decode.{noFloor}
 use Rattle.floor.specs.Layout.{floorRow}
-use Rattle.floor.specs.Valid.{ValidFloor}
-use Rattle.floor.specs.Valid.{ValidFloors}
-use Rattle.floor_tables.specs.Recognised.{FloorsRecognised}
+use Rattle.floor.specs.inner.Valid.{ValidFloor}
+use Rattle.floor.specs.inner.Valid.{ValidFloors}
+use Rattle.floor_tables.specs.inner.Recognised.{FloorsRecognised}
 use Rattle.floor.proofs.Decoded.{floor-long, floor-decoded-at}
 use Rattle.reading.proofs.Stored.{Stored}
 use Rattle.floor.proofs.Laws.{floors-row}
-use Rattle.floor_partition.specs.Stored.{Readable}
-use Rattle.floor_values.specs.Stored.{floorIn, FloorStored}
+use Rattle.floor_partition.specs.inner.Stored.{Readable}
+use Rattle.floor_values.specs.inner.Stored.{floorIn, FloorStored}
 
 valid-floor : (b : ℕ) (fs : List Floor) (n : ℕ) → n < length fs → ValidFloors b fs → ValidFloor b (getD fs n noFloor)
 unfolding ValidFloors

@@ -5,17 +5,17 @@ use mathlib.Core.List.{List}
 use mathlib.Core.Path.{_≡_, ap, _∙_}
 use lib.ListN.{getD}
 use Rattle.reading.specs.Reader.{many, into}
-use Rattle.reading.specs.Table.{Table, table, putRow}
+use Rattle.reading.specs.inner.Table.{Table, table, putRow}
 use Rattle.bits.specs.declared.Cursor.{Cursor}
 use Rattle.bits.specs.declared.Step.{Step}
-use Rattle.bits.specs.Cursors.{position, Wrote}
+use Rattle.bits.specs.inner.Cursors.{position, Wrote}
 use Rattle.bits.specs.Field.{field}
 use Rattle.bits.specs.Ilog.{highestSet, ilog}
-use Rattle.numbers.specs.Cell.{cell}
-use Rattle.floor.specs.Decode.{floorAt}
+use Rattle.numbers.specs.inner.Cell.{cell}
+use Rattle.floor.specs.inner.Decode.{floorAt}
 use Rattle.floor_points.specs.FinalY.{rangeOf}
-use Rattle.floor_values.specs.Values.{firstBits}
-use Rattle.floor_values.specs.Stored.{floorIn, FloorStored}
+use Rattle.floor_values.specs.inner.Values.{firstBits}
+use Rattle.floor_values.specs.inner.Stored.{floorIn, FloorStored}
 
 -- the four multipliers: 8, 7, 7 and 6 bits
 pub record Bits (m : ℕ) : Type 0 where

@@ -11,7 +11,7 @@ use lib.Seq.{sets}
 use Rattle.reading.specs.Lists.{rows}
 use Rattle.reading.specs.Outcome.{Outcome, ok, bad, then}
 use Rattle.reading.specs.Reader.{many, each, mapped, puts, into}
-use Rattle.reading.specs.Table.{Table, table, putRow}
+use Rattle.reading.specs.inner.Table.{Table, table, putRow}
 use Rattle.reading.proofs.Readers.{mapped-ok, mapped-bad}
 use Rattle.reading.proofs.Tables.{puts-rows, sets-append}
 use Rattle.bits.specs.declared.Cursor.{Cursor}
@@ -20,16 +20,16 @@ use Rattle.bits.specs.declared.Field.{Field}
 use Rattle.bits.specs.declared.Field.the-variants.{Value, Refused}
 use Rattle.bits.specs.declared.Step.{Step}
 use Rattle.bits.specs.declared.Step.the-variants as S
-use Rattle.bits.specs.Cursors.{position, outcome, Wrote}
+use Rattle.bits.specs.inner.Cursors.{position, outcome, Wrote}
 use Rattle.bits.specs.Field.{field}
 use Rattle.bits.proofs.Answers.{value-is, refused-is}
 use Rattle.bits.proofs.Steps.{wrote-refused, wrote-next, wrote-bad, wrote-ok}
 use Rattle.bits.proofs.Written.{wrote-through}
-use Rattle.numbers.specs.Cell.{cell}
+use Rattle.numbers.specs.inner.Cell.{cell}
 use Rattle.floor.specs.Content.{Floor}
 use Rattle.numbers.proofs.Collected.{rows-cell, wrote-as, many-length}
-use Rattle.floor_partition.specs.Partition.{whole}
-use Rattle.floor_values.specs.Values.{firstBits, partitionOf, usedValues, floorValues, answeredValues}
+use Rattle.floor_partition.specs.inner.Partition.{whole}
+use Rattle.floor_values.specs.inner.Values.{firstBits, partitionOf, usedValues, floorValues, answeredValues}
 
 -- the later values behind the first two
 after : (entry list ys : List ℕ) → sets entry 0 ys ≡ list → length ys ≡ 2 → (o : Outcome (List (List ℕ) × ℕ))

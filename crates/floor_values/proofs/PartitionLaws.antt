@@ -8,25 +8,25 @@ use lib.Seq.{sets, getD-take, getD-drop}
 use Rattle.reading.specs.Lists.{rows}
 use Rattle.reading.specs.Outcome.{Outcome}
 use Rattle.reading.specs.Reader.{each, mapped, puts, into, into1}
-use Rattle.reading.specs.Table.{Table, table, putRow}
+use Rattle.reading.specs.inner.Table.{Table, table, putRow}
 use Rattle.reading.proofs.Tables.{puts-rows}
 use Rattle.bits.specs.declared.Cursor.{Cursor}
 use Rattle.bits.specs.declared.Refusal.{Refusal}
 use Rattle.bits.specs.declared.Step.{Step}
 use Rattle.bits.specs.declared.Step.the-variants as S
-use Rattle.bits.specs.Cursors.{position, Wrote}
+use Rattle.bits.specs.inner.Cursors.{position, Wrote}
 use Rattle.bits.proofs.Steps.{EachRest, each-loop-start, each-loop-next, each-loop-refused, each-loop-done}
 use Rattle.bits.proofs.Written.{wrote-through}
 use Rattle.floor_class.specs.Content.{Class}
 use Rattle.floor.specs.Content.{classCount}
-use Rattle.floor_class.specs.Decode.{noClass, classAt, classesAt}
-use Rattle.floor.specs.Decode.{floorAt}
-use Rattle.floor_class.specs.Valid.{ValidClass, ValidClasses}
+use Rattle.floor_class.specs.inner.Decode.{noClass, classAt, classesAt}
+use Rattle.floor.specs.inner.Decode.{floorAt}
+use Rattle.floor_class.specs.inner.Valid.{ValidClass, ValidClasses}
 use Rattle.floor.proofs.RowLaws.{class-count-most}
-use Rattle.floor_partition.specs.Partition.{partition, whole}
-use Rattle.floor_values.specs.Values.{partitionOf}
-use Rattle.floor_partition.specs.Stored.{lengthsIn, classIn, ClassStored}
-use Rattle.floor_values.specs.Stored.{floorIn, FloorStored}
+use Rattle.floor_partition.specs.inner.Partition.{partition, whole}
+use Rattle.floor_values.specs.inner.Values.{partitionOf}
+use Rattle.floor_partition.specs.inner.Stored.{lengthsIn, classIn, ClassStored}
+use Rattle.floor_values.specs.inner.Stored.{floorIn, FloorStored}
 
 -- the classes of a floor, as they lie in the table
 pub classes-long : (t : List ℕ) (at n : ℕ) → length (classesAt t at n) ≡ n

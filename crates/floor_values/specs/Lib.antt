@@ -1,4 +1,2 @@
-pub mod Values
-pub mod Stored
-pub mod Claims
 pub mod Vectors
+pub mod inner

@@ -8,15 +8,15 @@ ghost use Prim.Native.Nat.{_<_};
 ghost use lib.Seq.{sets};
 ghost use Rattle.reading.specs.Lists.{rows};
 ghost use Rattle.reading.specs.Reader.{many, each, mapped, into};
-ghost use Rattle.reading.specs.Table.{table, putRow};
+ghost use Rattle.reading.specs.inner.Table.{table, putRow};
 ghost use Rattle.bits.specs.Field.{field};
-ghost use Rattle.bits.specs.Cursors.{position, Wrote};
-ghost use Rattle.numbers.specs.Cell.{cell};
-ghost use Rattle.floor_partition.specs.Partition.{whole};
-ghost use Rattle.floor_partition.specs.Stored.{lengthsIn};
-ghost use Rattle.floor_values.specs.Values.{firstBits, partitionOf, usedValues, floorValues, answeredValues};
-ghost use Rattle.floor_values.specs.Stored.{floorIn, FloorStored};
-ghost use Rattle.floor_values.specs.Claims.{FloorValues};
+ghost use Rattle.bits.specs.inner.Cursors.{position, Wrote};
+ghost use Rattle.numbers.specs.inner.Cell.{cell};
+ghost use Rattle.floor_partition.specs.inner.Partition.{whole};
+ghost use Rattle.floor_partition.specs.inner.Stored.{lengthsIn};
+ghost use Rattle.floor_values.specs.inner.Values.{firstBits, partitionOf, usedValues, floorValues, answeredValues};
+ghost use Rattle.floor_values.specs.inner.Stored.{floorIn, FloorStored};
+ghost use Rattle.floor_values.specs.inner.Claims.{FloorValues};
 
 fn byte(x: u16) -> u8
     requires { ⌜ x < 256 ⌝ }

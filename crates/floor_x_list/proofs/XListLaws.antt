@@ -13,7 +13,7 @@ use Rattle.reading.specs.Outcome.{ok, bad, then, refusal}
 use Rattle.reading.specs.Reader.{many, mapped, into}
 use Rattle.reading.specs.Lists.{distinct}
 use Rattle.reading.specs.Pad.{pad}
-use Rattle.reading.specs.Table.{Table, table, putRow}
+use Rattle.reading.specs.inner.Table.{Table, table, putRow}
 use Rattle.reading.proofs.Outcomes.{then-ok}
 use Rattle.reading.proofs.Pads.{length-pad}
 use Rattle.reading.proofs.Readers.{mapped-ok, mapped-bad}
@@ -23,15 +23,15 @@ use Rattle.bits.specs.declared.Field.{Field}
 use Rattle.bits.specs.declared.Field.the-variants.{Value, Refused}
 use Rattle.bits.specs.declared.Step.{Step}
 use Rattle.bits.specs.declared.Step.the-variants as S
-use Rattle.bits.specs.Cursors.{position, outcome, Wrote}
+use Rattle.bits.specs.inner.Cursors.{position, outcome, Wrote}
 use Rattle.bits.specs.Field.{field}
 use Rattle.bits.proofs.Answers.{value-is, refused-is, value-below}
 use Rattle.bits.proofs.Steps.{wrote-refused, wrote-next, wrote-bad, wrote-ok}
-use Rattle.numbers.specs.Cell.{cell}
+use Rattle.numbers.specs.inner.Cell.{cell}
 use Rattle.numbers.proofs.Collected.{Collected, gathered, many-length, rows-cell}
 use Rattle.numbers.proofs.ListLaws.{take-pad}
 use Rattle.floor_x_list.specs.Reading.{xValues, ends, endsFrom}
-use Rattle.floor_x_list.specs.Pieces.{EndsRead, endsRead, endsInBuffer}
+use Rattle.floor_x_list.specs.inner.Pieces.{EndsRead, endsRead, endsInBuffer}
 
 abbrev at : ℕ → Cursor → Refusal
 at n c = record { number = n; place = c }

@@ -1,3 +1,3 @@
 pub mod Content
 pub mod Reading
-pub mod Pieces
+pub mod inner

@@ -10,11 +10,11 @@ ghost use mathlib.Core.Path.{_≡_};
 ghost use Prim.Native.Nat.{_+_, _<_, _≤_};
 ghost use lib.ListN.{replicate};
 ghost use Rattle.reading.specs.Reader.{mapped, into};
-ghost use Rattle.reading.specs.Table.{table, putRow};
-ghost use Rattle.bits.specs.Cursors.{position, Wrote};
-ghost use Rattle.numbers.specs.Cell.{cell};
+ghost use Rattle.reading.specs.inner.Table.{table, putRow};
+ghost use Rattle.bits.specs.inner.Cursors.{position, Wrote};
+ghost use Rattle.numbers.specs.inner.Cell.{cell};
 ghost use Rattle.floor_x_list.specs.Reading.{xValues, ends, endsFrom};
-ghost use Rattle.floor_x_list.specs.Pieces.{endsRead, endsInBuffer};
+ghost use Rattle.floor_x_list.specs.inner.Pieces.{endsRead, endsInBuffer};
 ghost use Rattle.floor_x_list.specs.Content.{xListRoom};
 
 // How many places an X list has (specs/Content.antt).

@@ -8,7 +8,7 @@ use lib.Seq.{drop-cons}
 use borrow.Author.Tests.{eq-eqb, ne-eqb}
 use Rattle.reading.specs.Outcome.{refusal, Outcome, ok, bad}
 use Rattle.bits.specs.Field.{field}
-use Rattle.bits.specs.Cursors.{position, refusalOf, outcome, stepped}
+use Rattle.bits.specs.inner.Cursors.{position, refusalOf, outcome, stepped}
 use Rattle.bits.specs.declared.Cursor.{Cursor}
 use Rattle.bits.specs.declared.Refusal.{Refusal}
 use Rattle.bits.specs.declared.Field.{Field}

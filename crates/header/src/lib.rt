@@ -5,7 +5,7 @@ use bits::Refusal;
 use bits::Step;
 use bits::kind::PacketKind;
 ghost use mathlib.Core.Path.{_≡_};
-ghost use Rattle.bits.specs.Cursors.{position, outcome, stepped};
+ghost use Rattle.bits.specs.inner.Cursors.{position, outcome, stepped};
 ghost use Rattle.header.specs.Header.{commonHeader, framing};
 
 // The type byte and the six bytes "vorbis", each judged as soon as it is read.

@@ -19,12 +19,12 @@ use Rattle.bits.specs.declared.Cursor.{Cursor}
 use Rattle.bits.specs.declared.Refusal.{Refusal}
 use Rattle.bits.specs.declared.Field.{Field}
 use Rattle.bits.specs.declared.Field.the-variants.{Value, Refused}
-use Rattle.bits.specs.Cursors.{position, refusalOf, outcome}
+use Rattle.bits.specs.inner.Cursors.{position, refusalOf, outcome}
 use Rattle.bits.specs.Field.{field}
 use Rattle.bits.specs.Signed.{signed}
 use Rattle.bits.proofs.Answers.{value-is, refused-is, value-below}
 use Rattle.identification.specs.Identification.{stream, bitrates, blockSize, blockSizes}
-use Rattle.identification.specs.Answers.{streamRead, bitratesRead, blockSizesRead}
+use Rattle.identification.specs.inner.Answers.{streamRead, bitratesRead, blockSizesRead}
 use Rattle.identification.specs.declared.fields.Stream.{Stream}
 use Rattle.identification.specs.declared.fields.Bitrates.{Bitrates}
 use Rattle.identification.specs.declared.fields.BlockSizes.{BlockSizes}

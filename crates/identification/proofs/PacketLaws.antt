@@ -14,14 +14,14 @@ use Rattle.bits.specs.declared.Cursor.{Cursor}
 use Rattle.bits.specs.declared.Refusal.{Refusal}
 use Rattle.bits.specs.declared.Field.{Field}
 use Rattle.bits.specs.declared.Field.the-variants as F
-use Rattle.bits.specs.Cursors.{position, refusalOf, outcome, stepped}
+use Rattle.bits.specs.inner.Cursors.{position, refusalOf, outcome, stepped}
 use Rattle.bits.proofs.Answers.{value-is, refused-is}
 use Rattle.header.specs.Header.{commonHeader, framing}
 use Rattle.bits.specs.declared.Step.{Step}
 use Rattle.bits.specs.declared.Step.the-variants as O
 use Rattle.bits.proofs.Steps.{next-is, stop-is}
 use Rattle.identification.specs.Identification.{stream, bitrates, blockSizes, identification}
-use Rattle.identification.specs.Answers.{streamRead, bitratesRead, blockSizesRead, identified}
+use Rattle.identification.specs.inner.Answers.{streamRead, bitratesRead, blockSizesRead, identified}
 use Rattle.identification.specs.Sound.{Sound, AcceptedSound}
 use Rattle.identification.specs.declared.Identity.{Identity}
 use Rattle.identification.specs.declared.Identified.{Identified}

@@ -16,10 +16,10 @@ use Rattle.reading.specs.Outcome.{Refusal, refusal, Outcome, ok, bad, then, nee
 use Rattle.reading.specs.Reader.{judged, mapped}
 use Rattle.reading.proofs.Outcomes.{then-ok, need-ok, judged-ok, ok-is}
 use Rattle.bits.specs.Field.{field}
-use Rattle.bits.specs.Cursors.{refusalOf}
+use Rattle.bits.specs.inner.Cursors.{refusalOf}
 use Rattle.header.specs.Header.{commonHeader, framing}
 use Rattle.identification.specs.Identification.{stream, bitrates, blockSize, blockSizes, identification}
-use Rattle.identification.specs.Answers.{identified}
+use Rattle.identification.specs.inner.Answers.{identified}
 use Rattle.reading.specs.Lists.{listed}
 use Rattle.identification.specs.Sound.{allowedSizes, Sound, isSound, AcceptedSound}
 use Rattle.identification.specs.declared.Identity.{Identity}

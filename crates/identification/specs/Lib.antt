@@ -1,4 +1,4 @@
 pub mod Identification
-pub mod Answers
 pub mod Sound
 pub mod Vectors
+pub mod inner

@@ -3,9 +3,9 @@ use bits::Cursor;
 use bits::Field;
 use bits::Refusal;
 ghost use mathlib.Core.Path.{_≡_};
-ghost use Rattle.bits.specs.Cursors.{position, outcome};
+ghost use Rattle.bits.specs.inner.Cursors.{position, outcome};
 ghost use Rattle.identification.specs.Identification.{stream, bitrates, blockSize, blockSizes};
-ghost use Rattle.identification.specs.Answers.{streamRead, bitratesRead, blockSizesRead};
+ghost use Rattle.identification.specs.inner.Answers.{streamRead, bitratesRead, blockSizesRead};
 
 pub struct Stream {
     pub channels: u32,

@@ -12,7 +12,7 @@ use fields::StreamRead;
 use limits::Limits;
 ghost use mathlib.Core.Path.{_≡_};
 ghost use Rattle.identification.specs.Identification.{identification};
-ghost use Rattle.identification.specs.Answers.{identified};
+ghost use Rattle.identification.specs.inner.Answers.{identified};
 ghost use Rattle.identification.specs.Sound.{AcceptedSound};
 
 // What the identification packet says of a stream. Laid out for C, since the front door takes and answers it.

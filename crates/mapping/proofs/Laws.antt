@@ -24,8 +24,8 @@ use Rattle.mapping.specs.Content.{Coupling, Submap, Mapping}
 use Rattle.mapping.specs.declared.Known.{Known}
 use Rattle.mapping.specs.Reading.{submapCount, couplingCount, channel, coupling, multiplex, multiplexes, submap, parts, mapping}
 use Rattle.mapping.specs.Layout.{couplingRow, submapRow, mappingRow}
-use Rattle.mapping.specs.Valid.{ValidCoupling, ValidMultiplex, ValidSubmap, ValidMapping}
-use Rattle.mapping.specs.Decode.{couplingOf, submapOf, pairs, lessOne, decodeMapping}
+use Rattle.mapping.specs.inner.Valid.{ValidCoupling, ValidMultiplex, ValidSubmap, ValidMapping}
+use Rattle.mapping.specs.inner.Decode.{couplingOf, submapOf, pairs, lessOne, decodeMapping}
 use Rattle.mapping.proofs.CountLaws.{submaps-few, steps-few, submaps-some-at-least}
 use Rattle.mapping.proofs.SizeLaws.{parts-sizes}
 use Rattle.mapping.proofs.RowLaws.{part-couplings, part-multiplex, part-submaps}

@@ -2,7 +2,7 @@
 use bits::Cursor;
 use bits::Field;
 ghost use mathlib.Core.Path.{_≡_};
-ghost use Rattle.bits.specs.Cursors.{position, outcome};
+ghost use Rattle.bits.specs.inner.Cursors.{position, outcome};
 ghost use Rattle.mapping.specs.Reading.{submapCount, couplingCount};
 
 // One, or 4 bits plus one.

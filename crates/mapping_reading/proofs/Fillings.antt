@@ -10,13 +10,13 @@ use lib.Seq.{sets}
 use Rattle.reading.specs.Outcome.{Outcome}
 use Rattle.reading.specs.Lists.{rows}
 use Rattle.reading.specs.Reader.{Reader, many, mapped, puts, into, into1}
-use Rattle.reading.specs.Table.{Table, table, putRow}
+use Rattle.reading.specs.inner.Table.{Table, table, putRow}
 use Rattle.reading.proofs.Tables.{puts-rows}
 use Rattle.bits.specs.declared.Cursor.{Cursor}
 use Rattle.bits.specs.declared.Refusal.{Refusal}
 use Rattle.bits.specs.declared.Step.{Step}
 use Rattle.bits.specs.declared.Step.the-variants.{Next, Refused}
-use Rattle.bits.specs.Cursors.{position, Wrote}
+use Rattle.bits.specs.inner.Cursors.{position, Wrote}
 use Rattle.bits.proofs.Steps.{Rest, loop-start, loop-next, loop-refused, loop-done}
 use Rattle.bits.proofs.Written.{wrote-through}
 

@@ -9,8 +9,8 @@ ghost use mathlib.Core.Path.{_≡_};
 ghost use lib.Seq.{sets};
 ghost use Rattle.reading.specs.Lists.{rows};
 ghost use Rattle.reading.specs.Reader.{many, mapped, into1};
-ghost use Rattle.reading.specs.Table.{table, putRow};
-ghost use Rattle.bits.specs.Cursors.{position, outcome, Wrote};
+ghost use Rattle.reading.specs.inner.Table.{table, putRow};
+ghost use Rattle.bits.specs.inner.Cursors.{position, outcome, Wrote};
 ghost use Rattle.mapping.specs.Reading.{channel, coupling};
 ghost use Rattle.mapping.specs.Layout.{couplingRow, mappingWidth, couplingsPlace};
 

@@ -13,8 +13,8 @@ ghost use Prim.Native.Nat.{_+_, _*_, _/_, _%_, _≤_};
 ghost use mathlib.Core.Path.{_≡_};
 ghost use lib.ListN.{set, replicate};
 ghost use Rattle.reading.specs.Reader.{many, mapped, into, into1};
-ghost use Rattle.reading.specs.Table.{table, putRow};
-ghost use Rattle.bits.specs.Cursors.{position, Wrote};
+ghost use Rattle.reading.specs.inner.Table.{table, putRow};
+ghost use Rattle.bits.specs.inner.Cursors.{position, Wrote};
 ghost use Rattle.mapping.specs.Reading.{parts, mapping};
 ghost use Rattle.mapping.specs.Layout.{mappingRow, partsInto, mappingWidth};
 

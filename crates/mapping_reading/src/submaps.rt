@@ -10,8 +10,8 @@ ghost use Prim.Native.Nat.{_+_, _≤_};
 ghost use lib.Seq.{sets};
 ghost use Rattle.reading.specs.Lists.{rows};
 ghost use Rattle.reading.specs.Reader.{many, mapped, into1};
-ghost use Rattle.reading.specs.Table.{table, putRow};
-ghost use Rattle.bits.specs.Cursors.{position, Wrote};
+ghost use Rattle.reading.specs.inner.Table.{table, putRow};
+ghost use Rattle.bits.specs.inner.Cursors.{position, Wrote};
 ghost use Rattle.mapping.specs.Reading.{multiplex, multiplexes, submap};
 ghost use Rattle.mapping.specs.Layout.{multiplexRow, submapRow, mappingWidth, multiplexPlace, submapsPlace};
 

@@ -4,12 +4,12 @@ use mathlib.Core.List.{List}
 use mathlib.Core.Path.{_≡_}
 use Rattle.reading.proofs.Encodes.{encodes-same}
 use Rattle.mapping.specs.declared.Known.{Known}
-use Rattle.mapping.specs.Decode.{decodeMapping}
+use Rattle.mapping.specs.inner.Decode.{decodeMapping}
 use Rattle.mapping.specs.Layout.{mappingRow}
-use Rattle.mapping.specs.Valid.{ValidMapping}
+use Rattle.mapping.specs.inner.Valid.{ValidMapping}
 use Rattle.mapping.proofs.Laws.{decode-mapping}
 use Rattle.mapping.proofs.RowLaws.{mapping-wide}
-use Rattle.mapping_tables.specs.Recognised.{MappingsRecognised}
+use Rattle.mapping_tables.specs.inner.Recognised.{MappingsRecognised}
 
 -- no other mappings share a table
 pub one-content : (known : Known) (n : ℕ) (cells : List ℕ) → known .channels ≤ 256 → (a b : MappingsRecognised known n cells) → a .items ≡ b .items

@@ -20,9 +20,9 @@ use Rattle.reading.proofs.PairRows.{pair-laws}
 use Rattle.mapping.specs.Content.{Coupling, Submap, Mapping}
 use Rattle.mapping.specs.declared.Known.{Known}
 use Rattle.mapping.specs.Layout.{couplingRow, multiplexRow, submapRow, mappingRow}
-use Rattle.mapping.specs.Valid.{ValidCoupling, ValidMultiplex, ValidSubmap, ValidMapping}
-use Rattle.mapping.specs.Decode.{couplingOf, submapOf}
-use Rattle.mapping_tables.specs.Recognised.{MappingsRecognised, multiplexCount}
+use Rattle.mapping.specs.inner.Valid.{ValidCoupling, ValidMultiplex, ValidSubmap, ValidMapping}
+use Rattle.mapping.specs.inner.Decode.{couplingOf, submapOf}
+use Rattle.mapping_tables.specs.inner.Recognised.{MappingsRecognised, multiplexCount}
 use Rattle.mapping.proofs.RowLaws.{couplings-length, submaps-length, multiplex-rows, multiplex-length, multiplex-wide, mapping-wide, part-couplings, part-multiplex, part-submaps}
 use Rattle.mapping.proofs.Laws.{each-all, all-each, sized-none, sized-some, coupling-pairs, submap-pairs, multiplex-number, multiplex-most}
 

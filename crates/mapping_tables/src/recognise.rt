@@ -11,10 +11,10 @@ ghost use mathlib.Core.Logic.{_↔_};
 ghost use mathlib.Core.Path.{_≡_};
 ghost use lib.ListN.{length};
 ghost use Rattle.reading.specs.Encoding.{RowOf, Encodes};
-ghost use Rattle.mapping.specs.Decode.{couplingOf, submapOf};
+ghost use Rattle.mapping.specs.inner.Decode.{couplingOf, submapOf};
 ghost use Rattle.mapping.specs.Layout.{couplingRow, multiplexRow, submapRow, mappingRow, mappingWidth};
-ghost use Rattle.mapping_tables.specs.Recognised.{MappingsRecognised, multiplexCount};
-ghost use Rattle.mapping.specs.Valid.{ValidCoupling, ValidMultiplex, ValidSubmap, ValidMapping};
+ghost use Rattle.mapping_tables.specs.inner.Recognised.{MappingsRecognised, multiplexCount};
+ghost use Rattle.mapping.specs.inner.Valid.{ValidCoupling, ValidMultiplex, ValidSubmap, ValidMapping};
 
 // Whether the two numbers are a coupling step of so many channels.
 fn is_coupling(magnitude: u8, angle: u8, channels: u32) -> bool

@@ -21,9 +21,9 @@ use Rattle.bits.proofs.Fields.{field-ok}
 use Rattle.mode.specs.Content.{Mode}
 use Rattle.mode.specs.Reading.{mode}
 use Rattle.mode.specs.Layout.{modeWidth, modeRow}
-use Rattle.mode.specs.Valid.{ValidMode}
-use Rattle.mode.specs.Decode.{decodeMode}
-use Rattle.mode.specs.Recognised.{ModesRecognised}
+use Rattle.mode.specs.inner.Valid.{ValidMode}
+use Rattle.mode.specs.inner.Decode.{decodeMode}
+use Rattle.mode.specs.inner.Recognised.{ModesRecognised}
 
 pub mode-wide : (m : Mode) → length (modeRow m) ≡ 2
 unfolding modeRow

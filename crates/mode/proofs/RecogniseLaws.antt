@@ -10,8 +10,8 @@ use lib.Dec.{ltb}
 use Rattle.reading.proofs.Encodes.{iff-false}
 use Rattle.reading.proofs.PairRows.{PairRow, pair-laws}
 use Rattle.mode.specs.Layout.{modeRow}
-use Rattle.mode.specs.Valid.{ValidMode}
-use Rattle.mode.specs.Decode.{modeOf}
+use Rattle.mode.specs.inner.Valid.{ValidMode}
+use Rattle.mode.specs.inner.Decode.{modeOf}
 
 pub mode-pairs : PairRow modeRow modeOf
 unfolding modeRow

@@ -9,8 +9,8 @@ use bits::Refusal;
 use bits::Step;
 ghost use Prim.Native.Nat.{_+_, _*_, _≤_};
 ghost use Rattle.reading.specs.Reader.{many, into, into1};
-ghost use Rattle.reading.specs.Table.{table, putRow};
-ghost use Rattle.bits.specs.Cursors.{position, Wrote};
+ghost use Rattle.reading.specs.inner.Table.{table, putRow};
+ghost use Rattle.bits.specs.inner.Cursors.{position, Wrote};
 ghost use Rattle.mode.specs.Reading.{mode};
 ghost use Rattle.mode.specs.Layout.{modeWidth, modeRow};
 

@@ -4,9 +4,9 @@ ghost use Prim.Native.Nat.{_≤_};
 ghost use mathlib.Core.Path.{_≡_};
 ghost use mathlib.Core.Bool.{true};
 ghost use mathlib.Core.Logic.{_↔_};
-ghost use Rattle.mode.specs.Recognised.{ModesRecognised};
-ghost use Rattle.mode.specs.Decode.{modeOf};
-ghost use Rattle.mode.specs.Valid.{ValidMode};
+ghost use Rattle.mode.specs.inner.Recognised.{ModesRecognised};
+ghost use Rattle.mode.specs.inner.Decode.{modeOf};
+ghost use Rattle.mode.specs.inner.Valid.{ValidMode};
 
 // Whether the two numbers are those of a mode that meets every rule.
 fn is_mode(blockflag: u8, mapping: u8, mappings: u32) -> bool

@@ -6,12 +6,12 @@ use mathlib.Core.List.{List}
 use mathlib.Core.Path.{_≡_, refl, ap, _∙_}
 use lib.ListN.{length}
 use Rattle.reading.specs.Reader.{Reader, many, into, into1}
-use Rattle.reading.specs.Table.{Table, table, putRow}
+use Rattle.reading.specs.inner.Table.{Table, table, putRow}
 use Rattle.bits.specs.declared.Cursor.{Cursor}
 use Rattle.bits.specs.declared.Refusal.{Refusal}
 use Rattle.bits.specs.declared.Step.{Step}
 use Rattle.bits.specs.declared.Step.the-variants.{Next, Refused}
-use Rattle.bits.specs.Cursors.{position, Wrote}
+use Rattle.bits.specs.inner.Cursors.{position, Wrote}
 use Rattle.bits.proofs.Steps.{Rest, loop-start, loop-next, loop-refused, loop-done}
 
 -- i of n items are read and their rows written

@@ -12,18 +12,18 @@ use lib.ListN.{length, getD, set, take, drop-of-length-le, length-take}
 use lib.Pow.{pow-mono, shl-exact}
 use lib.Seq.{slice, slice-cons}
 use Rattle.reading.specs.Reader.{mapped, into1}
-use Rattle.reading.specs.Table.{table, putRow}
+use Rattle.reading.specs.inner.Table.{table, putRow}
 use Rattle.reading.specs.Lists.{listed, distinct}
 use Rattle.bits.specs.declared.Cursor.{Cursor}
 use Rattle.bits.specs.declared.Refusal.{Refusal}
 use Rattle.bits.specs.declared.Field.{Field}
 use Rattle.bits.specs.declared.Field.the-variants.{Value, Refused}
 use Rattle.bits.specs.declared.Step.the-variants as S
-use Rattle.bits.specs.Cursors.{position, outcome, Wrote}
+use Rattle.bits.specs.inner.Cursors.{position, outcome, Wrote}
 use Rattle.bits.specs.Field.{field}
 use Rattle.bits.proofs.Answers.{value-is, refused-is, value-below}
 use Rattle.bits.proofs.Steps.{wrote-refused, wrote-next}
-use Rattle.numbers.specs.Cell.{cell}
+use Rattle.numbers.specs.inner.Cell.{cell}
 
 module _ (w : ℕ) (s : List ℕ) (k : Cursor) {r : Field} (p : outcome r ≡ field w s (position k)) where
   pub number-cut : (l : List ℕ) (at : ℕ) {z : Refusal} → r ≡ Refused z → Wrote (into1 (putRow cell) (field w s (position k)) (table l at)) (S.Refused z) (table l (at + 1))

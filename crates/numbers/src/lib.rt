@@ -9,11 +9,11 @@ ghost use mathlib.Core.List.{_++_};
 ghost use lib.ListN.{length};
 ghost use lib.Seq.{slice, sets};
 ghost use Rattle.reading.specs.Reader.{many, into, into1};
-ghost use Rattle.reading.specs.Table.{table, putRow};
+ghost use Rattle.reading.specs.inner.Table.{table, putRow};
 ghost use Rattle.reading.specs.Lists.{listed, distinct};
 ghost use Rattle.bits.specs.Field.{field};
-ghost use Rattle.bits.specs.Cursors.{position, Wrote};
-ghost use Rattle.numbers.specs.Cell.{cell};
+ghost use Rattle.bits.specs.inner.Cursors.{position, Wrote};
+ghost use Rattle.numbers.specs.inner.Cell.{cell};
 
 pub fn narrow(v: u32) -> u16
     requires { ⌜ v < 65536 ⌝ }

@@ -11,7 +11,7 @@ use lib.Seq.{sets, set-out, drop-cons}
 use Rattle.reading.specs.Pad.{pad}
 use Rattle.reading.specs.Reader.{puts}
 use Rattle.reading.specs.Lists.{rows}
-use Rattle.reading.specs.Table.{Table, table, putRow}
+use Rattle.reading.specs.inner.Table.{Table, table, putRow}
 use Rattle.reading.proofs.Pads.{pad-set, pad-nil}
 
 -- one run of stores and then another

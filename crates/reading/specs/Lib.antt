@@ -4,6 +4,5 @@ pub mod Pad
 pub mod Least
 pub mod Tabulate
 pub mod Lists
-pub mod Table
 pub mod Encoding
-pub mod Decide
+pub mod inner

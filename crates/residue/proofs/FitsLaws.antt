@@ -14,8 +14,8 @@ use lib.Seq.{drop-cons, take-nil, take-all, take-add}
 use Rattle.reading.specs.Lists.{all, rows}
 use Rattle.book.specs.Layout.{dimensionsAt, entriesAt, lookupAt}
 use Rattle.residue.specs.Reading.{Head, placeFits}
-use Rattle.residue.specs.FromTable.{booksOf}
-use Rattle.residue.specs.Plans.{Grid, headFits}
+use Rattle.residue.specs.inner.FromTable.{booksOf}
+use Rattle.residue.specs.inner.Plans.{Grid, headFits}
 use Rattle.residue.proofs.RowsLaws.{row-long, row-counted, all-append, rows-append, rows-more}
 
 -- the fields before the plan

@@ -19,7 +19,7 @@ use Rattle.residue.specs.Content.{Residue}
 use Rattle.residue.specs.Reading.{Books, cascade, passes, planBook, planRow, headFrom, head, residueFrom, residue, residueFits, withPlan}
 use Rattle.residue.specs.Layout.{headRow, planTable}
 use Rattle.residue.specs.Valid.{Rows8, ValidResidue, AllValid, AcceptedValid}
-use Rattle.residue.specs.Decode.{chunks, decodeResidue, decodeResidues}
+use Rattle.residue.specs.inner.Decode.{chunks, decodeResidue, decodeResidues}
 use Rattle.residue.proofs.PlanSound.{place-sound, row-read-long}
 use Rattle.residue.proofs.RowsLaws.{all-append, pad-cat}
 use Rattle.residue.proofs.HeadSound.{head-sound}

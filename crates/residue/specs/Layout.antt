@@ -3,7 +3,7 @@ use Prim.Native.Nat.{ℕ}
 use mathlib.Core.List.{List, [], _∷_}
 use Rattle.reading.specs.Pad.{pad}
 use Rattle.reading.specs.Lists.{rows}
-use Rattle.reading.specs.Table.{Table, putRow}
+use Rattle.reading.specs.inner.Table.{Table, putRow}
 use Rattle.residue.specs.Content.{Residue}
 
 -- the width of a row in the table of residues, and of one in the table of plans

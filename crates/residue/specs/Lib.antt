@@ -2,8 +2,5 @@ pub mod Content
 pub mod Reading
 pub mod Layout
 pub mod Valid
-pub mod FromTable
-pub mod Heads
-pub mod Plans
-pub mod Decode
 pub mod Vectors
+pub mod inner

@@ -6,9 +6,9 @@ ghost use Prim.Native.Nat.{_-_, _≤_};
 ghost use lib.ListN.{take, drop};
 ghost use Rattle.reading.specs.Lists.{all, rows};
 ghost use Rattle.residue.specs.Reading.{placeFits};
-ghost use Rattle.residue.specs.FromTable.{booksOf};
-ghost use Rattle.residue.specs.Heads.{headOf};
-ghost use Rattle.residue.specs.Plans.{Grid, headFits};
+ghost use Rattle.residue.specs.inner.FromTable.{booksOf};
+ghost use Rattle.residue.specs.inner.Heads.{headOf};
+ghost use Rattle.residue.specs.inner.Plans.{Grid, headFits};
 
 // Begin is not above end, and the class words of the class book are enough.
 pub fn head_fits(head: Head, books: &[u32]) -> bool

@@ -3,9 +3,9 @@ use bits::Cursor;
 use bits::Field;
 use bits::Refusal;
 ghost use mathlib.Core.Path.{_≡_};
-ghost use Rattle.bits.specs.Cursors.{position};
+ghost use Rattle.bits.specs.inner.Cursors.{position};
 ghost use Rattle.residue.specs.Reading.{head, headFrom};
-ghost use Rattle.residue.specs.Heads.{headRead};
+ghost use Rattle.residue.specs.inner.Heads.{headRead};
 
 pub struct Head {
     pub kind: u32,

@@ -17,12 +17,12 @@ use Rattle.bits.specs.declared.Field.{Field}
 use Rattle.bits.specs.declared.Field.the-variants.{Value, Refused}
 use Rattle.bits.specs.declared.Step.{Step}
 use Rattle.bits.specs.declared.Step.the-variants as S
-use Rattle.bits.specs.Cursors.{position, outcome, Wrote}
+use Rattle.bits.specs.inner.Cursors.{position, outcome, Wrote}
 use Rattle.bits.specs.Field.{field}
 use Rattle.bits.proofs.Answers.{value-is, refused-is, value-below}
 use Rattle.residue.specs.Reading.{passes, planBook, planRow}
 use Rattle.residue.proofs.PlanSound.{place-sound}
-use Rattle.residue_reading.specs.Slots.{padWith}
+use Rattle.residue_reading.specs.inner.Slots.{padWith}
 use Rattle.residue_reading.proofs.SlotLaws.{padWith-whole, Filling, fill-start, fill-next, fill-refused, fill-done}
 
 abbrev at : ℕ → Cursor → Refusal

@@ -12,21 +12,21 @@ use Rattle.reading.specs.Outcome.{Outcome, ok, bad}
 use Rattle.reading.specs.Reader.{each, mapped, into1}
 use Rattle.reading.specs.Pad.{pad}
 use Rattle.reading.specs.Lists.{all, rows}
-use Rattle.reading.specs.Table.{table, putRow}
+use Rattle.reading.specs.inner.Table.{table, putRow}
 use Rattle.reading.proofs.Readers.{Long, each-long, mapped-ok, mapped-bad}
 use Rattle.reading.proofs.Pads.{pad-nil, length-pad}
 use Rattle.bits.specs.declared.Cursor.{Cursor}
 use Rattle.bits.specs.declared.Refusal.{Refusal}
 use Rattle.bits.specs.declared.Step.{Step}
 use Rattle.bits.specs.declared.Step.the-variants.{Next, Refused}
-use Rattle.bits.specs.Cursors.{position, Wrote}
+use Rattle.bits.specs.inner.Cursors.{position, Wrote}
 use Rattle.bits.proofs.Steps.{wrote-ok, wrote-bad, wrote-next, wrote-refused}
 use Rattle.residue.specs.Reading.{Head, passes, planRow, placeFits, residueFits, withPlan, residueFrom}
-use Rattle.residue.specs.FromTable.{booksOf}
-use Rattle.residue.specs.Heads.{headNumbers}
+use Rattle.residue.specs.inner.FromTable.{booksOf}
+use Rattle.residue.specs.inner.Heads.{headNumbers}
 use Rattle.residue.specs.Layout.{Tables, headRow, planTable, putResidue}
-use Rattle.residue.specs.Plans.{Grid, headFits, tablesAt}
-use Rattle.residue_reading.specs.Slots.{padWith}
+use Rattle.residue.specs.inner.Plans.{Grid, headFits, tablesAt}
+use Rattle.residue_reading.specs.inner.Slots.{padWith}
 use Rattle.residue.specs.Valid.{Rows8}
 use Rattle.residue.proofs.RowsLaws.{pad-cat}
 use Rattle.residue.proofs.PlanSound.{row-read-long}

@@ -12,14 +12,14 @@ use Rattle.bits.specs.declared.Cursor.{Cursor}
 use Rattle.bits.specs.declared.Refusal.{Refusal}
 use Rattle.bits.specs.declared.Step.{Step}
 use Rattle.bits.specs.declared.Step.the-variants.{Next, Refused}
-use Rattle.bits.specs.Cursors.{position, refusalOf, Wrote}
+use Rattle.bits.specs.inner.Cursors.{position, refusalOf, Wrote}
 use Rattle.bits.proofs.Steps.{wrote-ok, wrote-bad, wrote-refused, Rest, loop-start, loop-next, loop-refused, loop-done}
 use Rattle.residue.specs.Reading.{Books, Head, cascade, head, residue, residueFrom}
-use Rattle.residue.specs.FromTable.{booksOf}
-use Rattle.residue.specs.Heads.{headOf, headRead}
+use Rattle.residue.specs.inner.FromTable.{booksOf}
+use Rattle.residue.specs.inner.Heads.{headOf, headRead}
 use Rattle.residue.specs.Layout.{Tables, putResidue}
-use Rattle.residue.specs.Plans.{tablesAt}
-use Rattle.residue_reading.specs.Slots.{padWith}
+use Rattle.residue.specs.inner.Plans.{tablesAt}
+use Rattle.residue_reading.specs.inner.Slots.{padWith}
 use Rattle.residue.specs.declared.head.Head as D
 use Rattle.residue.specs.declared.head.HeadRead.{HeadRead}
 use Rattle.residue.specs.declared.head.HeadRead.the-variants as H

@@ -10,9 +10,9 @@ use Rattle.bits.specs.declared.Cursor.{Cursor}
 use Rattle.bits.specs.declared.Refusal.{Refusal}
 use Rattle.bits.specs.declared.Step.{Step}
 use Rattle.bits.specs.declared.Step.the-variants.{Next, Refused}
-use Rattle.bits.specs.Cursors.{position, refusalOf, Wrote}
+use Rattle.bits.specs.inner.Cursors.{position, refusalOf, Wrote}
 use Rattle.bits.proofs.Steps.{wrote-next, wrote-refused, EachRest, each-loop-start, each-loop-next, each-loop-refused, each-loop-done}
-use Rattle.residue_reading.specs.Slots.{padWith, Slots, slots, store}
+use Rattle.residue_reading.specs.inner.Slots.{padWith, Slots, slots, store}
 
 -- `padWith`: its length, nothing but fillers, the items in front
 module _ {A : Type 0} (z : A) where

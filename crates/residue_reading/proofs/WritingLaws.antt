@@ -8,7 +8,7 @@ use lib.ListN.{length, getD, take}
 use lib.Seq.{take-all, sets, length-sets}
 use Rattle.reading.specs.Lists.{rows}
 use Rattle.reading.proofs.Tables.{sets-append}
-use Rattle.residue.specs.Plans.{Grid}
+use Rattle.residue.specs.inner.Plans.{Grid}
 use Rattle.residue.proofs.RowsLaws.{rows-more, rows-long, row-counted}
 
 -- the loop that writes a grid row by row

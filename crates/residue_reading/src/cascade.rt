@@ -5,8 +5,8 @@ use bits::Step;
 ghost use mathlib.Core.Path.{_≡_};
 ghost use Prim.Native.Nat.{_≤_};
 ghost use Rattle.reading.specs.Reader.{many, mapped};
-ghost use Rattle.residue_reading.specs.Slots.{padWith};
-ghost use Rattle.bits.specs.Cursors.{position, outcome, Wrote};
+ghost use Rattle.residue_reading.specs.inner.Slots.{padWith};
+ghost use Rattle.bits.specs.inner.Cursors.{position, outcome, Wrote};
 ghost use Rattle.residue.specs.Reading.{cascade};
 
 // The cascades of the classes and zeros behind them, and where reading goes on. On a refusal they mean nothing.

@@ -15,12 +15,12 @@ ghost use Prim.Native.Nat.{_+_, _≤_};
 ghost use lib.ListN.{length, take};
 ghost use lib.Seq.{sets};
 ghost use Rattle.reading.specs.Reader.{many, into, into1};
-ghost use Rattle.bits.specs.Cursors.{position, Wrote};
+ghost use Rattle.bits.specs.inner.Cursors.{position, Wrote};
 ghost use Rattle.residue.specs.Reading.{residue, residueFrom};
 ghost use Rattle.residue.specs.Layout.{putResidue};
-ghost use Rattle.residue.specs.FromTable.{booksOf};
-ghost use Rattle.residue.specs.Heads.{headOf, headNumbers};
-ghost use Rattle.residue.specs.Plans.{tablesAt};
+ghost use Rattle.residue.specs.inner.FromTable.{booksOf};
+ghost use Rattle.residue.specs.inner.Heads.{headOf, headNumbers};
+ghost use Rattle.residue.specs.inner.Plans.{tablesAt};
 ghost use Rattle.residue.specs.Valid.{AcceptedValid};
 
 fn write_head(residues: &mut [u32], at: usize, head: Head)

@@ -7,9 +7,9 @@ ghost use mathlib.Core.Path.{_≡_};
 ghost use Prim.Native.Nat.{_≤_};
 ghost use lib.Seq.{sets};
 ghost use Rattle.reading.specs.Lists.{rows};
-ghost use Rattle.bits.specs.Cursors.{position, outcome, Wrote};
+ghost use Rattle.bits.specs.inner.Cursors.{position, outcome, Wrote};
 ghost use Rattle.residue.specs.Reading.{planBook, planRow};
-ghost use Rattle.residue.specs.Plans.{Grid};
+ghost use Rattle.residue.specs.inner.Plans.{Grid};
 
 // A class's row of the plan, and where reading goes on. On a refusal the row means nothing.
 pub struct Row {

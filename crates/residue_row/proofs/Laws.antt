@@ -14,8 +14,8 @@ use Rattle.residue.specs.Content.{Residue}
 use Rattle.residue.specs.Reading.{Books}
 use Rattle.residue.specs.Layout.{headWidth, planWidth, headRow, planTable}
 use Rattle.residue.specs.Valid.{Rows8, ValidResidue}
-use Rattle.residue.specs.Decode.{headAt}
-use Rattle.residue.specs.Heads.{headOf}
+use Rattle.residue.specs.inner.Decode.{headAt}
+use Rattle.residue.specs.inner.Heads.{headOf}
 use Rattle.residue.specs.declared.head.Head as D
 use Rattle.residue.proofs.Laws.{length-headRow, length-planTable}
 

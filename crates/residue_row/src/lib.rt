@@ -7,8 +7,8 @@ use residue::head::Head;
 ghost use mathlib.Core.Path.{_≡_};
 ghost use Prim.Native.Nat.{_+_, _*_, _<_};
 ghost use lib.ListN.{getD};
-ghost use Rattle.residue.specs.Decode.{headAt};
-ghost use Rattle.residue.specs.Heads.{headOf};
+ghost use Rattle.residue.specs.inner.Decode.{headAt};
+ghost use Rattle.residue.specs.inner.Heads.{headOf};
 ghost use Rattle.residue.specs.Layout.{headWidth, planWidth};
 
 // Number `column` of a residue's row.

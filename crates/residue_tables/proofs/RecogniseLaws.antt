@@ -15,11 +15,11 @@ use Rattle.reading.specs.Encoding.{Zeros}
 use Rattle.reading.proofs.Least.{and-split}
 use Rattle.reading.proofs.Parts.{part-slice}
 use Rattle.residue.specs.Reading.{Books, Head, placeFits}
-use Rattle.residue.specs.FromTable.{booksOf}
-use Rattle.residue.specs.Heads.{headOf}
-use Rattle.residue.specs.Plans.{headFits}
-use Rattle.residue.specs.Decode.{headAt}
-use Rattle.residue_tables.specs.Recognised.{headTest, placesTest, residueTest, residuesTest}
+use Rattle.residue.specs.inner.FromTable.{booksOf}
+use Rattle.residue.specs.inner.Heads.{headOf}
+use Rattle.residue.specs.inner.Plans.{headFits}
+use Rattle.residue.specs.inner.Decode.{headAt}
+use Rattle.residue_tables.specs.inner.Recognised.{headTest, placesTest, residueTest, residuesTest}
 use Rattle.residue.specs.declared.head.Head as D
 
 -- the fields before the plan, one law for each way out

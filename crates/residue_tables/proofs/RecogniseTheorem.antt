@@ -17,9 +17,9 @@ use Rattle.residue.specs.Content.{Residue}
 use Rattle.residue.specs.Reading.{Books, Head, placeFits, residueFits}
 use Rattle.residue.specs.Layout.{headRow, planTable}
 use Rattle.residue.specs.Valid.{Rows8, ValidResidue, AllValid}
-use Rattle.residue.specs.Plans.{headFits}
-use Rattle.residue.specs.Decode.{chunks, headAt, decodeResidue, decodeResidues}
-use Rattle.residue_tables.specs.Recognised.{Holds, ResiduesRecognised, OneContent, headTest, placesTest, residueTest, residuesTest}
+use Rattle.residue.specs.inner.Plans.{headFits}
+use Rattle.residue.specs.inner.Decode.{chunks, headAt, decodeResidue, decodeResidues}
+use Rattle.residue_tables.specs.inner.Recognised.{Holds, ResiduesRecognised, OneContent, headTest, placesTest, residueTest, residuesTest}
 use Rattle.residue.proofs.Laws.{length-headRow, length-planTable, rows8-long, planTable-is, decode-residues}
 use Rattle.residue.proofs.RowsLaws.{pad-cat}
 

@@ -11,9 +11,9 @@ ghost use Prim.Native.Nat.{_-_, _*_, _≤_};
 ghost use lib.Dec.{leb};
 ghost use lib.ListN.{length, take, drop};
 ghost use Rattle.reading.specs.Lists.{all};
-ghost use Rattle.residue.specs.FromTable.{booksOf};
-ghost use Rattle.residue.specs.Heads.{headOf};
-ghost use Rattle.residue_tables.specs.Recognised.{headTest, residueTest, ResiduesRecognised, OneContent};
+ghost use Rattle.residue.specs.inner.FromTable.{booksOf};
+ghost use Rattle.residue.specs.inner.Heads.{headOf};
+ghost use Rattle.residue_tables.specs.inner.Recognised.{headTest, residueTest, ResiduesRecognised, OneContent};
 ghost use Rattle.residue.specs.Layout.{headWidth, planWidth};
 
 // The places from `from` up to `to` name books that are set up.

@@ -15,7 +15,7 @@ use Rattle.book_head.specs.Reading.{Before}
 use Rattle.book_reading.specs.Rows.{bookRows, andThese}
 use Rattle.book_reading.proofs.BooksStored.{rows-length, row-at}
 use Rattle.residue.specs.Reading.{Books}
-use Rattle.residue.specs.FromTable.{booksOf}
+use Rattle.residue.specs.inner.FromTable.{booksOf}
 use Rattle.setup.specs.Content.{booksKnown}
 
 abbrev none : Before

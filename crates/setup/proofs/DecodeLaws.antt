@@ -15,24 +15,24 @@ use Rattle.limits.specs.declared.Limits.{Limits}
 use Rattle.book_head.specs.Reading.{Before}
 use Rattle.book_reading.specs.Rows.{decodeBooks}
 use Rattle.book_reading.proofs.BooksStored.{within-entries, within-values, decode-books}
-use Rattle.floor.specs.Decode.{decodeFloor}
+use Rattle.floor.specs.inner.Decode.{decodeFloor}
 use Rattle.floor.specs.Layout.{floorRow}
-use Rattle.floor.specs.Valid.{ValidFloor}
+use Rattle.floor.specs.inner.Valid.{ValidFloor}
 use Rattle.floor.proofs.Decoded.{floor-long, floor-decoded}
-use Rattle.residue.specs.Decode.{decodeResidues}
+use Rattle.residue.specs.inner.Decode.{decodeResidues}
 use Rattle.residue.proofs.Laws.{decode-residues}
-use Rattle.mapping.specs.Decode.{decodeMapping}
+use Rattle.mapping.specs.inner.Decode.{decodeMapping}
 use Rattle.mapping.specs.Layout.{mappingRow}
-use Rattle.mapping.specs.Valid.{ValidMapping}
+use Rattle.mapping.specs.inner.Valid.{ValidMapping}
 use Rattle.mapping.proofs.Laws.{decode-mapping}
 use Rattle.mapping.proofs.RowLaws.{mapping-wide}
-use Rattle.mode.specs.Decode.{decodeMode}
+use Rattle.mode.specs.inner.Decode.{decodeMode}
 use Rattle.mode.specs.Layout.{modeRow}
-use Rattle.mode.specs.Valid.{ValidMode}
+use Rattle.mode.specs.inner.Valid.{ValidMode}
 use Rattle.mode.proofs.Laws.{mode-wide, decode-mode}
 use Rattle.setup.specs.Content.{Setup, booksKnown, known}
 use Rattle.setup.specs.Layout.{Tables}
-use Rattle.setup.specs.Decode.{decodeRows, decodeSetup}
+use Rattle.setup.specs.inner.Decode.{decodeRows, decodeSetup}
 use Rattle.setup.specs.Sound.{Sound, OneContent}
 use Rattle.setup.proofs.EachLaws.{each-residues}
 use Rattle.setup.proofs.WrittenLaws.{sound-facts}

@@ -3,7 +3,7 @@ use Prim.Native.Nat.{ℕ}
 use mathlib.Core.List.{List, [], _∷_}
 use Rattle.reading.specs.Encoding.{Each}
 use Rattle.floor.specs.Content.{Floor}
-use Rattle.floor.specs.Valid.{ValidFloor, ValidFloors}
+use Rattle.floor.specs.inner.Valid.{ValidFloor, ValidFloors}
 use Rattle.residue.specs.Content.{Residue}
 use Rattle.residue.specs.Reading.{Books}
 use Rattle.residue.specs.Valid.{ValidResidue, AllValid}

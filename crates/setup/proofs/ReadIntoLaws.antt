@@ -12,7 +12,7 @@ use Rattle.reading.specs.Reader.{Reader, many, mapped, puts, into}
 use Rattle.reading.specs.Lists.{rows}
 use Rattle.reading.specs.Pad.{pad}
 use Rattle.reading.specs.Encoding.{Zeros}
-use Rattle.reading.specs.Table.{Table, table, putRow}
+use Rattle.reading.specs.inner.Table.{Table, table, putRow}
 use Rattle.reading.proofs.Outcomes.{same-ok}
 use Rattle.reading.proofs.Readers.{Long, many-long}
 use Rattle.reading.proofs.Tables.{puts-rows, sets-cleared}
@@ -20,8 +20,8 @@ use Rattle.bits.specs.declared.Cursor.{Cursor}
 use Rattle.bits.specs.declared.Refusal.{Refusal}
 use Rattle.bits.specs.declared.Step.{Step}
 use Rattle.bits.specs.declared.Step.the-variants.{Next, Refused}
-use Rattle.bits.specs.Cursors.{position, refusalOf, stepped, Wrote}
-use Rattle.setup.specs.Parts.{ReadInto, RowsStored}
+use Rattle.bits.specs.inner.Cursors.{position, refusalOf, stepped, Wrote}
+use Rattle.setup.specs.inner.Parts.{ReadInto, RowsStored}
 
 module _ {C : Type 0} {o : Outcome (C × ℕ)} {Stored : C → Type 0} where
   -- what an answer says

@@ -19,20 +19,20 @@ use Rattle.book_reading.specs.Reading.{andThis}
 use Rattle.book_reading.specs.Valid.{ValidBook, ValidBooks}
 use Rattle.floor_class.specs.Content.{Class}
 use Rattle.floor.specs.Content.{Floor}
-use Rattle.floor_class.specs.Valid.{ValidClass, ValidClasses}
-use Rattle.floor.specs.Valid.{ValidFloor}
+use Rattle.floor_class.specs.inner.Valid.{ValidClass, ValidClasses}
+use Rattle.floor.specs.inner.Valid.{ValidFloor}
 use Rattle.residue.specs.Content.{Residue}
 use Rattle.residue.specs.Reading.{Books}
 use Rattle.residue.specs.Valid.{ValidResidue}
 use Rattle.mapping.specs.Content.{Coupling, Submap, Mapping}
 use Rattle.mapping.specs.declared.Known.{Known}
-use Rattle.mapping.specs.Valid.{ValidCoupling, ValidSubmap, ValidMapping}
+use Rattle.mapping.specs.inner.Valid.{ValidCoupling, ValidSubmap, ValidMapping}
 use Rattle.mode.specs.Content.{Mode}
-use Rattle.mode.specs.Valid.{ValidMode}
+use Rattle.mode.specs.inner.Valid.{ValidMode}
 use Rattle.setup.specs.Content.{Setup, booksKnown, known}
 use Rattle.setup.specs.Carried.{Counted, CarriedBook, CarriedClass, CarriedFloor, CarriedResidue, CarriedMapping, CarriedMode, Carried}
 use Rattle.setup.specs.Rules.{Rule6, Rule7, Rule8, Rule10, Class11, Residue11, Coupling11, Submap11, Mapping11, Mode11, Rule11, Rule12, Rule13, entriesInAll, multiplicandsInAll, Rule14, MeetsRules}
-use Rattle.setup.specs.Valid.{ValidSetup}
+use Rattle.setup.specs.inner.Valid.{ValidSetup}
 use Rattle.setup.specs.Layout.{Tables}
 use Rattle.setup.specs.Sound.{Sound}
 

@@ -3,7 +3,7 @@ use Prim.Native.Nat.{ℕ}
 use mathlib.Core.Bool.{Bool, true, false}
 use mathlib.Core.Logic.{_↔_}
 use mathlib.Core.Path.{_≡_, refl, sym, ap, subst, _∙_}
-use Rattle.reading.specs.Decide.{both-tell}
+use Rattle.reading.specs.inner.Decide.{both-tell}
 use Rattle.limits.specs.declared.Limits.{Limits}
 use Rattle.identification.specs.declared.Identity.{Identity}
 use Rattle.identification.specs.Sound.{isSound}
@@ -12,7 +12,7 @@ use Rattle.setup.specs.Content.{Setup}
 use Rattle.setup.specs.Carried.{Carried}
 use Rattle.setup.specs.Rules.{MeetsRules}
 use Rattle.setup.specs.Layout.{Tables, writtenOut}
-use Rattle.setup.specs.Decode.{decodeSetup}
+use Rattle.setup.specs.inner.Decode.{decodeSetup}
 use Rattle.setup.specs.Sound.{Sound, SoundCall}
 use Rattle.setup.specs.SoundTest.{DecodedSound, decodedSound, soundTest, Tested}
 use Rattle.setup.proofs.DecodeLaws.{content-decoded, one-content}

@@ -26,7 +26,7 @@ use Rattle.book_reading.specs.Valid.{ValidBooks}
 use Rattle.book_reading.proofs.Accepted.{books-valid}
 use Rattle.floor.specs.Content.{Floor}
 use Rattle.floor.specs.Reading.{floor}
-use Rattle.floor.specs.Valid.{ValidFloor}
+use Rattle.floor.specs.inner.Valid.{ValidFloor}
 use Rattle.floor.proofs.Laws.{floors-valid}
 use Rattle.residue.specs.Content.{Residue}
 use Rattle.residue.specs.Reading.{Books, residue}
@@ -40,10 +40,10 @@ use Rattle.setup.specs.Content.{Setup, booksKnown, known}
 use Rattle.setup.specs.Reading.{bookSection, section, timeValue, sections, setup}
 use Rattle.setup.specs.Layout.{Tables, layout, hasRoom, writtenOut, cleared}
 use Rattle.setup.specs.Carried.{Counted}
-use Rattle.setup.specs.Valid.{ValidSetup}
+use Rattle.setup.specs.inner.Valid.{ValidSetup}
 use Rattle.setup.specs.Sound.{Sound, SoundCall}
 use Rattle.setup.specs.Call.{setupOf}
-use Rattle.setup.specs.Parts.{Small}
+use Rattle.setup.specs.inner.Parts.{Small}
 use Rattle.setup.specs.Accepted.{AcceptedSound}
 use Rattle.setup.proofs.TableLaws.{room-parts}
 use Rattle.setup.proofs.RuleLaws.{valid-carried, valid-meets}

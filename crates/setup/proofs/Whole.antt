@@ -12,7 +12,7 @@ use Rattle.mapping.specs.Reading.{mapping}
 use Rattle.mode.specs.Reading.{mode}
 use Rattle.setup.specs.Content.{booksKnown, known}
 use Rattle.setup.specs.Reading.{bookSection, section, timeValue, sections, setup}
-use Rattle.setup.specs.Parts.{bookPart, floorPart, mappingPart, afterBooks, restPart, afterHeader, packetPart}
+use Rattle.setup.specs.inner.Parts.{bookPart, floorPart, mappingPart, afterBooks, restPart, afterHeader, packetPart}
 
 by-cases : {A P : Type 0} (o : Outcome A) → ((a : A) → o ≡ ok a → P) → ((z : Refusal) → o ≡ bad z → P) → P
 by-cases (ok a) f g = f a refl

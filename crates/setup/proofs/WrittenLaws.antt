@@ -12,7 +12,7 @@ use Rattle.mapping.specs.Layout.{mappingRow}
 use Rattle.mode.specs.Layout.{modeRow}
 use Rattle.setup.specs.Content.{Setup}
 use Rattle.setup.specs.Layout.{Tables, layout, writtenOut}
-use Rattle.setup.specs.Valid.{ValidSetup}
+use Rattle.setup.specs.inner.Valid.{ValidSetup}
 use Rattle.setup.specs.Sound.{Sound}
 use Rattle.setup.proofs.RuleLaws.{sound-valid}
 use Rattle.setup.proofs.TableLaws.{RoomParts, room-parts}

@@ -8,7 +8,7 @@ use Rattle.limits.specs.declared.Limits.{Limits}
 use Rattle.identification.specs.declared.Identity.{Identity}
 use Rattle.setup.specs.Content.{Setup}
 use Rattle.setup.specs.Layout.{Tables, writtenOut, cleared}
-use Rattle.setup.specs.Decode.{decodeSetup}
+use Rattle.setup.specs.inner.Decode.{decodeSetup}
 use Rattle.setup.specs.Sound.{Sound}
 use Rattle.setup.specs.SoundTest.{soundTest}
 use Rattle.setup.specs.Call.{setupOf}

@@ -4,10 +4,8 @@ pub mod Layout
 pub mod Handed
 pub mod Carried
 pub mod Rules
-pub mod Valid
-pub mod Decode
 pub mod Sound
 pub mod SoundTest
 pub mod Call
-pub mod Parts
 pub mod Accepted
+pub mod inner

@@ -9,7 +9,7 @@ use Rattle.setup.specs.Content.{Setup}
 use Rattle.setup.specs.Carried.{Carried}
 use Rattle.setup.specs.Rules.{MeetsRules}
 use Rattle.setup.specs.Layout.{Tables, hasRoom, writtenOut}
-use Rattle.setup.specs.Decode.{decodeSetup}
+use Rattle.setup.specs.inner.Decode.{decodeSetup}
 
 -- the writing-out of some content that meets every rule, for an identity's channels
 pub record Sound (limits : Limits) (channels : ℕ) (t : Tables) : Type 0 where

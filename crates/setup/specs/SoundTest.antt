@@ -8,7 +8,7 @@ use mathlib.Core.Path.{_≡_, refl, ap}
 use lib.Dec.{ltb, leb}
 use lib.ListN.{length}
 use Rattle.reading.specs.Lists.{all}
-use Rattle.reading.specs.Decide.{Decided, holds, atMost, below, equal, equivalent, both, implies, negated, each, sameList}
+use Rattle.reading.specs.inner.Decide.{Decided, holds, atMost, below, equal, equivalent, both, implies, negated, each, sameList}
 use Rattle.limits.specs.declared.Limits.{Limits}
 use Rattle.identification.specs.declared.Identity.{Identity}
 use Rattle.identification.specs.Sound.{isSound}
@@ -24,7 +24,7 @@ use Rattle.setup.specs.Content.{Setup, booksKnown}
 use Rattle.setup.specs.Carried.{Counted, CarriedBook, CarriedClass, CarriedFloor, CarriedResidue, CarriedMapping, Carried}
 use Rattle.setup.specs.Rules.{Rule6, Class11, Residue11, Coupling11, Submap11, Mapping11, Rule11, Rule12, Rule14, MeetsRules}
 use Rattle.setup.specs.Layout.{Tables, hasRoom, writtenOut, tables}
-use Rattle.setup.specs.Decode.{decodeSetup}
+use Rattle.setup.specs.inner.Decode.{decodeSetup}
 use Rattle.setup.specs.Sound.{SoundCall, OneContent}
 
 -- what a packet can carry

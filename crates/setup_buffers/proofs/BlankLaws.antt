@@ -5,7 +5,7 @@ use mathlib.Core.Path.{_≡_, sym, ap, _∙_}
 use lib.ListN.{length, replicate, length-replicate}
 use Rattle.reading.specs.Pad.{pad}
 use Rattle.reading.specs.Encoding.{Zeros}
-use Rattle.setup_buffers.specs.Blank.{Blank}
+use Rattle.setup_buffers.specs.inner.Blank.{Blank}
 
 -- it is as long as it was, and all zero
 pub cleared-long : {l m : List ℕ} → Blank l m → length m ≡ length l

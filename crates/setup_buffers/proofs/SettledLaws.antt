@@ -7,7 +7,7 @@ use Rattle.bits.specs.declared.Step.{Step}
 use Rattle.bits.specs.declared.Step.the-variants.{Next, Refused}
 use Rattle.setup.specs.Layout.{Tables, cleared}
 use Rattle.setup.specs.Call.{left}
-use Rattle.setup_buffers.specs.Settled.{settled}
+use Rattle.setup_buffers.specs.inner.Settled.{settled}
 
 module _ (answer : Step) (t : Tables) where
   pub settled-next : {c : Cursor} → answer ≡ Next c → left 0 t ≡ settled answer t

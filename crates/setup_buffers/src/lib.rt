@@ -6,8 +6,8 @@ use reading::buffers;
 ghost use mathlib.Core.Path.{_≡_};
 ghost use Rattle.setup.specs.Layout.{hasRoom, cleared, tables};
 ghost use Rattle.setup.specs.Call.{left};
-ghost use Rattle.setup_buffers.specs.Blank.{Blank};
-ghost use Rattle.setup_buffers.specs.Settled.{settled};
+ghost use Rattle.setup_buffers.specs.inner.Blank.{Blank};
+ghost use Rattle.setup_buffers.specs.inner.Settled.{settled};
 
 fn wide(x: u32) -> usize
     ensures { λ r. ⌜ r ≡ x ⌝ }

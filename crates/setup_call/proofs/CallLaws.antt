@@ -14,11 +14,11 @@ use Rattle.setup.specs.Reading.{setup}
 use Rattle.setup.specs.Layout.{Tables, tables, hasRoom, cleared}
 use Rattle.setup.specs.Call.{setupOf, Left, left, answered, setupCall}
 use Rattle.setup.specs.Accepted.{AcceptedSound}
-use Rattle.setup.specs.Parts.{ReadInto, WrittenOut, packetPart, checkedPart, Small}
+use Rattle.setup.specs.inner.Parts.{ReadInto, WrittenOut, packetPart, checkedPart, Small}
 use Rattle.setup.proofs.ReadIntoLaws.{read-into-bad, read-into-ok}
 use Rattle.setup.proofs.Whole.{setup-whole}
 use Rattle.setup.proofs.ValidLaws.{accepts}
-use Rattle.setup_buffers.specs.Settled.{settled}
+use Rattle.setup_buffers.specs.inner.Settled.{settled}
 
 -- the lengths of the tables are all that clearing depends on
 pub record SameLengths (t u : Tables) : Type 0 where

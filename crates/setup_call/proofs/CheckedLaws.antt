@@ -12,7 +12,7 @@ use Rattle.bits.specs.declared.Cursor.{Cursor}
 use Rattle.bits.specs.declared.Refusal.{Refusal}
 use Rattle.bits.specs.declared.Step.{Step}
 use Rattle.bits.specs.declared.Step.the-variants.{Next, Refused}
-use Rattle.bits.specs.Cursors.{position, stepped}
+use Rattle.bits.specs.inner.Cursors.{position, stepped}
 use Rattle.bits.proofs.Steps.{next-is, stop-is}
 use Rattle.header.specs.Header.{commonHeader}
 use Rattle.limits.specs.declared.Limits.{Limits}
@@ -21,9 +21,9 @@ use Rattle.identification.specs.Sound.{Sound, isSound}
 use Rattle.identification.proofs.SoundLaws.{sound-test}
 use Rattle.setup.specs.Content.{Setup}
 use Rattle.setup.specs.Layout.{Tables, hasRoom}
-use Rattle.setup.specs.Parts.{ReadInto, Small, afterHeader, packetPart, checkedPart}
+use Rattle.setup.specs.inner.Parts.{ReadInto, Small, afterHeader, packetPart, checkedPart}
 use Rattle.setup.proofs.ReadIntoLaws.{read-into-refused}
-use Rattle.setup_call.specs.Begun.{begun}
+use Rattle.setup_call.specs.inner.Begun.{begun}
 
 said-false : {P : Type 0} {x : Bool} (t : Bool) → (x ≡ true) ↔ P → (t ≡ true) ↔ P → not x ≡ true → t ≡ false
 said-false {P} {x} true e f n = let y : x ≡ true = e .1 (f .0 refl) in let z : _≡_ {A = ℕ} 0 1 = cc in absurd (omega arith)

@@ -11,10 +11,10 @@ use setup_content::read_content;
 use setup_buffers::have_room;
 ghost use mathlib.Core.Path.{_≡_};
 ghost use Rattle.reading.specs.Outcome.{refusal, bad};
-ghost use Rattle.bits.specs.Cursors.{stepped};
+ghost use Rattle.bits.specs.inner.Cursors.{stepped};
 ghost use Rattle.setup.specs.Layout.{tables};
-ghost use Rattle.setup.specs.Parts.{ReadInto, Small, WrittenOut, checkedPart};
-ghost use Rattle.setup_call.specs.Begun.{begun};
+ghost use Rattle.setup.specs.inner.Parts.{ReadInto, Small, WrittenOut, checkedPart};
+ghost use Rattle.setup_call.specs.inner.Begun.{begun};
 
 // A refusal of an argument beside the packet, which no field has: its place is 0.
 fn refused_arguments(number: u8) -> Step

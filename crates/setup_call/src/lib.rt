@@ -9,7 +9,7 @@ ghost use mathlib.Core.Path.{_≡_};
 ghost use Rattle.setup.specs.Handed.{handed, leftIn};
 ghost use Rattle.setup.specs.Call.{left, setupCall};
 ghost use Rattle.setup.specs.Accepted.{AcceptedSound};
-ghost use Rattle.setup.specs.Parts.{Small};
+ghost use Rattle.setup.specs.inner.Parts.{Small};
 
 // 0 where the packet is accepted: the tables hold its content. Else the number of the refusal, and every table is all zero.
 pub fn read_setup(

@@ -14,18 +14,18 @@ use Rattle.reading.proofs.Outcomes.{need-ok}
 use Rattle.reading.proofs.Encodes.{iff-false}
 use Rattle.bits.specs.declared.Cursor.{Cursor}
 use Rattle.bits.specs.declared.Field.the-variants.{Refused}
-use Rattle.bits.specs.Cursors.{position, outcome}
+use Rattle.bits.specs.inner.Cursors.{position, outcome}
 use Rattle.limits.specs.declared.Limits.{Limits}
 use Rattle.identification.specs.declared.Identity.{Identity}
 use Rattle.identification.specs.Sound as I
 use Rattle.codeword.specs.Codeword.{codeword}
-use Rattle.codeword.specs.Claims.{Settled}
+use Rattle.codeword.specs.inner.Claims.{Settled}
 use Rattle.codeword.proofs.Laws.{read-used}
-use Rattle.book_codeword.specs.Stored.{entriesOf, BookStored}
+use Rattle.book_codeword.specs.inner.Stored.{entriesOf, BookStored}
 use Rattle.setup.specs.Content.{Setup, lengthsOf}
 use Rattle.setup.specs.Layout.{Tables}
-use Rattle.setup.specs.Decode.{decodeSetup}
-use Rattle.setup.specs.Parts.{Small}
+use Rattle.setup.specs.inner.Decode.{decodeSetup}
+use Rattle.setup.specs.inner.Parts.{Small}
 use Rattle.setup.specs.Sound.{Sound, SoundCall}
 use Rattle.setup.specs.SoundTest.{soundTest, Tested}
 use Rattle.setup.proofs.DecodeLaws.{content-decoded}

@@ -21,7 +21,7 @@ use Rattle.book_reading.specs.Valid.{ValidBooks}
 use Rattle.setup.specs.Content.{Setup, lengthsOf}
 use Rattle.setup.specs.Layout.{Tables, writtenOut}
 use Rattle.setup.specs.Call.{setupOf, setupCall, answered}
-use Rattle.setup.specs.Parts.{Small}
+use Rattle.setup.specs.inner.Parts.{Small}
 use Rattle.setup.proofs.ValidLaws.{setup-valid, call-accepted, accepts}
 use Rattle.setup_judged.proofs.JudgedLaws.{judged-by-call}
 use Rattle.setup_judged.specs.Judged.{LengthsRead}

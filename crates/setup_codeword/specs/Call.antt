@@ -10,7 +10,7 @@ use Rattle.identification.specs.declared.Identity.{Identity}
 use Rattle.codeword.specs.Codeword.{codeword}
 use Rattle.setup.specs.Content.{Setup, lengthsOf}
 use Rattle.setup.specs.Layout.{Tables}
-use Rattle.setup.specs.Decode.{decodeSetup}
+use Rattle.setup.specs.inner.Decode.{decodeSetup}
 use Rattle.setup.specs.SoundTest.{soundTest}
 
 -- EVERY LATER CALL: 18 where identity or tables are not sound; else what it answers by the content of the tables, which is one alone

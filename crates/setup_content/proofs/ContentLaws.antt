@@ -10,19 +10,19 @@ use Rattle.bits.specs.declared.Cursor.{Cursor}
 use Rattle.bits.specs.declared.Refusal.{Refusal}
 use Rattle.bits.specs.declared.Step.{Step}
 use Rattle.bits.specs.declared.Step.the-variants as S
-use Rattle.bits.specs.Cursors.{position}
+use Rattle.bits.specs.inner.Cursors.{position}
 use Rattle.limits.specs.declared.Limits.{Limits}
-use Rattle.book_reading.specs.BookBuffers.{BookBuffers}
+use Rattle.book_reading.specs.inner.BookBuffers.{BookBuffers}
 use Rattle.residue.specs.Reading.{Books}
-use Rattle.residue.specs.FromTable.{booksOf}
+use Rattle.residue.specs.inner.FromTable.{booksOf}
 use Rattle.setup.specs.Content.{Setup, booksKnown}
 use Rattle.setup.specs.Layout.{tables, layout, hasRoom, writtenOut}
-use Rattle.setup.specs.Parts.{ReadInto, BooksStored, ClearedBookBuffers, RestStored, Small, WrittenOut, bookPart, restPart, setupWith, afterHeader}
+use Rattle.setup.specs.inner.Parts.{ReadInto, BooksStored, ClearedBookBuffers, RestStored, Small, WrittenOut, bookPart, restPart, setupWith, afterHeader}
 use Rattle.setup.proofs.ReadIntoLaws.{read-into-bad, read-into-ok, read-into-refused}
 use Rattle.setup.proofs.TableLaws.{room-parts}
 use Rattle.setup_sections.proofs.PartLaws.{followed}
 use Rattle.setup.proofs.BookLinks.{books-link}
-use Rattle.setup_buffers.specs.Blank.{Blank}
+use Rattle.setup_buffers.specs.inner.Blank.{Blank}
 use Rattle.setup_buffers.proofs.BlankLaws.{cleared-long, cleared-zeros, pad-to-buffer}
 
 -- the books' tables, which are cleared before they are filled

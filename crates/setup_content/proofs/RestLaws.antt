@@ -14,12 +14,12 @@ use Rattle.bits.specs.declared.Field.{Field}
 use Rattle.bits.specs.declared.Field.the-variants as F
 use Rattle.bits.specs.declared.Step.{Step}
 use Rattle.bits.specs.declared.Step.the-variants as S
-use Rattle.bits.specs.Cursors.{position, outcome, stepped}
+use Rattle.bits.specs.inner.Cursors.{position, outcome, stepped}
 use Rattle.bits.proofs.Answers.{value-is, refused-is}
 use Rattle.header.specs.Header.{framing}
 use Rattle.residue.specs.Reading.{Books}
-use Rattle.setup.specs.Parts.{ReadInto, RowsStored, AfterBooksStored, RestStored, afterBooks, restPart}
-use Rattle.setup_buffers.specs.Blank.{Blank}
+use Rattle.setup.specs.inner.Parts.{ReadInto, RowsStored, AfterBooksStored, RestStored, afterBooks, restPart}
+use Rattle.setup_buffers.specs.inner.Blank.{Blank}
 use Rattle.setup_buffers.proofs.BlankLaws.{pad-to-buffer}
 use Rattle.setup.proofs.ReadIntoLaws.{read-into-bad, read-into-ok, read-into-refused}
 use Rattle.setup_sections.proofs.PartLaws.{skipped}

@@ -11,10 +11,10 @@ use setup_sections::Section;
 ghost use mathlib.Core.Bool.{true};
 ghost use mathlib.Core.Path.{_≡_};
 ghost use Prim.Native.Nat.{_≤_};
-ghost use Rattle.bits.specs.Cursors.{position};
-ghost use Rattle.book_reading.specs.BookBuffers.{BookBuffers};
+ghost use Rattle.bits.specs.inner.Cursors.{position};
+ghost use Rattle.book_reading.specs.inner.BookBuffers.{BookBuffers};
 ghost use Rattle.setup.specs.Layout.{hasRoom, tables};
-ghost use Rattle.setup.specs.Parts.{ReadInto, BooksStored, Small, WrittenOut, bookPart, afterHeader};
+ghost use Rattle.setup.specs.inner.Parts.{ReadInto, BooksStored, Small, WrittenOut, bookPart, afterHeader};
 
 // The books, and behind them the time values.
 fn read_books(

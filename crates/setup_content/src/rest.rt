@@ -13,10 +13,10 @@ ghost use Prim.Native.Nat.{_≤_};
 ghost use lib.ListN.{length};
 ghost use Rattle.reading.specs.Outcome.{ok, then};
 ghost use Rattle.reading.specs.Pad.{pad};
-ghost use Rattle.bits.specs.Cursors.{position, stepped};
+ghost use Rattle.bits.specs.inner.Cursors.{position, stepped};
 ghost use Rattle.header.specs.Header.{framing};
-ghost use Rattle.residue.specs.FromTable.{booksOf};
-ghost use Rattle.setup.specs.Parts.{ReadInto, AfterBooksStored, RestStored, afterBooks, restPart};
+ghost use Rattle.residue.specs.inner.FromTable.{booksOf};
+ghost use Rattle.setup.specs.inner.Parts.{ReadInto, AfterBooksStored, RestStored, afterBooks, restPart};
 
 // How many there are of each, from the front of the table of counts.
 fn write_counts(

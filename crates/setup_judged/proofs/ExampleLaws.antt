@@ -15,7 +15,7 @@ use Rattle.header.specs.Header.{exactly, commonHeader, framing}
 use Rattle.identification.specs.Sound.{isSound}
 use Rattle.codespace.specs.Ledger.{isLength}
 use Rattle.codespace.specs.Claims.{accepted}
-use Rattle.codespace.specs.Blocks.{smallest, blockAbove, blockFor, enterAnswer, enterBlocks, runAnswers, emptyBlocks}
+use Rattle.codespace.specs.inner.Blocks.{smallest, blockAbove, blockFor, enterAnswer, enterBlocks, runAnswers, emptyBlocks}
 use Rattle.codespace.proofs.Whole.{answers-are}
 use Rattle.codeword_assignment.specs.Book.{used, isUsed, isLone, firstRefused, verdict}
 use Rattle.codeword_assignment.specs.Book as B

@@ -11,7 +11,7 @@ use Rattle.bits.specs.declared.Cursor.{Cursor}
 use Rattle.bits.specs.declared.Refusal.{Refusal}
 use Rattle.bits.specs.declared.Step.{Step}
 use Rattle.bits.specs.declared.Step.the-variants as S
-use Rattle.bits.specs.Cursors.{position, stepped}
+use Rattle.bits.specs.inner.Cursors.{position, stepped}
 use Rattle.limits.specs.declared.Limits.{Limits}
 use Rattle.book.specs.Content.{Book}
 use Rattle.floor.specs.Layout.{floorRow}
@@ -24,7 +24,7 @@ use Rattle.mode.specs.Layout.{modeRow}
 use Rattle.mode.specs.Reading.{mode}
 use Rattle.setup.specs.Content.{known}
 use Rattle.setup.specs.Reading.{bookSection, section, timeValue}
-use Rattle.setup.specs.Parts.{ReadInto, RowsStored, ResiduesStored, FloorsStored, MappingsStored, AfterBooksStored, bookPart, floorPart, mappingPart, afterBooks}
+use Rattle.setup.specs.inner.Parts.{ReadInto, RowsStored, ResiduesStored, FloorsStored, MappingsStored, AfterBooksStored, bookPart, floorPart, mappingPart, afterBooks}
 use Rattle.setup.proofs.ReadIntoLaws.{read-into-bad, read-into-ok, read-into-refused}
 
 -- what follows a content that is known: nothing of it stays

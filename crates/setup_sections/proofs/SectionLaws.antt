@@ -12,32 +12,32 @@ use Rattle.reading.specs.Reader.{Reader, many, mapped, puts, into, into1}
 use Rattle.reading.specs.Lists.{rows}
 use Rattle.reading.specs.Pad.{pad}
 use Rattle.reading.specs.Encoding.{Zeros}
-use Rattle.reading.specs.Table.{Table, table, putRow}
+use Rattle.reading.specs.inner.Table.{Table, table, putRow}
 use Rattle.bits.specs.declared.Cursor.{Cursor}
 use Rattle.bits.specs.declared.Refusal.{Refusal}
 use Rattle.bits.specs.declared.Field.{Field}
 use Rattle.bits.specs.declared.Field.the-variants.{Value, Refused}
 use Rattle.bits.specs.declared.Step.{Step}
 use Rattle.bits.specs.declared.Step.the-variants as S
-use Rattle.bits.specs.Cursors.{position, refusalOf, outcome, stepped, Wrote}
+use Rattle.bits.specs.inner.Cursors.{position, refusalOf, outcome, stepped, Wrote}
 use Rattle.bits.specs.Field.{field}
 use Rattle.bits.proofs.Answers.{value-is, refused-is, value-below}
 use Rattle.bits.proofs.Steps.{next-is, stop-is}
 use Rattle.limits.specs.declared.Limits.{Limits}
 use Rattle.book.specs.Content.{Book}
 use Rattle.book_head.specs.Reading.{Before}
-use Rattle.book_reading.specs.Layout.{tables, putBook}
-use Rattle.book_reading.specs.Layout as B
-use Rattle.book_reading.specs.Parts as P
+use Rattle.book_reading.specs.inner.Layout.{tables, putBook}
+use Rattle.book_reading.specs.inner.Layout as B
+use Rattle.book_reading.specs.inner.Parts as P
 use Rattle.book_reading.specs.Reading.{books}
 use Rattle.book_reading.specs.Rows.{bookRows, allLengths, allCodewords, allMultiplicands, andThese}
 use Rattle.book_reading.proofs.BooksStored.{cleared-stored}
 use Rattle.residue.specs.Content.{Residue}
 use Rattle.residue.specs.Layout.{headRow, planTable, putResidue}
 use Rattle.residue.specs.Layout as R
-use Rattle.residue.specs.Plans.{tablesAt}
+use Rattle.residue.specs.inner.Plans.{tablesAt}
 use Rattle.setup.specs.Reading.{bookSection, section, timeValue}
-use Rattle.setup.specs.Parts.{ReadInto, RowsStored, BooksStored, ResiduesStored, ClearedBookBuffers}
+use Rattle.setup.specs.inner.Parts.{ReadInto, RowsStored, BooksStored, ResiduesStored, ClearedBookBuffers}
 use Rattle.setup.proofs.ReadIntoLaws.{read-into-refused, read-into-wrote, many-counted, rows-stored}
 
 -- a count less one, of 6 bits and of 8

@@ -12,17 +12,17 @@ ghost use Prim.Native.Nat.{_≤_};
 ghost use Rattle.reading.specs.Outcome.{ok, then};
 ghost use Rattle.reading.specs.Reader.{many};
 ghost use Rattle.reading.specs.Encoding.{Zeros};
-ghost use Rattle.bits.specs.Cursors.{position, stepped};
+ghost use Rattle.bits.specs.inner.Cursors.{position, stepped};
 ghost use Rattle.floor.specs.Layout.{floorRow};
 ghost use Rattle.floor.specs.Reading.{floor};
-ghost use Rattle.residue.specs.FromTable.{booksOf};
+ghost use Rattle.residue.specs.inner.FromTable.{booksOf};
 ghost use Rattle.residue.specs.Reading.{residue};
 ghost use Rattle.mapping.specs.Layout.{mappingRow};
 ghost use Rattle.mapping.specs.Reading.{mapping};
 ghost use Rattle.mode.specs.Layout.{modeRow};
 ghost use Rattle.mode.specs.Reading.{mode};
 ghost use Rattle.setup.specs.Reading.{bookSection, section, timeValue};
-ghost use Rattle.setup.specs.Parts.{ReadInto, RowsStored, BooksStored, ResiduesStored, ClearedBookBuffers};
+ghost use Rattle.setup.specs.inner.Parts.{ReadInto, RowsStored, BooksStored, ResiduesStored, ClearedBookBuffers};
 
 // How many items a section has, and where reading goes on, or the refusal.
 pub struct Section {

@@ -13,9 +13,9 @@ use crate::read_time_section;
 ghost use mathlib.Core.Path.{_≡_};
 ghost use Prim.Native.Nat.{_≤_};
 ghost use Rattle.reading.specs.Encoding.{Zeros};
-ghost use Rattle.bits.specs.Cursors.{position};
-ghost use Rattle.residue.specs.FromTable.{booksOf};
-ghost use Rattle.setup.specs.Parts.{ReadInto, BooksStored, ClearedBookBuffers, FloorsStored, MappingsStored, AfterBooksStored, bookPart, floorPart, mappingPart, afterBooks};
+ghost use Rattle.bits.specs.inner.Cursors.{position};
+ghost use Rattle.residue.specs.inner.FromTable.{booksOf};
+ghost use Rattle.setup.specs.inner.Parts.{ReadInto, BooksStored, ClearedBookBuffers, FloorsStored, MappingsStored, AfterBooksStored, bookPart, floorPart, mappingPart, afterBooks};
 
 // The books, and behind them the time values.
 pub fn read_book_part(

@@ -10,7 +10,7 @@ use Rattle.reading.specs.Encoding.{Zeros}
 use Rattle.reading.proofs.Encodes.{iff-false, iff-true}
 use Rattle.book_tables.proofs.TestLaws.{refuted, shown}
 use Rattle.setup.specs.Carried.{Counted}
-use Rattle.setup_tables.specs.Recognised.{CountsRecognised}
+use Rattle.setup_tables.specs.inner.Recognised.{CountsRecognised}
 
 -- one count
 module _ (cs : List ℕ) (place most : ℕ) {n : ℕ} (e : n ≡ getD cs place 0) where

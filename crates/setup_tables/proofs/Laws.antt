@@ -8,17 +8,17 @@ use mathlib.Core.Path.{_≡_, sym, _∙_}
 use lib.ListN.{getD}
 use Rattle.reading.proofs.Encodes.{iff-false}
 use Rattle.limits.specs.declared.Limits.{Limits}
-use Rattle.book_tables.specs.Recognised.{Countable, BooksRecognised}
+use Rattle.book_tables.specs.inner.Recognised.{Countable, BooksRecognised}
 use Rattle.book_tables.proofs.TestLaws.{refuted, shown}
-use Rattle.floor_tables.specs.Recognised.{FloorsRecognised}
-use Rattle.residue.specs.FromTable.{booksOf}
-use Rattle.residue_tables.specs.Recognised.{ResiduesRecognised}
-use Rattle.mapping_tables.specs.Recognised.{MappingsRecognised}
-use Rattle.mode.specs.Recognised.{ModesRecognised}
+use Rattle.floor_tables.specs.inner.Recognised.{FloorsRecognised}
+use Rattle.residue.specs.inner.FromTable.{booksOf}
+use Rattle.residue_tables.specs.inner.Recognised.{ResiduesRecognised}
+use Rattle.mapping_tables.specs.inner.Recognised.{MappingsRecognised}
+use Rattle.mode.specs.inner.Recognised.{ModesRecognised}
 use Rattle.setup.specs.Layout.{hasRoom, tables}
-use Rattle.setup.specs.Parts.{Small}
+use Rattle.setup.specs.inner.Parts.{Small}
 use Rattle.setup.specs.Sound.{Sound}
-use Rattle.setup_tables.specs.Recognised.{CountsRecognised, knownBy, FrontRecognised, BackRecognised}
+use Rattle.setup_tables.specs.inner.Recognised.{CountsRecognised, knownBy, FrontRecognised, BackRecognised}
 use Rattle.setup_tables.proofs.Theorem.{parts-sound, sound-parts}
 
 -- what a part asks for, of a count that was read from its place

@@ -10,30 +10,30 @@ use Rattle.reading.proofs.Encodes.{rows-length}
 use Rattle.limits.specs.declared.Limits.{Limits}
 use Rattle.book.specs.Content.{Book}
 use Rattle.book.specs.Layout.{booksNeed}
-use Rattle.book_head.specs.Answers.{totals}
+use Rattle.book_head.specs.inner.Answers.{totals}
 use Rattle.book_reading.specs.Rows.{bookRows}
-use Rattle.book_tables.specs.Recognised.{BooksRecognised}
+use Rattle.book_tables.specs.inner.Recognised.{BooksRecognised}
 use Rattle.floor.specs.Content.{Floor}
-use Rattle.floor.specs.Valid.{ValidFloor, ValidFloors}
-use Rattle.floor_tables.specs.Recognised.{FloorsRecognised}
+use Rattle.floor.specs.inner.Valid.{ValidFloor, ValidFloors}
+use Rattle.floor_tables.specs.inner.Recognised.{FloorsRecognised}
 use Rattle.residue.specs.Content.{Residue}
-use Rattle.residue.specs.FromTable.{booksOf}
+use Rattle.residue.specs.inner.FromTable.{booksOf}
 use Rattle.residue.specs.Reading.{Books}
 use Rattle.residue.specs.Valid.{ValidResidue, AllValid}
-use Rattle.residue_tables.specs.Recognised.{ResiduesRecognised}
+use Rattle.residue_tables.specs.inner.Recognised.{ResiduesRecognised}
 use Rattle.mapping.specs.declared.Known.{Known}
 use Rattle.mapping.specs.Layout.{mappingRow}
-use Rattle.mapping.specs.Valid.{ValidMapping}
+use Rattle.mapping.specs.inner.Valid.{ValidMapping}
 use Rattle.mapping.proofs.RowLaws.{mapping-wide}
-use Rattle.mapping_tables.specs.Recognised.{MappingsRecognised}
+use Rattle.mapping_tables.specs.inner.Recognised.{MappingsRecognised}
 use Rattle.mode.specs.Layout.{modeRow}
-use Rattle.mode.specs.Valid.{ValidMode}
-use Rattle.mode.specs.Recognised.{ModesRecognised}
+use Rattle.mode.specs.inner.Valid.{ValidMode}
+use Rattle.mode.specs.inner.Recognised.{ModesRecognised}
 use Rattle.mode.proofs.Laws.{mode-wide}
 use Rattle.setup.specs.Content.{Setup, booksKnown, known}
 use Rattle.setup.specs.Layout.{Tables, layout, writtenOut, tables}
 use Rattle.setup.specs.Carried.{Counted}
-use Rattle.setup.specs.Valid.{ValidSetup}
+use Rattle.setup.specs.inner.Valid.{ValidSetup}
 use Rattle.setup.specs.Sound.{Sound}
 use Rattle.setup.proofs.RuleLaws.{valid-carried, valid-meets}
 use Rattle.setup.proofs.BookLinks.{books-link}
@@ -41,7 +41,7 @@ use Rattle.setup.proofs.TableLaws.{room-parts}
 use Rattle.setup.proofs.CountsLaws.{five, five-written}
 use Rattle.setup.proofs.EachLaws.{floors-each, each-floors, residues-each, each-residues}
 use Rattle.setup.proofs.WrittenLaws.{SoundFacts, sound-facts}
-use Rattle.setup_tables.specs.Recognised.{CountsRecognised, knownBy, PartsRecognised}
+use Rattle.setup_tables.specs.inner.Recognised.{CountsRecognised, knownBy, PartsRecognised}
 
 -- the books as the table has them are the books of the content
 pub books-are : (count : ℕ) (t : List ℕ) (bs : List Book) → count ≡ length bs → count ≤ 256 → booksNeed ≤ length t → t ≡ pad (length t) (bookRows (totals 0 0) bs)

@@ -1,1 +1,1 @@
-pub mod Recognised
+pub mod inner

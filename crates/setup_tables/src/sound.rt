@@ -6,7 +6,7 @@ ghost use mathlib.Core.Logic.{_↔_};
 ghost use mathlib.Core.Path.{_≡_};
 ghost use Prim.Native.Nat.{_≤_};
 ghost use Rattle.setup.specs.Handed.{handed};
-ghost use Rattle.setup.specs.Parts.{Small};
+ghost use Rattle.setup.specs.inner.Parts.{Small};
 ghost use Rattle.setup.specs.Sound.{Sound, OneContent};
 
 // Whether the tables are the writing-out of some setup that meets every rule for so many channels.

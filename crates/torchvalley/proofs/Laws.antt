@@ -12,11 +12,11 @@ use mathlib.Core.Path.{_≡_, refl, sym, ap, subst, _∙_}
 use Rattle.reading.specs.Outcome.{Outcome, ok, bad}
 use Rattle.reading.proofs.Outcomes.{Numbered, value, number}
 use Rattle.bits.specs.declared.Refusal.{Refusal}
-use Rattle.bits.specs.Cursors.{refusalOf}
+use Rattle.bits.specs.inner.Cursors.{refusalOf}
 use Rattle.identification.specs.declared.Identity.{Identity}
 use Rattle.identification.specs.declared.Identified.{Identified}
 use Rattle.identification.specs.declared.Identified.the-variants.{Accepted, Refused}
-use Rattle.identification.specs.Answers.{identified}
+use Rattle.identification.specs.inner.Answers.{identified}
 use Rattle.identification.specs.Identification.{identification}
 use Rattle.identification.specs.Sound.{Sound}
 use Rattle.identification.proofs.Numbers.{numbered}

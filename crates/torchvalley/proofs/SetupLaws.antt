@@ -11,13 +11,13 @@ use Rattle.bits.specs.declared.Cursor.{Cursor}
 use Rattle.bits.specs.declared.Refusal.{Refusal}
 use Rattle.bits.specs.declared.Field.{Field}
 use Rattle.bits.specs.declared.Field.the-variants.{Value, Refused}
-use Rattle.bits.specs.Cursors.{position, outcome}
+use Rattle.bits.specs.inner.Cursors.{position, outcome}
 use Rattle.limits.specs.declared.Limits.{Limits}
 use Rattle.identification.specs.declared.Identity.{Identity}
 use Rattle.setup.specs.Layout.{Tables}
 use Rattle.setup.specs.Call.{Left, setupCall}
 use Rattle.setup.specs.Accepted.{AcceptedSound}
-use Rattle.setup.specs.Parts.{Small}
+use Rattle.setup.specs.inner.Parts.{Small}
 use Rattle.setup.specs.SoundTest.{soundTest, Tested}
 use Rattle.setup_codeword.specs.Call.{codewordCall}
 use Rattle.setup_codeword.specs.Demand3.{Demand3}

@@ -12,7 +12,7 @@ ghost use Rattle.setup.specs.Accepted.{AcceptedSound};
 ghost use Rattle.setup_codeword.specs.Call.{codewordCall};
 ghost use Rattle.setup_codeword.specs.Demand3.{Demand3};
 ghost use Rattle.torchvalley.specs.Standard.{standard};
-ghost use Rattle.bits.specs.Cursors.{position, outcome};
+ghost use Rattle.bits.specs.inner.Cursors.{position, outcome};
 ghost use Rattle.torchvalley.specs.Codeword.{codewordAnswer, Addressable};
 
 // Reads a setup packet into the lent tables, under 01's limits. 0 where it is accepted: the tables hold its content, and zeros behind it. Else the

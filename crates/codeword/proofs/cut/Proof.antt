@@ -1,6 +1,6 @@
 -- `codeword::cut` meets its contract. Assumes nothing.
 use mathlib.Core.Path.{refl}
-use Rattle.bits.specs.Cursors.{outcome}
+use Rattle.bits.specs.inner.Cursors.{outcome}
 use Rattle.codeword.proofs.cut.Statement.{statement}
 use Rattle.codeword.proofs.cut.Tie as tie
 

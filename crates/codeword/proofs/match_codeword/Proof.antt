@@ -3,7 +3,7 @@ use Prim.Native.Nat.{_-_}
 use native.Mathlib.Omega.{arith}
 use mathlib.Core.Logic.{⊎-elim}
 use lib.ListN.{length}
-use Rattle.bits.specs.Cursors.{position}
+use Rattle.bits.specs.inner.Cursors.{position}
 use Rattle.codeword.proofs.LoopLaws.{Taking, Searching, taken-one, length-within, other-word, length-short, loop-laws}
 use borrow.Author.Needs.{needs}
 use Rattle.codeword.proofs.match_codeword.Statement.{statement}

@@ -1,7 +1,7 @@
 -- `floor_class::read_subclass_books` meets its contract. The loop: what is left to read, written into the buffer as it is, is the whole (numbers/proofs/Loops). Assumes nothing.
 use Prim.Native.Nat.{_≤_, _-_}
 use native.Mathlib.Omega.{arith}
-use Rattle.numbers.specs.Cell.{cell}
+use Rattle.numbers.specs.inner.Cell.{cell}
 use Rattle.floor_class.specs.Reading.{subclassBook}
 use Rattle.numbers.proofs.Loops.{Filling, fill-start, fill-next, fill-refused, fill-done}
 use borrow.Author.Needs.{needs}

@@ -5,7 +5,7 @@ use mathlib.Core.Path.{_≡_, refl}
 use native.Mathlib.Omega.{arith}
 use lib.ListN.{length, drop}
 use borrow.Author.Needs.{needs}
-use Rattle.bits.specs.Cursors.{position}
+use Rattle.bits.specs.inner.Cursors.{position}
 use Rattle.header.specs.Header.{exactly, commonHeader}
 use Rattle.header.proofs.Laws.{byte-missing, byte-wrong, byte-found, complete}
 use Rattle.header.proofs.common_header.Statement.{statement}

@@ -1,7 +1,7 @@
 -- `header::framing` meets its contract: one law for each way out. Assumes nothing.
 use borrow.Author.Needs.{needs}
 use borrow.Author.Tests.{eq-eqb, ne-eqb}
-use Rattle.bits.specs.Cursors.{outcome}
+use Rattle.bits.specs.inner.Cursors.{outcome}
 use Rattle.bits.proofs.Answers.{value-is, refused-is}
 use Rattle.header.specs.Header.{framing}
 use Rattle.header.proofs.framing.Statement.{statement}

@@ -3,8 +3,8 @@ use Prim.Native.Nat.{_-_, _≤_}
 use mathlib.Core.Path.{_≡_}
 use lib.ListN.{length}
 use Rattle.reading.specs.Reader.{many, into}
-use Rattle.reading.specs.Table.{table, putRow}
-use Rattle.bits.specs.Cursors.{position}
+use Rattle.reading.specs.inner.Table.{table, putRow}
+use Rattle.bits.specs.inner.Cursors.{position}
 use Rattle.mapping.specs.Reading.{mapping}
 use Rattle.mapping.specs.Layout.{mappingRow}
 use Rattle.mapping_reading.proofs.MappingLaws.{Reading, mappings-laws}

@@ -2,8 +2,8 @@
 use mathlib.Core.Path.{_≡_}
 use lib.ListN.{length}
 use Rattle.reading.specs.Reader.{many, into}
-use Rattle.reading.specs.Table.{table, putRow}
-use Rattle.bits.specs.Cursors.{position}
+use Rattle.reading.specs.inner.Table.{table, putRow}
+use Rattle.bits.specs.inner.Cursors.{position}
 use Rattle.mode.specs.Reading.{mode}
 use Rattle.mode.specs.Layout.{modeRow}
 use Prim.Native.Nat.{_-_, _≤_}

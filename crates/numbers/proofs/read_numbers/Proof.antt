@@ -3,7 +3,7 @@ use Prim.Native.Nat.{_≤_, _-_}
 use native.Mathlib.Omega.{arith}
 use borrow.Author.Needs.{needs}
 use Rattle.bits.specs.Field.{field}
-use Rattle.numbers.specs.Cell.{cell}
+use Rattle.numbers.specs.inner.Cell.{cell}
 use Rattle.numbers.proofs.Loops.{Filling, fill-start, fill-next, fill-refused, fill-done}
 use Rattle.numbers.proofs.read_numbers.Statement.{statement}
 use Rattle.numbers.proofs.read_numbers.Tie as tie

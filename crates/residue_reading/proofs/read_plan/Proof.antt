@@ -1,7 +1,7 @@
 -- `residue_reading::read_plan` meets its contract, by ReadLaws. Assumes nothing.
-use Rattle.bits.specs.Cursors.{position}
-use Rattle.residue.specs.Heads.{headOf}
-use Rattle.residue.specs.Plans.{tablesAt}
+use Rattle.bits.specs.inner.Cursors.{position}
+use Rattle.residue.specs.inner.Heads.{headOf}
+use Rattle.residue.specs.inner.Plans.{tablesAt}
 use Prim.Native.Nat.{_-_}
 use native.Mathlib.Omega.{arith}
 use Rattle.residue_reading.proofs.ReadLaws.{Planning, planning-start, planning-next, planning-refused, head-unfit, plan-unfit, residue-written}

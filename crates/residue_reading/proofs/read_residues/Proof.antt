@@ -1,7 +1,7 @@
 -- `residue_reading::read_residues` meets its contract, by Laws and ResidueLaws. Assumes nothing.
 use Rattle.residue.proofs.Laws.{accepted-valid}
 use Prim.Native.Nat.{_-_}
-use Rattle.residue.specs.FromTable.{booksOf}
+use Rattle.residue.specs.inner.FromTable.{booksOf}
 use Rattle.residue_reading.proofs.ResidueLaws.{ReadingResidues, residues-laws}
 use borrow.Author.Needs.{needs}
 use Rattle.residue_reading.proofs.read_residues.Statement.{statement}

@@ -2,7 +2,7 @@
 use Prim.Native.Nat.{_-_}
 use Rattle.reading.specs.Outcome.{ok, then}
 use Rattle.reading.specs.Reader.{many}
-use Rattle.bits.specs.Cursors.{position}
+use Rattle.bits.specs.inner.Cursors.{position}
 use Rattle.setup.specs.Reading.{timeValue}
 use Rattle.setup_sections.proofs.SectionLaws.{TimesLeft, time-laws}
 use borrow.Author.Needs.{needs}

@@ -1,7 +1,7 @@
 -- `book_lengths::lengths::read_runs` meets its contract, by LengthLaws. Assumes nothing.
 use Prim.Native.Nat.{_-_, _<_}
 use lib.ListN.{length}
-use Rattle.bits.specs.Cursors.{position}
+use Rattle.bits.specs.inner.Cursors.{position}
 use Rattle.book_lengths.proofs.LengthLaws.{Running, running-start, running-long, running-refused, running-fits, running-next, running-done}
 use borrow.Author.Needs.{needs}
 use Rattle.book_lengths.proofs.lengths.read_runs.Statement.{statement}

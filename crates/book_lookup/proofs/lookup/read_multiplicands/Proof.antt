@@ -1,7 +1,7 @@
 -- `book_lookup::lookup::read_multiplicands` meets its contract, by filling's Filling, LookupLaws and bits's Answers. Assumes nothing.
 use Prim.Native.Nat.{_-_}
 use lib.ListN.{length}
-use Rattle.bits.specs.Cursors.{position}
+use Rattle.bits.specs.inner.Cursors.{position}
 use Rattle.bits.specs.Field.{field}
 use Rattle.bits.proofs.Answers.{value-is, refused-is}
 use Rattle.filling.proofs.Filling.{Filling, filling-start, filling-refused, filling-next, filling-done}

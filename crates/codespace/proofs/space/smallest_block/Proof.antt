@@ -3,7 +3,7 @@ use Prim.Native.Nat.{_≤_, _-_}
 use mathlib.Core.Path.{_≡_, sym, _∙_}
 use native.Mathlib.Omega.{arith}
 use borrow.Author.Needs.{needs}
-use Rattle.codespace.specs.Steps.{firstOccupied}
+use Rattle.codespace.specs.inner.Steps.{firstOccupied}
 use Rattle.codespace.proofs.Steps.{occupied-here, occupied-on, occupied-end}
 use Rattle.codespace.proofs.space.smallest_block.Statement.{statement}
 use Rattle.codespace.proofs.space.smallest_block.Tie as tie

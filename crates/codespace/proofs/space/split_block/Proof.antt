@@ -6,7 +6,7 @@ use native.Mathlib.Omega.{arith}
 use borrow.Author.Needs.{needs}
 use lib.ListN.{set}
 use lib.Pow.{pow-mono}
-use Rattle.codespace.specs.Steps.{upperHalves}
+use Rattle.codespace.specs.inner.Steps.{upperHalves}
 use Rattle.codespace.proofs.Steps.{bit, halves-none, halves-more}
 use Rattle.codespace.proofs.space.split_block.Statement.{statement}
 use Rattle.codespace.proofs.space.split_block.Tie as tie

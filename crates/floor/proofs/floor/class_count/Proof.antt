@@ -2,7 +2,7 @@
 use Prim.Native.Nat.{_≤_, _-_}
 use mathlib.Core.Path.{_≡_}
 use borrow.Author.Needs.{needs}
-use Rattle.floor.specs.Pieces.{classesTo}
+use Rattle.floor.specs.inner.Pieces.{classesTo}
 use Rattle.floor.proofs.FloorLaws.{count-laws}
 use Rattle.floor.proofs.floor.class_count.Statement.{statement}
 use Rattle.floor.proofs.floor.class_count.Tie as tie

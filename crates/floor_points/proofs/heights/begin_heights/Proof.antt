@@ -4,7 +4,7 @@ use native.Mathlib.Omega.{arith}
 use mathlib.Core.Path.{_≡_, ap, _∙_}
 use lib.ListN.{length}
 use Rattle.floor_points.proofs.Filling.{Filling, fill-begin, fill-turn, fill-end}
-use Rattle.floor_points.specs.Heights.{heightOf}
+use Rattle.floor_points.specs.inner.Heights.{heightOf}
 use Rattle.floor_points.proofs.Stepping.{filled-bounded}
 use borrow.Author.Needs.{needs}
 use Rattle.floor_points.proofs.heights.begin_heights.Statement.{statement}

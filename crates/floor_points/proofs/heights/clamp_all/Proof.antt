@@ -4,7 +4,7 @@ use native.Mathlib.Omega.{arith}
 use mathlib.Core.Path.{_≡_, _∙_}
 use lib.ListN.{length}
 use Rattle.floor_points.proofs.Filling.{Filling, fill-begin, fill-turn, fill-end}
-use Rattle.floor_points.specs.Heights.{clampedHeight}
+use Rattle.floor_points.specs.inner.Heights.{clampedHeight}
 use borrow.Author.Needs.{needs}
 use Rattle.floor_points.proofs.heights.clamp_all.Statement.{statement}
 use Rattle.floor_points.proofs.heights.clamp_all.Tie as tie

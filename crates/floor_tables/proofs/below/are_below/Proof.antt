@@ -1,6 +1,6 @@
 -- `floor_tables::below::are_below` meets its contract. Assumes nothing.
 use Prim.Native.Nat.{_≤_, _-_}
-use Rattle.floor_tables.specs.ClassRules.{Below}
+use Rattle.floor_tables.specs.inner.ClassRules.{Below}
 use Rattle.floor_tables.proofs.ClassTestLaws.{below-laws}
 use borrow.Author.Needs.{needs}
 use Rattle.floor_tables.proofs.below.are_below.Statement.{statement}

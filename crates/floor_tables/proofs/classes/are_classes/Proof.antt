@@ -2,7 +2,7 @@
 use Prim.Native.Nat.{_≤_, _-_}
 use mathlib.Core.Path.{refl}
 use native.Mathlib.Omega.{arith}
-use Rattle.floor_tables.specs.ClassRules.{ClassesRules}
+use Rattle.floor_tables.specs.inner.ClassRules.{ClassesRules}
 use Rattle.floor_tables.proofs.ClassTestLaws.{classes-start, classes-not, classes-more, classes-all}
 use borrow.Author.Needs.{needs}
 use Rattle.floor_tables.proofs.classes.are_classes.Statement.{statement}

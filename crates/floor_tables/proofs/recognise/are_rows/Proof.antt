@@ -2,7 +2,7 @@
 use Prim.Native.Nat.{_≤_, _-_}
 use lib.ListN.{length}
 use native.Mathlib.Omega.{arith}
-use Rattle.floor_tables.specs.Rules.{FloorsRules}
+use Rattle.floor_tables.specs.inner.Rules.{FloorsRules}
 use Rattle.floor_tables.proofs.TestLaws.{floors-start, floors-not, floors-more, floors-all}
 use borrow.Author.Needs.{needs}
 use Rattle.floor_tables.proofs.recognise.are_rows.Statement.{statement}

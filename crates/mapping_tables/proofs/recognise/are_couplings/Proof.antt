@@ -3,7 +3,7 @@ use Prim.Native.Nat.{_-_, _≤_}
 use Rattle.mapping_tables.proofs.RecogniseLaws.{coupling-recognise-laws}
 use Rattle.mapping.proofs.Laws.{coupling-pairs}
 use Rattle.reading.proofs.PairRows.{Finding}
-use Rattle.mapping.specs.Valid.{ValidCoupling}
+use Rattle.mapping.specs.inner.Valid.{ValidCoupling}
 use borrow.Author.Needs.{needs}
 use Rattle.mapping_tables.proofs.recognise.are_couplings.Statement.{statement}
 use Rattle.mapping_tables.proofs.recognise.are_couplings.Tie as tie

@@ -3,7 +3,7 @@ use Prim.Native.Nat.{_-_, _≤_}
 use Rattle.mapping_tables.proofs.RecogniseLaws.{submap-recognise-laws}
 use Rattle.mapping.proofs.Laws.{submap-pairs}
 use Rattle.reading.proofs.PairRows.{Finding}
-use Rattle.mapping.specs.Valid.{ValidSubmap}
+use Rattle.mapping.specs.inner.Valid.{ValidSubmap}
 use borrow.Author.Needs.{needs}
 use Rattle.mapping_tables.proofs.recognise.are_submaps.Statement.{statement}
 use Rattle.mapping_tables.proofs.recognise.are_submaps.Tie as tie

@@ -1,6 +1,6 @@
 -- `mode::recognise::are_modes` meets its contract, by RecogniseLaws and reading's PairRows. Assumes nothing.
 use Rattle.reading.proofs.PairRows.{Finding}
-use Rattle.mode.specs.Valid.{ValidMode}
+use Rattle.mode.specs.inner.Valid.{ValidMode}
 use Prim.Native.Nat.{_-_, _≤_}
 use Rattle.mode.proofs.RecogniseLaws.{mode-pairs, recognise-laws}
 use borrow.Author.Needs.{needs}

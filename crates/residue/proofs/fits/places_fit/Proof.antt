@@ -2,7 +2,7 @@
 use Prim.Native.Nat.{_-_}
 use Rattle.residue.proofs.FitsLaws.{Testing, testing-laws}
 use Rattle.residue.specs.Reading.{placeFits}
-use Rattle.residue.specs.FromTable.{booksOf}
+use Rattle.residue.specs.inner.FromTable.{booksOf}
 use borrow.Author.Needs.{needs}
 use Rattle.residue.proofs.fits.places_fit.Statement.{statement}
 use Rattle.residue.proofs.fits.places_fit.Tie as tie

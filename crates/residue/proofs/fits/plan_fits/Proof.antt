@@ -1,7 +1,7 @@
 -- `residue::fits::plan_fits` meets its contract, by FitsLaws. Assumes nothing.
 use Prim.Native.Nat.{_-_}
 use Rattle.residue.specs.Reading.{placeFits}
-use Rattle.residue.specs.FromTable.{booksOf}
+use Rattle.residue.specs.inner.FromTable.{booksOf}
 use Rattle.residue.proofs.FitsLaws.{TestingRows, rows-laws}
 use borrow.Author.Needs.{needs}
 use Rattle.residue.proofs.fits.plan_fits.Statement.{statement}

@@ -1,6 +1,6 @@
 -- `residue_tables::recognise::are_residues` meets its contract, by RecogniseLaws and RecogniseTheorem. Assumes nothing.
 use Prim.Native.Nat.{_-_}
-use Rattle.residue.specs.FromTable.{booksOf}
+use Rattle.residue.specs.inner.FromTable.{booksOf}
 use Rattle.residue_tables.proofs.RecogniseLaws.{Recognising, recognising-start, recognising-next, recognising-failed, tail-failed, tail-judged}
 use Rattle.residue_tables.proofs.RecogniseTheorem.{one-content, short, short-plans, recognised-iff}
 use borrow.Author.Needs.{needs}

@@ -1,7 +1,7 @@
 -- `crate::checked::refused_arguments` meets its contract: a packet's first bit has the position 0. Assumes nothing.
 use mathlib.Core.Path.{_≡_, refl}
 use borrow.Author.Needs.{needs}
-use Rattle.bits.specs.Cursors.{stepped}
+use Rattle.bits.specs.inner.Cursors.{stepped}
 use Rattle.setup_call.proofs.checked.refused_arguments.Statement.{statement}
 use Rattle.setup_call.proofs.checked.refused_arguments.Tie as tie
 

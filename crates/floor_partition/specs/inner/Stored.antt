@@ -1,0 +1,34 @@
+-- A class of a floor and the codebooks as they lie in the tables of a setup (docs/TABLES.md).
+use Prim.Native.Nat.{ℕ, _+_, _-_, _*_, _≤_, _<_}
+use mathlib.Core.List.{List}
+use mathlib.Core.Path.{_≡_}
+use Rattle.book.specs.Layout.{entriesAt}
+use Rattle.book_codeword.specs.inner.Stored.{entriesOf, BookStored}
+use Rattle.floor_class.specs.Content.{Class}
+use Rattle.floor_class.specs.inner.Decode.{classAt}
+use Rattle.floor_class.specs.inner.Valid.{ValidClass}
+
+-- the entry lengths of each book
+unfoldable pub lengthsIn : List ℕ → List ℕ → ℕ → List ℕ
+lengthsIn books lengths b = entriesOf books b lengths
+
+-- class number c of floor number n
+unfoldable pub classIn : List ℕ → ℕ → ℕ → Class
+classIn floors n c = classAt floors (277 * n + 36 + 11 * c)
+
+-- a book that lies in the tables and has at most 65,536 entries, so that an entry's number fits 16 bits
+pub record Readable (books lengths codewords : List ℕ) (b : ℕ) : Type 0 where
+  pub stored : BookStored books lengths codewords b
+  pub few : entriesAt books b ≤ 65536
+
+-- the book of a place, where it holds one
+pub record PlaceStored (books lengths codewords : List ℕ) (place : ℕ) : Type 0 where
+  pub readable : (place ≡ 0 → ⊥) → Readable books lengths codewords (place - 1)
+
+-- class number c of floor number n meets every rule for `count` books, each of which lies in the tables
+pub record ClassStored (floors books lengths codewords : List ℕ) (n c : ℕ) : Type 0 where
+  pub floor-few : n < 64
+  pub class-few : c < 16
+  pub count : ℕ
+  pub valid : ValidClass count (classIn floors n c)
+  pub readable : (b : ℕ) → b < count → Readable books lengths codewords b
