@@ -24,7 +24,7 @@ use Rattle.book.specs.Layout.{entriesAt, firstEntryAt}
 use Rattle.book_codeword.specs.inner.Stored.{entriesOf, BookStored}
 use Rattle.numbers.specs.inner.Cell.{cell}
 use Rattle.floor_class.specs.inner.Decode.{classAt}
-use Rattle.floor_partition.specs.inner.Partition.{classValue, value}
+use Rattle.floor_partition.specs.Partition.{classValue, value}
 use Rattle.floor_partition.specs.inner.Stored.{lengthsIn, classIn, Readable, PlaceStored, ClassStored}
 
 -- 1 << e, as the machine computes it

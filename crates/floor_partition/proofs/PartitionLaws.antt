@@ -20,7 +20,7 @@ use Rattle.bits.proofs.Steps.{wrote-refused}
 use Rattle.numbers.specs.inner.Cell.{cell}
 use Rattle.floor_class.specs.Content.{Class}
 use Rattle.numbers.proofs.Collected.{rows-cell, wrote-as}
-use Rattle.floor_partition.specs.inner.Partition.{classValue, chosen, value, partition, whole}
+use Rattle.floor_partition.specs.Partition.{classValue, chosen, value, partition, whole}
 
 -- numbers written one by one, and as one run
 pub as-run : (o : Outcome (List ℕ × ℕ)) (l : List ℕ) (i : ℕ) → into (putRow cell) o (table l i) ≡ into1 (putRow whole) o (table l i)

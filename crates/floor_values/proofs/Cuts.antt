@@ -17,9 +17,9 @@ use Rattle.codeword.proofs.Laws.{codeword-cut-packet}
 use Rattle.floor_class.specs.Content.{Class}
 use Rattle.floor.specs.Content.{Floor}
 use Rattle.floor_class.specs.inner.Decode.{noClass}
-use Rattle.floor_partition.specs.inner.Partition.{classValue, chosen, value, partition, whole}
-use Rattle.floor_values.specs.inner.Values.{firstBits, partitionOf, usedValues, floorValues}
-use Rattle.floor_values.specs.inner.Claims.{SameOrCut}
+use Rattle.floor_partition.specs.Partition.{classValue, chosen, value, partition, whole}
+use Rattle.floor_values.specs.Values.{firstBits, partitionOf, usedValues, floorValues}
+use Rattle.floor_values.specs.Claims.{SameOrCut}
 
 same : {A : Type 0} (o : Outcome A) → SameOrCut o o
 unfolding SameOrCut

@@ -14,7 +14,7 @@ use Rattle.bits.specs.Ilog.{highestSet, ilog}
 use Rattle.numbers.specs.inner.Cell.{cell}
 use Rattle.floor.specs.inner.Decode.{floorAt}
 use Rattle.floor_points.specs.FinalY.{rangeOf}
-use Rattle.floor_values.specs.inner.Values.{firstBits}
+use Rattle.floor_values.specs.Values.{firstBits}
 use Rattle.floor_values.specs.inner.Stored.{floorIn, FloorStored}
 
 -- the four multipliers: 8, 7, 7 and 6 bits

@@ -28,8 +28,8 @@ use Rattle.bits.proofs.Written.{wrote-through}
 use Rattle.numbers.specs.inner.Cell.{cell}
 use Rattle.floor.specs.Content.{Floor}
 use Rattle.numbers.proofs.Collected.{rows-cell, wrote-as, many-length}
-use Rattle.floor_partition.specs.inner.Partition.{whole}
-use Rattle.floor_values.specs.inner.Values.{firstBits, partitionOf, usedValues, floorValues, answeredValues}
+use Rattle.floor_partition.specs.Partition.{whole}
+use Rattle.floor_values.specs.Values.{firstBits, partitionOf, usedValues, floorValues, answeredValues}
 
 -- the later values behind the first two
 after : (entry list ys : List ℕ) → sets entry 0 ys ≡ list → length ys ≡ 2 → (o : Outcome (List (List ℕ) × ℕ))

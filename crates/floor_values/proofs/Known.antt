@@ -26,11 +26,11 @@ use Rattle.floor_x_list.specs.Content.{xList}
 use Rattle.floor_class.specs.inner.Decode.{noClass}
 use Rattle.floor_class.specs.inner.Valid.{ValidClasses}
 use Rattle.floor.specs.inner.Valid.{ValidFloor}
-use Rattle.floor_partition.specs.inner.Partition.{classValue, chosen, value, partition, whole}
-use Rattle.floor_values.specs.inner.Values.{firstBits, partitionOf, usedValues, floorValues}
+use Rattle.floor_partition.specs.Partition.{classValue, chosen, value, partition, whole}
+use Rattle.floor_values.specs.Values.{firstBits, partitionOf, usedValues, floorValues}
 use Rattle.floor_partition.specs.inner.Stored.{lengthsIn}
 use Rattle.floor_values.specs.inner.Stored.{floorIn, FloorStored}
-use Rattle.floor_values.specs.inner.Claims.{FloorValues}
+use Rattle.floor_values.specs.Claims.{FloorValues}
 use Rattle.floor_partition.proofs.ClassLaws.{entry-small}
 use Rattle.floor_values.proofs.FirstLaws.{bits-known}
 use Rattle.floor_values.proofs.Cuts.{floor-cuts}

@@ -23,8 +23,8 @@ use Rattle.floor_class.specs.inner.Decode.{noClass, classAt, classesAt}
 use Rattle.floor.specs.inner.Decode.{floorAt}
 use Rattle.floor_class.specs.inner.Valid.{ValidClass, ValidClasses}
 use Rattle.floor.proofs.RowLaws.{class-count-most}
-use Rattle.floor_partition.specs.inner.Partition.{partition, whole}
-use Rattle.floor_values.specs.inner.Values.{partitionOf}
+use Rattle.floor_partition.specs.Partition.{partition, whole}
+use Rattle.floor_values.specs.Values.{partitionOf}
 use Rattle.floor_partition.specs.inner.Stored.{lengthsIn, classIn, ClassStored}
 use Rattle.floor_values.specs.inner.Stored.{floorIn, FloorStored}
 

@@ -15,8 +15,8 @@ use Rattle.codeword.specs.Codeword.{bitsAt, entryOf, orGoOn, matching, codeword
 use Rattle.floor_class.specs.Content.{Class}
 use Rattle.floor.specs.Content.{Floor}
 use Rattle.floor_class.specs.inner.Decode.{noClass}
-use Rattle.floor_partition.specs.inner.Partition.{classValue, chosen, value, partition, whole}
-use Rattle.floor_values.specs.inner.Values.{firstBits, partitionOf, usedValues, floorValues}
+use Rattle.floor_partition.specs.Partition.{classValue, chosen, value, partition, whole}
+use Rattle.floor_values.specs.Values.{firstBits, partitionOf, usedValues, floorValues}
 
 -- a value, or the cut
 abbrev Cut : {A : Type 0} → Outcome A → Type 0

@@ -1,2 +1,4 @@
+pub mod Claims
+pub mod Values
 pub mod Vectors
 pub mod inner

@@ -13,8 +13,8 @@ use Rattle.codeword_assignment.specs.Book.{used, isUsed, isLone, firstUsed}
 use Rattle.codeword.specs.Codeword.{codeword}
 use Rattle.floor.specs.Content.{Floor}
 use Rattle.floor_points.specs.FinalY.{rangeOf}
-use Rattle.floor_partition.specs.inner.Partition.{classValue, chosen, value, partition, whole}
-use Rattle.floor_values.specs.inner.Values.{firstBits, partitionOf, usedValues, floorValues}
+use Rattle.floor_partition.specs.Partition.{classValue, chosen, value, partition, whole}
+use Rattle.floor_values.specs.Values.{firstBits, partitionOf, usedValues, floorValues}
 
 abbrev lengthsOf : ℕ → List ℕ
 lengthsOf zero = 0 ∷ 0 ∷ 1 ∷ []

@@ -12,11 +12,11 @@ ghost use Rattle.reading.specs.inner.Table.{table, putRow};
 ghost use Rattle.bits.specs.Field.{field};
 ghost use Rattle.bits.specs.inner.Cursors.{position, Wrote};
 ghost use Rattle.numbers.specs.inner.Cell.{cell};
-ghost use Rattle.floor_partition.specs.inner.Partition.{whole};
+ghost use Rattle.floor_partition.specs.Partition.{whole};
 ghost use Rattle.floor_partition.specs.inner.Stored.{lengthsIn};
-ghost use Rattle.floor_values.specs.inner.Values.{firstBits, partitionOf, usedValues, floorValues, answeredValues};
+ghost use Rattle.floor_values.specs.Values.{firstBits, partitionOf, usedValues, floorValues, answeredValues};
 ghost use Rattle.floor_values.specs.inner.Stored.{floorIn, FloorStored};
-ghost use Rattle.floor_values.specs.inner.Claims.{FloorValues};
+ghost use Rattle.floor_values.specs.Claims.{FloorValues};
 
 fn byte(x: u16) -> u8
     requires { ⌜ x < 256 ⌝ }

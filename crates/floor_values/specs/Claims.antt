@@ -8,7 +8,7 @@ use lib.ListN.{length, getD, take}
 use Rattle.reading.specs.Outcome.{Refusal, refusal, Outcome, ok, bad}
 use Rattle.floor_x_list.specs.Content.{xList}
 use Rattle.floor.specs.Content.{Floor}
-use Rattle.floor_values.specs.inner.Values.{floorValues}
+use Rattle.floor_values.specs.Values.{floorValues}
 
 -- what reading a cut packet comes to, beside what the whole packet gives: the same, or the cut
 unfoldable pub SameOrCut : {A : Type 0} → Outcome A → Outcome A → Type 0

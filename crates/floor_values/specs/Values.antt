@@ -15,7 +15,7 @@ use Rattle.bits.specs.Field.{field}
 use Rattle.bits.specs.Ilog.{ilog}
 use Rattle.floor.specs.Content.{Floor}
 use Rattle.floor_class.specs.inner.Decode.{noClass}
-use Rattle.floor_partition.specs.inner.Partition.{partition, whole}
+use Rattle.floor_partition.specs.Partition.{partition, whole}
 use Rattle.floor_points.specs.FinalY.{rangeOf}
 
 -- 1 to 3: how many bits each of the first two values has; the range goes with the multiplier
