@@ -1,12 +1,12 @@
 -- THE CONTENT OF SOUND TABLES IS WHAT THEY DECODE TO, whatever the limits and the channels. By each kind's rows, which are decoded one by one.
 -- Assumes nothing.
-use Prim.Native.Nat.{ℕ, zero, suc, _+_, _-_, _*_, _≤_, _<_}
+use Prim.Native.Nat.{ℕ, zero, suc, _+_, _-_, _*_, _≤_}
 use native.Mathlib.Omega.{arith}
-use native.Mathlib.Nat.{mul-suc, mul-zero, add-comm}
+use native.Mathlib.Nat.{mul-suc}
 use mathlib.Core.List.{List, [], _∷_, _++_}
 use mathlib.Core.Path.{_≡_, refl, sym, ap, _∙_}
 use lib.ListN.{length, getD, take, drop}
-use lib.Seq.{take-at, drop-at, drop-drop}
+use lib.Seq.{take-at, drop-at}
 use Rattle.reading.specs.Lists.{rows}
 use Rattle.reading.specs.Pad.{pad}
 use Rattle.reading.specs.Encoding.{Each}
@@ -38,7 +38,8 @@ use Rattle.setup.proofs.EachLaws.{each-residues}
 use Rattle.setup.proofs.WrittenLaws.{sound-facts}
 
 -- items are decoded from their rows
-module _ {A : Type 0} (row : A → List ℕ) (Valid : A → Type 0) (w : ℕ) (wide : (a : A) → length (row a) ≡ w) (decode : List ℕ → A) (back : (a : A) → Valid a → decode (row a) ≡ a) where
+module _ {A : Type 0} (row : A → List ℕ) (Valid : A → Type 0) (w : ℕ) (wide : (a : A) → length (row a) ≡ w) (decode : List ℕ → A)
+    (back : (a : A) → Valid a → decode (row a) ≡ a) where
   rows-decoded : (l : List A) (n m : ℕ) → length l ≡ m → w * m ≤ n → Each Valid l → decodeRows w decode m (pad n (rows row l)) ≡ l
   unfolding rows Each decodeRows
   rows-decoded [] n zero e h v = refl
@@ -56,15 +57,6 @@ module _ {A : Type 0} (row : A → List ℕ) (Valid : A → Type 0) (w : ℕ) (w
 
   pub table-decoded : (l : List A) (m : ℕ) (t : List ℕ) → t ≡ pad (length t) (rows row l) → length l ≡ m → w * m ≤ length t → Each Valid l → l ≡ decodeRows w decode m t
   table-decoded l m t e n h v = sym (ap (decodeRows w decode m) e ∙ rows-decoded l (length t) m n h v)
-
--- item i of what is decoded, whatever the numbers are
-pub decoded-at : {A : Type 0} (w : ℕ) (decode : List ℕ → A) (n i : ℕ) (cells : List ℕ) (d : A) → i < n → getD (decodeRows w decode n cells) i d ≡ decode (take w (drop (w * i) cells))
-unfolding decodeRows
-decoded-at w decode zero i cells d h = absurd (omega arith)
-decoded-at w decode (suc n) zero cells d h = rw mul-zero refl
-decoded-at w decode (suc n) (suc i) cells d h =
-    let e : w + w * i ≡ w * suc i = rw mul-suc (add-comm _ _) in
-    decoded-at w decode n i (drop w cells) d (omega arith) ∙ ap (λ (l : List ℕ). decode (take w l)) (drop-drop (w * i) w cells) ∙ ap (λ (k : ℕ). decode (take w (drop k cells))) e
 
 module _ {limits : Limits} {channels : ℕ} {t : Tables} (x : Sound limits channels t) where
   abbrev c : Setup

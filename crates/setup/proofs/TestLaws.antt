@@ -19,10 +19,10 @@ use Rattle.setup.proofs.DecodeLaws.{content-decoded, one-content}
 
 -- sound with a witness and without
 module _ {limits : Limits} {channels : ℕ} {t : Tables} where
-  unfoldable pub decoded-sound : DecodedSound limits channels t → Sound limits channels t
+  decoded-sound : DecodedSound limits channels t → Sound limits channels t
   decoded-sound x = record { content = decodeSetup t; carried = x .carried; rules = x .rules; room = x .room; written = x .written }
 
-  pub sound-decoded : Sound limits channels t → DecodedSound limits channels t
+  sound-decoded : Sound limits channels t → DecodedSound limits channels t
   sound-decoded x =
       let e = content-decoded x in
       record {

@@ -3,12 +3,11 @@
 use Prim.Native.Nat.{ℕ, zero, suc, _+_, _≤_}
 use native.Mathlib.Omega.{arith}
 use mathlib.Core.Bool.{true}
-use mathlib.Core.List.{List, [], _∷_}
+use mathlib.Core.List.{List}
 use mathlib.Core.Path.{_≡_, refl, sym, ap, subst, _∙_}
 use lib.ListN.{length, replicate}
 use Rattle.reading.specs.Outcome.{ok, refusal}
 use Rattle.reading.specs.Reader.{Reader, many}
-use Rattle.reading.specs.Encoding.{Each}
 use Rattle.reading.specs.Pad.{pad}
 use Rattle.reading.proofs.Outcomes.{same-ok, then-ok, need-ok}
 use Rattle.reading.proofs.Accepted.{many-number}
@@ -24,13 +23,9 @@ use Rattle.book.specs.Content.{Book}
 use Rattle.book_reading.specs.Reading.{books}
 use Rattle.book_reading.specs.Valid.{ValidBooks}
 use Rattle.book_reading.proofs.Accepted.{books-valid}
-use Rattle.floor.specs.Content.{Floor}
 use Rattle.floor.specs.Reading.{floor}
-use Rattle.floor.specs.inner.Valid.{ValidFloor}
 use Rattle.floor.proofs.Laws.{floors-valid}
-use Rattle.residue.specs.Content.{Residue}
 use Rattle.residue.specs.Reading.{Books, residue}
-use Rattle.residue.specs.Valid.{ValidResidue}
 use Rattle.residue.proofs.Laws.{residues-valid}
 use Rattle.mapping.specs.Reading.{mapping}
 use Rattle.mapping.proofs.Laws.{mappings-valid}

@@ -20,7 +20,7 @@ use Rattle.floor.specs.Content.{Floor, classCount, valueCount}
 use Rattle.residue.specs.Content.{Residue}
 use Rattle.residue.specs.Valid.{Rows8}
 use Rattle.mapping.specs.Content.{Coupling, Submap, Mapping}
-use Rattle.setup.specs.Content.{Setup, booksKnown}
+use Rattle.setup.specs.Content.{Setup}
 use Rattle.setup.specs.Carried.{Counted, CarriedBook, CarriedClass, CarriedFloor, CarriedResidue, CarriedMapping, Carried}
 use Rattle.setup.specs.Rules.{Rule6, Class11, Residue11, Coupling11, Submap11, Mapping11, Rule11, Rule12, Rule14, MeetsRules}
 use Rattle.setup.specs.Layout.{Tables, hasRoom, writtenOut, tables}

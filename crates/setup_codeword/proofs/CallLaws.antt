@@ -26,7 +26,7 @@ use Rattle.setup.specs.Content.{Setup, lengthsOf}
 use Rattle.setup.specs.Layout.{Tables}
 use Rattle.setup.specs.inner.Decode.{decodeSetup}
 use Rattle.setup.specs.inner.Parts.{Small}
-use Rattle.setup.specs.Sound.{Sound, SoundCall}
+use Rattle.setup.specs.Sound.{Sound}
 use Rattle.setup.specs.SoundTest.{soundTest, Tested}
 use Rattle.setup.proofs.DecodeLaws.{content-decoded}
 use Rattle.setup.proofs.TestLaws.{test-is, tested}

@@ -1,7 +1,7 @@
 -- THE THEOREM: tables that stand part by part, each with its count, are the writing-out of a setup that meets every rule, and back. Assumes nothing.
 use Prim.Native.Nat.{ℕ, _≤_}
 use native.Mathlib.Omega.{arith}
-use mathlib.Core.List.{List, [], _∷_}
+use mathlib.Core.List.{List}
 use mathlib.Core.Path.{_≡_, sym, ap, subst, _∙_}
 use lib.ListN.{length, getD}
 use Rattle.reading.specs.Pad.{pad}
