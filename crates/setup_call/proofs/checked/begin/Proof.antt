@@ -7,14 +7,14 @@ use Rattle.setup_call.proofs.checked.begin.Tie as tie
 is-sound-requires : tie.Need-is-sound-requires
 is-sound-requires c κs = search needs
 
-refused_arguments-requires : tie.Need-refused_arguments-requires
-refused_arguments-requires c κs = search needs
+refused-arguments-requires : tie.Need-refused-arguments-requires
+refused-arguments-requires c κs = search needs
 
 returns : tie.Need-returns
 returns c = search identity-unsound
 
-refused_arguments-requires-2 : tie.Need-refused_arguments-requires-2
-refused_arguments-requires-2 c κs = search needs
+refused-arguments-requires-2 : tie.Need-refused-arguments-requires-2
+refused-arguments-requires-2 c κs = search needs
 
 returns-2 : tie.Need-returns-2
 returns-2 c = search no-room
@@ -30,9 +30,9 @@ begin-spec =
     tie.close
     (tie.spec
     is-sound-requires
-    refused_arguments-requires
+    refused-arguments-requires
     returns
-    refused_arguments-requires-2
+    refused-arguments-requires-2
     returns-2
     common-header-requires
     returns-3)

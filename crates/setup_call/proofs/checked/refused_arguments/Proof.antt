@@ -12,5 +12,5 @@ returns : tie.Need-returns
 unfolding stepped
 returns c = rw (c .start .ensures) refl
 
-pub refused_arguments-spec : {M : Type 1} → statement M
-refused_arguments-spec = tie.close (tie.spec start-requires returns)
+pub refused-arguments-spec : {M : Type 1} → statement M
+refused-arguments-spec = tie.close (tie.spec start-requires returns)
