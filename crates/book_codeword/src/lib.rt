@@ -29,5 +29,11 @@ pub fn read_entry(
     let first = wide(book::first_entry(books, book));
     let end = first + wide(book::entries(books, book));
     let lone = book::lone(books, book);
-    codeword::read_codeword(packet, from, lone, &lengths[first..end], &codewords[first..end])
+    codeword::read_codeword(
+        packet,
+        from,
+        lone,
+        &lengths[first..end],
+        &codewords[first..end],
+    )
 }

@@ -118,7 +118,15 @@ fn read_body(
     ensures { λ r. ⌜ Wrote (into1 putBook (body (position place) (headOf head) most values (now (packet .entry)) (position from)) (tables (now (books .entry)) (now (lengths .entry)) (now (codewords .entry)) (now (multiplicands .entry)) index entries values)) (r .step) (tables (now (books .exit)) (now (lengths .exit)) (now (codewords .exit)) (now (multiplicands .exit)) (index + 1) (r .entries) (r .values)) ⌝ }
     ensures { λ r. ⌜ (r .entries ≤ entries + head .entries) × (r .values ≤ most) ⌝ }
 {
-    match read_entries_at(packet, from, place, entries, head.entries, lengths, codewords) {
+    match read_entries_at(
+        packet,
+        from,
+        place,
+        entries,
+        head.entries,
+        lengths,
+        codewords,
+    ) {
         Step::Refused(z) => BooksRead {
             step: Step::Refused(z),
             entries,

@@ -27,7 +27,15 @@ fn are_rows(
     let mut i: u32 = 0;
     while i < count {
         let row = row_at(books, i);
-        if !is_book(limits, entries, values, row, lengths, codewords, multiplicands) {
+        if !is_book(
+            limits,
+            entries,
+            values,
+            row,
+            lengths,
+            codewords,
+            multiplicands,
+        ) {
             return false;
         }
         entries = entries + row.entries;

@@ -17,7 +17,13 @@ ghost use Rattle.codeword.specs.inner.Claims.{Settled};
 
 // The entry whose codeword stands at the cursor, with the position behind it; or the cut, where the packet ends within the codeword. `lone` is the
 // number of the book's sole used entry of length 1 plus one, or 0 where it has none.
-pub fn read_codeword(packet: &[u8], from: Cursor, lone: u32, lengths: &[u8], codewords: &[u32]) -> Field
+pub fn read_codeword(
+    packet: &[u8],
+    from: Cursor,
+    lone: u32,
+    lengths: &[u8],
+    codewords: &[u32],
+) -> Field
     requires { ⌜ Codebook (now lengths) (now codewords) × (lone ≡ loneMark (now lengths)) ⌝ }
     ensures { λ r. ⌜ outcome r ≡ codeword (now (lengths .entry)) (now (packet .entry)) (position from) ⌝ }
     ensures { λ _. ⌜ Settled (now (lengths .entry)) ⌝ }

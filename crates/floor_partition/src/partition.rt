@@ -117,7 +117,16 @@ fn read_chosen(
     let mut i: usize = 0;
     while i < count {
         let place = floor_row::subclass_book(floors, floor, class, index(left % base));
-        match read_value(packet, next, place, books, lengths, codewords, values, at + i) {
+        match read_value(
+            packet,
+            next,
+            place,
+            books,
+            lengths,
+            codewords,
+            values,
+            at + i,
+        ) {
             Step::Refused(z) => {
                 return Step::Refused(z);
             }
@@ -147,7 +156,16 @@ pub fn read_partition(
     requires { ⌜ (at ≤ 65535) × ClassStored (now floors) (now books) (now lengths) (now codewords) floor class ⌝ }
     ensures { λ r. ⌜ Wrote (into1 (putRow whole) (partition (lengthsIn (now (books .entry)) (now (lengths .entry))) (classIn (now (floors .entry)) floor class) (now (packet .entry)) (position from)) (table (now (values .entry)) at)) r (table (now (values .exit)) (at + classIn (now (floors .entry)) floor class .dimensions)) ⌝ }
 {
-    match read_class_value(packet, from, floors, floor, class, books, lengths, codewords) {
+    match read_class_value(
+        packet,
+        from,
+        floors,
+        floor,
+        class,
+        books,
+        lengths,
+        codewords,
+    ) {
         Field::Refused(z) => Step::Refused(z),
         Field::Value(class_value, next) => read_chosen(
             packet,

@@ -1,9 +1,9 @@
 // The numbers of a floor, read from its row in the table: `floor` is the floor's number, its row begins at 277 * floor. A place past the
 // table's end reads as 0.
-use floor_class::CLASS_WIDTH;
 use floor::CLASSES_PLACE;
 use floor::FLOOR_WIDTH;
 use floor::PARTITIONS_PLACE;
+use floor_class::CLASS_WIDTH;
 use reading::buffers;
 ghost use mathlib.Core.Path.{_≡_};
 ghost use Prim.Native.Nat.{_+_, _*_, _<_};

@@ -2,13 +2,13 @@
 use crate::below::are_below;
 use crate::below::number;
 use crate::classes::are_classes;
-use floor_class::CLASS_WIDTH;
 use floor::CLASSES_PLACE;
 use floor::FLOOR_WIDTH;
 use floor::PARTITIONS_PLACE;
 use floor::RANGE_PLACE;
 use floor::X_LIST_PLACE;
 use floor::X_VALUES_PLACE;
+use floor_class::CLASS_WIDTH;
 use reading::buffers;
 use reading::widths::wide_u16;
 use reading::widths::wide_u32;

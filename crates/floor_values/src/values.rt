@@ -103,7 +103,16 @@ fn read_used(
     requires { ⌜ FloorStored (now floors) (now books) (now lengths) (now codewords) floor ⌝ }
     ensures { λ r. ⌜ Wrote (mapped (sets (now (values .entry)) 0) (usedValues (lengthsIn (now (books .entry)) (now (lengths .entry))) (floorIn (now (floors .entry)) floor) (now (packet .entry)) (position from))) r (now (values .exit)) ⌝ }
 {
-    match read_first_two(packet, from, floors, floor, books, lengths, codewords, values) {
+    match read_first_two(
+        packet,
+        from,
+        floors,
+        floor,
+        books,
+        lengths,
+        codewords,
+        values,
+    ) {
         Step::Refused(z) => Step::Refused(z),
         Step::Next(next) => read_partitions(
             packet,
@@ -152,7 +161,16 @@ pub fn read_values(
                 };
             }
             ValuesRead {
-                step: read_used(packet, next, floors, floor, books, lengths, codewords, values),
+                step: read_used(
+                    packet,
+                    next,
+                    floors,
+                    floor,
+                    books,
+                    lengths,
+                    codewords,
+                    values,
+                ),
                 used: true,
             }
         }

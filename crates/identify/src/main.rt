@@ -5,5 +5,8 @@ use libc::STDIN_FILENO;
 fn main() {
     let mut packet = io::buffer();
     let length = io::read_full(STDIN_FILENO, &mut packet);
-    lines::identification(1, torchvalley::torchvalley_identification(&packet[..length]));
+    lines::identification(
+        1,
+        torchvalley::torchvalley_identification(&packet[..length]),
+    );
 }

@@ -1,9 +1,9 @@
 // THE SETUP CALL: any identity, any bytes, any lent tables. The packet is judged and read; then, once, what the call leaves in the tables is settled.
 pub mod checked;
 
+use crate::checked::read_checked;
 use identification::Identity;
 use limits::Limits;
-use crate::checked::read_checked;
 use setup_buffers::settle;
 ghost use mathlib.Core.Path.{_≡_};
 ghost use Rattle.setup.specs.Handed.{handed, leftIn};

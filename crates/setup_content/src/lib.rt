@@ -1,13 +1,13 @@
 // A setup packet's content, written into all ten tables, which are lent as they are, with room: each is cleared before it is filled.
 pub mod rest;
 
+use crate::rest::read_rest;
 use bits::Cursor;
 use bits::Step;
 use limits::Limits;
 use setup_buffers::clear_books;
-use setup_sections::parts::read_book_part;
-use crate::rest::read_rest;
 use setup_sections::Section;
+use setup_sections::parts::read_book_part;
 ghost use mathlib.Core.Bool.{true};
 ghost use mathlib.Core.Path.{_≡_};
 ghost use Prim.Native.Nat.{_≤_};
@@ -31,7 +31,15 @@ fn read_books(
     ensures { λ r. ⌜ r .count ≤ 256 ⌝ }
 {
     clear_books(books, lengths, codewords, multiplicands);
-    read_book_part(packet, from, limits, books, lengths, codewords, multiplicands)
+    read_book_part(
+        packet,
+        from,
+        limits,
+        books,
+        lengths,
+        codewords,
+        multiplicands,
+    )
 }
 
 // What follows the header.
@@ -54,7 +62,15 @@ pub fn read_content(
     requires { ⌜ (hasRoom limits (tables (now counts) (now books) (now lengths) (now codewords) (now multiplicands) (now floors) (now residues) (now plans) (now mappings) (now modes)) ≡ true) × Small limits × (1 ≤ channels) × (channels ≤ 255) ⌝ }
     ensures { λ r. ⌜ ReadInto (afterHeader limits channels (now (packet .entry)) (position from)) r (WrittenOut (tables (now (counts .entry)) (now (books .entry)) (now (lengths .entry)) (now (codewords .entry)) (now (multiplicands .entry)) (now (floors .entry)) (now (residues .entry)) (now (plans .entry)) (now (mappings .entry)) (now (modes .entry))) (tables (now (counts .exit)) (now (books .exit)) (now (lengths .exit)) (now (codewords .exit)) (now (multiplicands .exit)) (now (floors .exit)) (now (residues .exit)) (now (plans .exit)) (now (mappings .exit)) (now (modes .exit)))) ⌝ }
 {
-    let first = read_books(packet, from, limits, books, lengths, codewords, multiplicands);
+    let first = read_books(
+        packet,
+        from,
+        limits,
+        books,
+        lengths,
+        codewords,
+        multiplicands,
+    );
     let count = first.count;
     let step = first.step;
     match step {

@@ -1,8 +1,4 @@
 // The sections put together: books and time values; floors and residues; mappings and modes; all that follows the books.
-use bits::Cursor;
-use bits::Step;
-use limits::Limits;
-use mapping::Known;
 use crate::Section;
 use crate::read_book_section;
 use crate::read_floor_section;
@@ -10,6 +6,10 @@ use crate::read_mapping_section;
 use crate::read_mode_section;
 use crate::read_residue_section;
 use crate::read_time_section;
+use bits::Cursor;
+use bits::Step;
+use limits::Limits;
+use mapping::Known;
 ghost use mathlib.Core.Path.{_≡_};
 ghost use Prim.Native.Nat.{_≤_};
 ghost use Rattle.reading.specs.Encoding.{Zeros};
@@ -31,7 +31,15 @@ pub fn read_book_part(
     ensures { λ r. ⌜ ReadInto (bookPart limits (now (packet .entry)) (position from)) (r .step) (BooksStored (r .count) (now (books .entry)) (now (books .exit)) (now (lengths .entry)) (now (lengths .exit)) (now (codewords .entry)) (now (codewords .exit)) (now (multiplicands .entry)) (now (multiplicands .exit))) ⌝ }
     ensures { λ r. ⌜ r .count ≤ 256 ⌝ }
 {
-    let read = read_book_section(packet, from, limits, books, lengths, codewords, multiplicands);
+    let read = read_book_section(
+        packet,
+        from,
+        limits,
+        books,
+        lengths,
+        codewords,
+        multiplicands,
+    );
     let count = read.count;
     let step = read.step;
     match step {

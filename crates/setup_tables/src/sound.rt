@@ -46,7 +46,15 @@ pub fn are_sound(
     if !parts::are_counts(counts) {
         return false;
     }
-    if !parts::are_front(limits, counts, books, lengths, codewords, multiplicands, floors) {
+    if !parts::are_front(
+        limits,
+        counts,
+        books,
+        lengths,
+        codewords,
+        multiplicands,
+        floors,
+    ) {
         return false;
     }
     parts::are_back(channels, counts, books, residues, plans, mappings, modes)
