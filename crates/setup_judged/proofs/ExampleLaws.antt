@@ -36,7 +36,8 @@ use Rattle.setup.specs.Rules.{entriesInAll, multiplicandsInAll}
 use Rattle.setup.specs.Layout.{Tables, hasRoom}
 use Rattle.setup.specs.Call.{setupOf, setupCall, answered}
 use Rattle.setup_judged.specs.Judged.{LedgerTakes, LeavesSpace, LengthsRead}
-use Rattle.setup_judged.specs.Example.{standard, identity, packet, content, refused7, refused8, AcceptsExample}
+use Rattle.limits.specs.Standard.{standard}
+use Rattle.setup_judged.specs.Example.{identity, packet, content, refused7, refused8, AcceptsExample}
 use Rattle.setup_judged.proofs.JudgedLaws.{none-7, takes-8, number-0, number-7, number-8, judged-by-call}
 
 -- the verdict of lengths, by the model's answers

@@ -6,16 +6,12 @@ use mathlib.Core.List.{List, [], _∷_, _++_}
 use mathlib.Core.Path.{_≡_}
 use lib.IntN.{pos}
 use Rattle.reading.specs.Outcome.{ok}
-use Rattle.limits.specs.declared.Limits.{Limits}
+use Rattle.limits.specs.Standard.{standard}
 use Rattle.identification.specs.declared.Identity.{Identity}
 use Rattle.setup.specs.Content.{Setup}
 use Rattle.setup.specs.Layout.{Tables, hasRoom, writtenOut, cleared}
 use Rattle.setup.specs.Call.{setupOf, left, setupCall}
 use Rattle.setup_judged.specs.Judged.{LengthsRead}
-
--- 01's limits (refusal 14)
-abbrev pub standard : Limits
-standard = record { channels = 8; «book_entries» = 8192; entries = 16384; multiplicands = 16384 }
 
 -- the identity of 01's last figure
 abbrev pub identity : Identity

@@ -22,7 +22,7 @@ use Rattle.setup.specs.SoundTest.{soundTest, Tested}
 use Rattle.setup_codeword.specs.Call.{codewordCall}
 use Rattle.setup_codeword.specs.Demand3.{Demand3}
 use Rattle.setup_codeword.proofs.CallLaws.{call-within}
-use Rattle.torchvalley.specs.Standard.{standard}
+use Rattle.limits.specs.Standard.{standard}
 use Rattle.torchvalley.specs.Codeword.{codewordAnswer, Addressable}
 use Rattle.torchvalley.specs.declared.tables.CodewordAnswer.{CodewordAnswer}
 

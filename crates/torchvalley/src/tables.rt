@@ -11,7 +11,7 @@ ghost use Rattle.setup.specs.Call.{left, setupCall};
 ghost use Rattle.setup.specs.Accepted.{AcceptedSound};
 ghost use Rattle.setup_codeword.specs.Call.{codewordCall};
 ghost use Rattle.setup_codeword.specs.Demand3.{Demand3};
-ghost use Rattle.torchvalley.specs.Standard.{standard};
+ghost use Rattle.limits.specs.Standard.{standard};
 ghost use Rattle.bits.specs.inner.Cursors.{position, outcome};
 ghost use Rattle.torchvalley.specs.Codeword.{codewordAnswer, Addressable};
 
