@@ -7,3 +7,5 @@ pub mod Cuts
 pub mod Ilogs
 pub mod Signeds
 pub mod Written
+pub mod Parts
+pub mod Filling

@@ -21,7 +21,7 @@ use Rattle.codeword_assignment.specs.declared.book.Assigned.{Assigned}
 use Rattle.codeword_assignment.specs.declared.book.Assigned.the-variants.{Accepted, Overspecified, Underspecified, TooShort}
 use Rattle.codeword_assignment.proofs.Laws.{codewords-length}
 use Rattle.book_lengths.proofs.Verdict.{accepted-meets, overspecified-breaks7, underspecified-breaks8, verdict-not-short}
-use Rattle.filling.proofs.Written.{mapped-mapped, wrote-mapped, wrote-as, part-back}
+use Rattle.bits.proofs.Parts.{mapped-mapped, wrote-mapped, wrote-as, part-back}
 use Rattle.book_lengths.specs.Reading.{lengths, entered}
 use Rattle.book_lengths.specs.inner.Parts.{entries, coded, stored}
 

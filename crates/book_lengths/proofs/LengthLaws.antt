@@ -30,7 +30,7 @@ use Rattle.bits.proofs.Ilogs.{ilog-places}
 use Rattle.bits.proofs.Steps.{wrote-refused, wrote-next}
 use Rattle.book_lengths.specs.Reading.{entryLength, runs, lengths}
 use Rattle.book_lengths.specs.inner.Parts.{runNumber, unordered, ordered}
-use Rattle.filling.proofs.Filling.{after, after-nil, after-append, after-bad, after-none, take-sets}
+use Rattle.bits.proofs.Filling.{after, after-nil, after-append, after-bad, after-none, take-sets}
 
 abbrev at : ℕ → Cursor → Refusal
 at n c = record { number = n; place = c }

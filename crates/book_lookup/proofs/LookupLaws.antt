@@ -31,7 +31,7 @@ use Rattle.book_lookup.specs.inner.Answers.{parametersRead}
 use Rattle.book_lookup.specs.declared.lookup.ParametersRead.{ParametersRead}
 use Rattle.book_lookup.specs.declared.lookup.ParametersRead.the-variants as P
 use Rattle.book_lookup.specs.declared.lookup.Parameters as D
-use Rattle.filling.proofs.Written.{mapped-then, wrote-mapped, wrote-as, part-back}
+use Rattle.bits.proofs.Parts.{mapped-then, wrote-mapped, wrote-as, part-back}
 
 abbrev at : ℕ → Cursor → Refusal
 at n c = record { number = n; place = c }

@@ -18,7 +18,7 @@ use Rattle.bits.proofs.Steps.{wrote-bad, wrote-ok, wrote-refused}
 use Rattle.limits.specs.declared.Limits.{Limits}
 use Rattle.codeword_assignment.specs.Book.{ledgerCodewords, loneMark}
 use Rattle.book.specs.Layout.{bookWidth, bookRow}
-use Rattle.filling.proofs.Written.{mapped-then, mapped-mapped, wrote-mapped, wrote-as}
+use Rattle.bits.proofs.Parts.{mapped-then, mapped-mapped, wrote-mapped, wrote-as}
 use Rattle.book_head.specs.Reading.{Head, head}
 use Rattle.book_head.specs.inner.Answers.{totals, headOf, headRead}
 use Rattle.book_head.specs.declared.head.Head as D

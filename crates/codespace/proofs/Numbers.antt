@@ -13,7 +13,7 @@ use lib.Seq.{take-suc, take-all, length-take-le}
 use borrow.Author.Tests.{lt-ltb, le-ltb, le-leb, lt-leb}
 use Rattle.reading.specs.Pad.{pad}
 use Rattle.reading.proofs.Least.{lt-or-le}
-use Rattle.reading.proofs.Pads.{pad-nil, pad-set}
+use Rattle.reading.proofs.Pads.{pad-nil, pad-set, pad-front}
 use Rattle.codespace.specs.Ledger.{Codeword, answer, enlist, after, answers, IsLength}
 use Rattle.codespace.specs.Claims.{Balanced}
 use Rattle.codespace.specs.inner.Blocks.{enterAnswer, enterBlocks, Reached}
@@ -62,13 +62,6 @@ full-is bs g n e =
     (λ (l : g < 33). rw (lt-leb 33 g l, taken-answer bs 32 g k n e l))
     (λ (l : 33 ≤ g). rw (le-leb 33 g l, refused-answer bs 32 g k n e l))
     (lt-or-le g 33)
-
--- a list that fits its places stands in front of the zeros
-pub pad-front : (n : ℕ) (xs : List ℕ) → length xs ≤ n → take (length xs) (pad n xs) ≡ xs
-unfolding pad
-pad-front n [] l = refl
-pad-front zero (x ∷ xs) l = absurd (omega arith)
-pad-front (suc n) (x ∷ xs) l = ap (λ (t : List ℕ). x ∷ t) (pad-front n xs (le-of-suc-le-suc l))
 
 -- `enter_lengths`
 numbers-length : (ls : List ℕ) → length (map number (answers [] ls)) ≡ length ls

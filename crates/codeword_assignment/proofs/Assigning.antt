@@ -14,7 +14,7 @@ use borrow.Author.Tests.{eq-eqb, ne-eqb, le-leb, lt-leb, lt-ltb, le-ltb}
 use Rattle.reading.specs.Pad.{pad}
 use Rattle.reading.specs.Tabulate.{tabulate}
 use Rattle.reading.proofs.Least.{lt-or-le, lowest-is, lowest-none, below-suc}
-use Rattle.reading.proofs.Pads.{pad-nil, pad-set}
+use Rattle.reading.proofs.Pads.{pad-nil, pad-set, pad-front}
 use Rattle.reading.proofs.Tabulate.{tabulate-length}
 use Rattle.codespace.specs.Ledger.{freeStrings, IsLength, answer, after}
 use Rattle.codespace.specs.inner.Blocks.{vacant, enterAnswer, enterBlocks, Reached}
@@ -26,7 +26,6 @@ use Rattle.codespace.proofs.Whole.{answer-are, refused-is}
 use Rattle.codespace.proofs.Claimed.{next-reached}
 use Rattle.codespace.proofs.Places.{Small, enter-small}
 use Rattle.codespace.proofs.Steps.{outside-blocks}
-use Rattle.codespace.proofs.Numbers.{pad-front}
 use Rattle.codeword_assignment.proofs.Laws.{codewords-length, after-used, handed-before, used-cons, used-skip, accepted-decodable}
 
 -- an entry's answer, by the space that the entries before it have come to

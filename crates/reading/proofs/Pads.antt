@@ -4,7 +4,7 @@ use mathlib.Core.List.{List, [], _∷_, _++_}
 use Prim.Native.Nat.{ℕ, zero, suc, _+_, _-_, _≤_, _<_}
 use native.Mathlib.Nat.{le-of-suc-le-suc}
 use native.Mathlib.Omega.{arith}
-use lib.ListN.{length, getD, set, replicate, length-append}
+use lib.ListN.{length, getD, set, take, replicate, length-append}
 use Rattle.reading.specs.Pad.{pad}
 
 -- nothing but zeros
@@ -46,3 +46,10 @@ pad-whole zero [] h = refl
 pad-whole zero (x ∷ xs) h = absurd (omega arith)
 pad-whole (suc n) [] h = absurd (omega arith)
 pad-whole (suc n) (x ∷ xs) h = ap (λ (l : List ℕ). x ∷ l) (pad-whole n xs (omega arith))
+
+-- a list that fits its places stands in front of the zeros
+pub pad-front : (n : ℕ) (xs : List ℕ) → length xs ≤ n → take (length xs) (pad n xs) ≡ xs
+unfolding pad
+pad-front n [] l = refl
+pad-front zero (x ∷ xs) l = absurd (omega arith)
+pad-front (suc n) (x ∷ xs) l = ap (λ (t : List ℕ). x ∷ t) (pad-front n xs (le-of-suc-le-suc l))

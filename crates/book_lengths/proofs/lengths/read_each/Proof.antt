@@ -4,7 +4,7 @@ use Prim.Native.Nat.{_-_}
 use lib.ListN.{length}
 use Rattle.bits.specs.inner.Cursors.{position}
 use Rattle.book_lengths.specs.Reading.{entryLength}
-use Rattle.filling.proofs.Filling.{Filling, filling-start, filling-refused, filling-next, filling-done}
+use Rattle.bits.proofs.Filling.{Filling, filling-start, filling-refused, filling-next, filling-done}
 use Rattle.book_lengths.proofs.LengthLaws.{length-laws}
 use borrow.Author.Needs.{needs}
 use Rattle.book_lengths.proofs.lengths.read_each.Statement.{statement}

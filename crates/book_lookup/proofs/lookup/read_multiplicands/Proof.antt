@@ -1,10 +1,10 @@
--- `book_lookup::lookup::read_multiplicands` meets its contract, by filling's Filling, LookupLaws and bits's Answers. Assumes nothing.
+-- `book_lookup::lookup::read_multiplicands` meets its contract, by LookupLaws and by Filling and Answers of bits. Assumes nothing.
 use Prim.Native.Nat.{_-_}
 use lib.ListN.{length}
 use Rattle.bits.specs.inner.Cursors.{position}
 use Rattle.bits.specs.Field.{field}
 use Rattle.bits.proofs.Answers.{value-is, refused-is}
-use Rattle.filling.proofs.Filling.{Filling, filling-start, filling-refused, filling-next, filling-done}
+use Rattle.bits.proofs.Filling.{Filling, filling-start, filling-refused, filling-next, filling-done}
 use Rattle.book_lookup.proofs.LookupLaws.{lookup-laws}
 use borrow.Author.Needs.{needs}
 use Rattle.book_lookup.proofs.lookup.read_multiplicands.Statement.{statement}
