@@ -26,9 +26,9 @@ pub fn read_entry(
     ensures { λ r. ⌜ outcome r ≡ codeword (entriesOf (now (books .entry)) book (now (lengths .entry))) (now (packet .entry)) (position from) ⌝ }
     ensures { λ _. ⌜ Settled (entriesOf (now (books .entry)) book (now (lengths .entry))) ⌝ }
 {
-    let first = wide(book::first_entry(books, book));
-    let end = first + wide(book::entries(books, book));
-    let lone = book::lone(books, book);
+    let first = wide(book_row::first_entry(books, book));
+    let end = first + wide(book_row::entries(books, book));
+    let lone = book_row::lone(books, book);
     codeword::read_codeword(
         packet,
         from,

@@ -16,7 +16,8 @@ use Rattle.book_lookup.specs.Reading.{Lookup, valueCount, lookup}
 use Rattle.book_lookup.proofs.Accepted.{LookupKnown, lookup-known}
 use Rattle.book_reading.specs.Reading.{book, books, andThis}
 use Rattle.book_reading.specs.inner.Parts.{bookOf}
-use Rattle.book_reading.specs.Valid.{ValidBook, ValidBooks}
+use Rattle.book_reading.specs.inner.Valid.{ValidBook, ValidBooks}
+use Rattle.book_reading.proofs.RuleLaws.{rule6-met, rule7-met, rule8-met, rule14-met}
 
 -- A BOOK THAT WAS READ IS VALID, where the multiplicands before are within the limit
 pub book-valid : (l : Limits) (before : Before) (s : List ℕ) (k : ℕ) {b : Book} {n : ℕ} → before .values ≤ l .multiplicands → book l before s k ≡ ok (b, n) → ValidBook l before b
@@ -36,19 +37,20 @@ book-valid l before s k {b} {n} within e =
         let m₀ = m .long in
         rw (← e)
         (record {
-          dimensions-low = k .dimensions-low;
-          dimensions-high = k .dimensions-high;
-          entries-low = omega arith;
-          entries-high = omega arith;
-          entries-book = omega arith;
+          carried = record {
+            dimensions = k .dimensions-high;
+            entries = omega arith;
+            lengths = m .fit;
+            no-lookup = λ z. let n = w .none z in
+                record { minimum = ap (λ (x : Lookup). x .minimum) n; delta = ap (λ (x : Lookup). x .delta) n; width = ap (λ (x : Lookup). x .width) n; sequence = ap (λ (x : Lookup). x .sequence) n; multiplicands = ap (λ (x : Lookup). x .multiplicands) n };
+            some-lookup = λ z. let n = w .some z in
+                record { minimum = n .0 .minimum; delta = n .0 .delta; width-low = n .0 .width-low; width-high = n .0 .width-high; sequence = n .0 .sequence; count = n .1 ∙ ap (λ (x : ℕ). valueCount (o .lookup) x (h .dimensions)) (sym m₀); fit = n .2 };
+          };
+          rule6 = rule6-met (bookOf h ls o) (k .dimensions-low) (omega arith) (w .lookup);
+          rule7 = rule7-met (bookOf h ls o) (m .accepted);
+          rule8 = rule8-met (bookOf h ls o) (m .accepted);
+          rule14 = rule14-met (bookOf h ls o) l (omega arith);
           entries-all = omega arith;
-          lengths = m .fit;
-          accepted = m .accepted;
-          lookup = w .lookup;
-          no-lookup = λ z. let n = w .none z in
-              record { minimum = ap (λ (x : Lookup). x .minimum) n; delta = ap (λ (x : Lookup). x .delta) n; width = ap (λ (x : Lookup). x .width) n; sequence = ap (λ (x : Lookup). x .sequence) n; multiplicands = ap (λ (x : Lookup). x .multiplicands) n };
-          some-lookup = λ z. let n = w .some z in
-              record { minimum = n .0 .minimum; delta = n .0 .delta; width-low = n .0 .width-low; width-high = n .0 .width-high; sequence = n .0 .sequence; count = n .1 ∙ ap (λ (x : ℕ). valueCount (o .lookup) x (h .dimensions)) (sym m₀); fit = n .2 };
           values-all = w .within within;
         })
 

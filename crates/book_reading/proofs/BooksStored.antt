@@ -20,7 +20,7 @@ use Rattle.book_head.specs.Reading.{Before}
 use Rattle.book_reading.specs.Reading.{andThis}
 use Rattle.book_reading.specs.inner.Layout.{Tables, tables, putBook}
 use Rattle.book_reading.specs.Rows.{bookRows, allLengths, allCodewords, allMultiplicands, andThese, decodeBook, decodeBooks}
-use Rattle.book_reading.specs.Valid.{ValidBooks}
+use Rattle.book_reading.specs.inner.Valid.{ValidBooks}
 
 pub codewords-length : (ls : List ℕ) → length (ledgerCodewords ls) ≡ length ls
 unfolding ledgerCodewords

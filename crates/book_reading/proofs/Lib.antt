@@ -1,3 +1,4 @@
+pub mod RuleLaws
 pub mod BookLaws
 pub mod BooksLaws
 pub mod Accepted

@@ -1,4 +1,5 @@
 pub mod Reading
 pub mod Rows
-pub mod Valid
+pub mod Carried
+pub mod Rules
 pub mod inner

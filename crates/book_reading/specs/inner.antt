@@ -2,3 +2,4 @@
 pub mod Parts
 pub mod Layout
 pub mod BookBuffers
+pub mod Valid

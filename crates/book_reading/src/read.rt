@@ -1,13 +1,13 @@
 // Codebooks read into their four tables: a row for each book, the lengths and codewords of all entries, all multiplicands.
 use bits::Cursor;
 use bits::Step;
-use book::mark::lone_mark_at;
 use book_head::head::Head;
 use book_head::head::HeadRead;
 use book_head::head::read_head;
 use book_lengths::entries::read_entries_at;
 use book_lookup::lookup::LookupRead;
 use book_lookup::lookup::read_lookup;
+use book_row::mark::lone_mark_at;
 use limits::Limits;
 use reading::buffers::write_u32;
 ghost use mathlib.Core.Path.{_≡_};

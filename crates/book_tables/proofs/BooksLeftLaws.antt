@@ -18,7 +18,7 @@ use Rattle.book.specs.Layout.{bookWidth, bookRow}
 use Rattle.book_head.specs.inner.Answers.{totals}
 use Rattle.book_reading.specs.Reading.{andThis}
 use Rattle.book_reading.specs.Rows.{bookRows, allLengths, allCodewords, allMultiplicands, decodeBooks}
-use Rattle.book_reading.specs.Valid.{ValidBooks}
+use Rattle.book_reading.specs.inner.Valid.{ValidBooks}
 use Rattle.book_reading.proofs.BooksStored.{codewords-length, row-length, within-entries, within-values, decode-books}
 use Rattle.book_tables.specs.declared.row.Row.{Row}
 use Rattle.book_tables.specs.inner.Rules.{rowOf, BookRules}

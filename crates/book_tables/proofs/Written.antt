@@ -15,7 +15,9 @@ use Rattle.codeword_assignment.specs.Book.{ledgerCodewords, loneMark}
 use Rattle.book.specs.Content.{Book}
 use Rattle.book.specs.Layout.{bookWidth, bookRow}
 use Rattle.book_head.specs.inner.Answers.{totals}
-use Rattle.book_reading.specs.Valid.{NoLookup, SomeLookup, ValidBook}
+use Rattle.book_reading.specs.Carried.{NoLookup, SomeLookup}
+use Rattle.book_reading.specs.inner.Valid.{ValidBook}
+use Rattle.book_reading.proofs.RuleLaws.{rule6-met, rule7-met, rule8-met, rule14-met, some-dimensions, some-entries, known-lookup, lengths-accepted, few-entries}
 use Rattle.book_reading.proofs.BooksStored.{codewords-length}
 use Rattle.book_tables.specs.declared.row.Row.{Row}
 use Rattle.book_tables.specs.inner.Rules.{rowOf, NoneRules, SomeRules, BookRules}
@@ -93,18 +95,20 @@ module _ (limits : Limits) (entries values : ℕ) where
         let h = r .head in
         let n = lengths-long in
         let m = values-long in
+        let b = bookOf row ls ms in
         record {
-          dimensions-low = h .dimensions-low;
-          dimensions-high = h .dimensions-high;
-          entries-low = rw n (h .entries-low);
-          entries-high = rw n (h .entries-high);
-          entries-book = rw n (h .entries-book);
+          carried = record {
+            dimensions = h .dimensions-high;
+            entries = rw n (h .entries-high);
+            lengths = accepted-small (take (row .entries) ls) (r .coded .accepted);
+            no-lookup = λ e. no-values (r .lookup .none e);
+            some-lookup = λ e. some-values (r .lookup .some e);
+          };
+          rule6 = rule6-met b (h .dimensions-low) (rw n (h .entries-low)) (r .lookup .most);
+          rule7 = rule7-met b (r .coded .accepted);
+          rule8 = rule8-met b (r .coded .accepted);
+          rule14 = rule14-met b limits (rw n (h .entries-book));
           entries-all = rw n (h .entries-all);
-          lengths = accepted-small (take (row .entries) ls) (r .coded .accepted);
-          accepted = r .coded .accepted;
-          lookup = r .lookup .most;
-          no-lookup = λ e. no-values (r .lookup .none e);
-          some-lookup = λ e. some-values (r .lookup .some e);
           values-all = rw m (r .place .values-all);
         }
 
@@ -145,22 +149,22 @@ module _ (limits : Limits) (entries values : ℕ) where
         let m = take-at (b .multiplicands) ms (length (b .multiplicands)) refl in
         record {
           head = record {
-            dimensions-low = v .dimensions-low;
-            dimensions-high = v .dimensions-high;
-            entries-low = v .entries-low;
-            entries-high = v .entries-high;
-            entries-book = v .entries-book;
+            dimensions-low = some-dimensions b (v .rule6);
+            dimensions-high = v .carried .dimensions;
+            entries-low = some-entries b (v .rule6);
+            entries-high = v .carried .entries;
+            entries-book = few-entries b limits (v .rule14);
             entries-all = v .entries-all;
           };
           place = record { entries-first = refl; values-first = refl; values-all = v .values-all };
-          lookup = record { most = v .lookup; none = λ e. none-rules (v .no-lookup e); some = λ e. some-rules (v .some-lookup e) };
-          coded = rw (l, w) (record { accepted = v .accepted; assigned = refl });
+          lookup = record { most = known-lookup b (v .rule6); none = λ e. none-rules (v .carried .no-lookup e); some = λ e. some-rules (v .carried .some-lookup e) };
+          coded = rw (l, w) (record { accepted = lengths-accepted b (v .rule7) (v .rule8); assigned = refl });
           lone = sym (ap loneMark l);
           fit = rw m fits;
         }
       where
         fits : all (λ x. ltb x (2 ^ b .width)) (b .multiplicands) ≡ true
-        fits = ⊎-elim (λ (h : 0 < b .lookup). some-fit (v .some-lookup (λ e. omega arith))) (λ (h : b .lookup ≤ 0). none-fit (v .no-lookup (omega arith))) (lt-or-le 0 (b .lookup))
+        fits = ⊎-elim (λ (h : 0 < b .lookup). some-fit (v .carried .some-lookup (λ e. omega arith))) (λ (h : b .lookup ≤ 0). none-fit (v .carried .no-lookup (omega arith))) (lt-or-le 0 (b .lookup))
 
     pub rules-at : (ls ws ms l w m : List ℕ) → ls ≡ b .lengths ++ l → ws ≡ ledgerCodewords (b .lengths) ++ w → ms ≡ b .multiplicands ++ m
         → BookRules limits entries values (rowFor entries values b) ls ws ms

@@ -2,7 +2,7 @@
 // the multiplicands.
 use crate::row::Row;
 use crate::row::wide;
-use book::mark::lone_mark_at;
+use book_row::mark::lone_mark_at;
 use limits::Limits;
 ghost use mathlib.Core.Path.{_≡_};
 ghost use mathlib.Core.Bool.{true};

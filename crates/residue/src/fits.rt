@@ -17,8 +17,8 @@ pub fn head_fits(head: Head, books: &[u32]) -> bool
     if head.end < head.begin {
         return false;
     }
-    let dimensions = book::dimensions(books, head.classbook);
-    let entries = book::entries(books, head.classbook);
+    let dimensions = book_row::dimensions(books, head.classbook);
+    let entries = book_row::entries(books, head.classbook);
     power::power_within(head.classifications, dimensions, entries)
 }
 
@@ -29,11 +29,11 @@ pub fn place_fits(place: u32, size: u32, books: &[u32]) -> bool
     if place == 0 {
         return true;
     }
-    let lookup = book::lookup(books, place - 1);
+    let lookup = book_row::lookup(books, place - 1);
     if lookup == 0 {
         return false;
     }
-    let dimensions = book::dimensions(books, place - 1);
+    let dimensions = book_row::dimensions(books, place - 1);
     if dimensions == 0 {
         return size == 0;
     }

@@ -3,20 +3,18 @@
 use Prim.Native.Nat.{ℕ, _+_, _≤_}
 use native.Mathlib.Omega.{arith}
 use borrow.Author.Tests.{ltb-true, lt-ltb, leb-true, le-leb, eqb-false, ne-eqb, not-true}
-use mathlib.Core.Bool.{Bool, true, not}
 use mathlib.Core.List.{List, [], _∷_, map}
-use mathlib.Core.Path.{_≡_}
 use lib.Dec.{eqb}
 use lib.ListN.{length}
 use Rattle.reading.specs.Lists.{sum}
 use Rattle.reading.specs.Encoding.{Each}
 use Rattle.limits.specs.declared.Limits.{Limits}
-use Rattle.rules.specs.Rules as Rule
-use Rattle.book_lengths.proofs.Verdict.{accepted-meets, meets-accepted}
 use Rattle.book.specs.Content.{Book}
 use Rattle.book_head.specs.Reading.{Before}
 use Rattle.book_reading.specs.Reading.{andThis}
-use Rattle.book_reading.specs.Valid.{ValidBook, ValidBooks}
+use Rattle.book_reading.specs.Carried.{CarriedBook}
+use Rattle.book_reading.specs.Rules.{Rule6, Rule7, Rule8, Book14}
+use Rattle.book_reading.specs.inner.Valid.{ValidBook, ValidBooks}
 use Rattle.floor_class.specs.Content.{Class}
 use Rattle.floor.specs.Content.{Floor}
 use Rattle.floor_class.specs.inner.Valid.{ValidClass, ValidClasses}
@@ -30,8 +28,8 @@ use Rattle.mapping.specs.inner.Valid.{ValidCoupling, ValidSubmap, ValidMapping}
 use Rattle.mode.specs.Content.{Mode}
 use Rattle.mode.specs.inner.Valid.{ValidMode}
 use Rattle.setup.specs.Content.{Setup, booksKnown, known}
-use Rattle.setup.specs.Carried.{Counted, CarriedBook, CarriedClass, CarriedFloor, CarriedResidue, CarriedMapping, CarriedMode, Carried}
-use Rattle.setup.specs.Rules.{Rule6, Rule7, Rule8, Rule10, Class11, Residue11, Coupling11, Submap11, Mapping11, Mode11, Rule11, Rule12, Rule13, entriesInAll, multiplicandsInAll, Rule14, MeetsRules}
+use Rattle.setup.specs.Carried.{Counted, CarriedClass, CarriedFloor, CarriedResidue, CarriedMapping, CarriedMode, Carried}
+use Rattle.setup.specs.Rules.{Rule10, Class11, Residue11, Coupling11, Submap11, Mapping11, Mode11, Rule11, Rule12, Rule13, entriesInAll, multiplicandsInAll, Rule14, MeetsRules}
 use Rattle.setup.specs.inner.Valid.{ValidSetup}
 use Rattle.setup.specs.Layout.{Tables}
 use Rattle.setup.specs.Sound.{Sound}
@@ -47,42 +45,8 @@ unfolding Each
 each-both f [] d e = tt
 each-both f (a ∷ l) d e = (f a (d .0) (e .0), each-both f l (d .1) (e .1))
 
-not-zero : (v : ℕ) → not (eqb v 0) ≡ true → 1 ≤ v
-not-zero v t = let n = eqb-false v 0 (not-true (eqb v 0) t) in omega arith
-
-positive : (v : ℕ) → 1 ≤ v → not (eqb v 0) ≡ true
-positive v h = rw (ne-eqb v 0 (λ z. omega arith))
-
 -- books
 module _ (limits : Limits) where
-  abbrev Few : Book → Type 0
-  Few b = Rule.meets14 (Rule.bookEntries (limits .«book_entries») (length (b .lengths))) ≡ true
-
-  book-carried : (before : Before) (b : Book) → ValidBook limits before b → CarriedBook b
-  book-carried before b v =
-      record { dimensions = v .dimensions-high; entries = v .entries-high; lengths = v .lengths; no-lookup = v .no-lookup; some-lookup = v .some-lookup }
-
-  book-6 : (before : Before) (b : Book) → ValidBook limits before b → Rule6 b
-  book-6 before b v = record { dimensions = positive _ (v .dimensions-low); entries = positive _ (v .entries-low); lookup = le-leb _ _ (v .lookup) }
-
-  book-valid : (before : Before) (b : Book) → CarriedBook b → Rule6 b → Rule7 b → Rule8 b → Few b
-      → before .entries + length (b .lengths) ≤ limits .entries → before .values + length (b .multiplicands) ≤ limits .multiplicands → ValidBook limits before b
-  book-valid before b c r s e f p q =
-      record {
-        dimensions-low = not-zero _ (r .dimensions);
-        dimensions-high = c .dimensions;
-        entries-low = not-zero _ (r .entries);
-        entries-high = c .entries;
-        entries-book = leb-true _ _ f;
-        entries-all = p;
-        lengths = c .lengths;
-        accepted = meets-accepted (b .lengths) s e;
-        lookup = leb-true _ _ (r .lookup);
-        no-lookup = c .no-lookup;
-        some-lookup = c .some-lookup;
-        values-all = q;
-      }
-
   books-each : {P : Book → Type 0} → ((before : Before) (b : Book) → ValidBook limits before b → P b) → (before : Before) (bs : List Book) → ValidBooks limits before bs → Each P bs
   unfolding ValidBooks Each
   books-each f before [] v = tt
@@ -98,12 +62,12 @@ module _ (limits : Limits) where
       let i₁ = i .1 in
       (omega arith, omega arith)
 
-  books-valid : (before : Before) (bs : List Book) → Each CarriedBook bs → Each Rule6 bs → Each Rule7 bs → Each Rule8 bs → Each Few bs
+  books-valid : (before : Before) (bs : List Book) → Each CarriedBook bs → Each Rule6 bs → Each Rule7 bs → Each Rule8 bs → Each (Book14 limits) bs
       → before .entries + entriesInAll bs ≤ limits .entries → before .values + multiplicandsInAll bs ≤ limits .multiplicands → ValidBooks limits before bs
   unfolding ValidBooks Each entriesInAll multiplicandsInAll sum
   books-valid before [] c r s e f p q = tt
   books-valid before (b ∷ bs) c r s e f p q =
-      (book-valid before b (c .0) (r .0) (s .0) (e .0) (f .0) (omega arith) (omega arith), books-valid (andThis before b) bs (c .1) (r .1) (s .1) (e .1) (f .1) (omega arith) (omega arith))
+      (record { carried = c .0; rule6 = r .0; rule7 = s .0; rule8 = e .0; rule14 = f .0; entries-all = omega arith; values-all = omega arith }, books-valid (andThis before b) bs (c .1) (r .1) (s .1) (e .1) (f .1) (omega arith) (omega arith))
 
 -- floors
 module _ (books : ℕ) where
@@ -278,7 +242,7 @@ module _ (limits : Limits) (channels : ℕ) (c : Setup) where
       record {
         few-channels = few;
         book-count = v .book-count;
-        books = books-each limits (book-carried limits) none (c .books) (v .books);
+        books = books-each limits (λ before b x. x .carried) none (c .books) (v .books);
         floor-count = v .floor-count;
         floors = each-map (floor-carried (length (c .books))) (c .floors) (v .floors);
         residue-count = v .residue-count;
@@ -295,9 +259,9 @@ module _ (limits : Limits) (channels : ℕ) (c : Setup) where
   valid-meets v =
       let w = books-within limits none (c .books) (omega arith) (omega arith) (v .books) in
       record {
-        rule6 = books-each limits (book-6 limits) none (c .books) (v .books);
-        rule7 = books-each limits (λ before b x. accepted-meets (b .lengths) (x .accepted) .0) none (c .books) (v .books);
-        rule8 = books-each limits (λ before b x. accepted-meets (b .lengths) (x .accepted) .1) none (c .books) (v .books);
+        rule6 = books-each limits (λ before b x. x .rule6) none (c .books) (v .books);
+        rule7 = books-each limits (λ before b x. x .rule7) none (c .books) (v .books);
+        rule8 = books-each limits (λ before b x. x .rule8) none (c .books) (v .books);
         rule10 = each-map (residue-10 (booksKnown (c .books))) (c .residues) (v .residues);
         rule11 = record {
           floors = each-map (floor-11 (length (c .books))) (c .floors) (v .floors);
@@ -308,7 +272,7 @@ module _ (limits : Limits) (channels : ℕ) (c : Setup) where
         rule12 = each-map (floor-12 (length (c .books))) (c .floors) (v .floors);
         rule13 = each-map (λ r x. x .fits) (c .residues) (v .residues);
         rule14 = record {
-          book = books-each limits (λ before b x. le-leb _ _ (x .entries-book)) none (c .books) (v .books);
+          book = books-each limits (λ before b x. x .rule14) none (c .books) (v .books);
           entries = le-leb (0 + entriesInAll (c .books)) (limits .entries) (w .0);
           multiplicands = le-leb (0 + multiplicandsInAll (c .books)) (limits .multiplicands) (w .1);
         };

@@ -8,8 +8,7 @@ use lib.Dec.{ltb, leb}
 use lib.ListN.{length}
 use Rattle.reading.specs.Lists.{all}
 use Rattle.reading.specs.Encoding.{Each}
-use Rattle.book.specs.Content.{Book}
-use Rattle.book_reading.specs.Valid.{NoLookup, SomeLookup}
+use Rattle.book_reading.specs.Carried.{CarriedBook}
 use Rattle.floor_class.specs.Content.{Class}
 use Rattle.floor.specs.Content.{Floor, classCount, valueCount}
 use Rattle.residue.specs.Content.{Residue}
@@ -23,13 +22,7 @@ pub record Counted (most n : ℕ) : Type 0 where
   pub low : 1 ≤ n
   pub high : n ≤ most
 
--- a book (002): a lookup's numbers where its type is not 0, and else none
-pub record CarriedBook (b : Book) : Type 0 where
-  pub dimensions : b .dimensions < 2 ^ 16
-  pub entries : length (b .lengths) < 2 ^ 24
-  pub lengths : all (λ l. leb l 32) (b .lengths) ≡ true
-  pub no-lookup : b .lookup ≡ 0 → NoLookup b
-  pub some-lookup : (b .lookup ≡ 0 → ⊥) → SomeLookup b
+-- a book (002): `CarriedBook`, crates/book_reading/specs/Carried.antt
 
 -- a floor's class (004): a master book exactly where there are subclass bits; a place for a book, its number plus one, has 8 bits
 pub record CarriedClass (c : Class) : Type 0 where

@@ -9,9 +9,9 @@ use lib.ListN.{length}
 use Rattle.reading.specs.Lists.{all, rows, sum}
 use Rattle.reading.specs.Encoding.{Each}
 use Rattle.limits.specs.declared.Limits.{Limits}
-use Rattle.codeword_assignment.specs.Book.{used, firstRefused, freeAfter, isLone}
 use Rattle.rules.specs.Rules as Rule
 use Rattle.book.specs.Content.{Book}
+use Rattle.book_reading.specs.Rules.{Rule6, Rule7, Rule8, Book14}
 use Rattle.floor_class.specs.Content.{Class}
 use Rattle.floor.specs.Content.{Floor}
 use Rattle.floor_x_list.specs.Content.{xList}
@@ -21,18 +21,7 @@ use Rattle.mapping.specs.Content.{Coupling, Submap, Mapping}
 use Rattle.mode.specs.Content.{Mode}
 use Rattle.setup.specs.Content.{Setup, booksKnown}
 
--- 6, of a book
-pub record Rule6 (b : Book) : Type 0 where
-  pub dimensions : Rule.meets6 (Rule.dimensions (b .dimensions)) ≡ true
-  pub entries : Rule.meets6 (Rule.entries (length (b .lengths))) ≡ true
-  pub lookup : Rule.meets6 (Rule.lookupType (b .lookup)) ≡ true
-
--- 7 and 8, of a book, by the ledger
-abbrev pub Rule7 : Book → Type 0
-Rule7 b = Rule.meets7 (firstRefused (b .lengths)) ≡ true
-
-abbrev pub Rule8 : Book → Type 0
-Rule8 b = Rule.meets8 (freeAfter (b .lengths)) (isLone (used (b .lengths))) ≡ true
+-- 6, 7 and 8, of a book, and 14 of a book alone: crates/book_reading/specs/Rules.antt
 
 -- 10, of a residue
 abbrev pub Rule10 : Residue → Type 0
@@ -79,7 +68,7 @@ pub record Rule12 (f : Floor) : Type 0 where
 abbrev pub Rule13 : Books → Residue → Type 0
 Rule13 books r = residueFits books r ≡ true
 
--- 14, of the books together
+-- 14, of each book and of the books together
 unfoldable pub entriesInAll : List Book → ℕ
 entriesInAll bs = sum (map (λ b. length (b .lengths)) bs)
 
@@ -87,7 +76,7 @@ unfoldable pub multiplicandsInAll : List Book → ℕ
 multiplicandsInAll bs = sum (map (λ b. length (b .multiplicands)) bs)
 
 pub record Rule14 (limits : Limits) (bs : List Book) : Type 0 where
-  pub book : Each (λ b. Rule.meets14 (Rule.bookEntries (limits .«book_entries») (length (b .lengths))) ≡ true) bs
+  pub book : Each (Book14 limits) bs
   pub entries : Rule.meets14 (Rule.allEntries (limits .entries) 0 (entriesInAll bs)) ≡ true
   pub multiplicands : Rule.meets14 (Rule.multiplicands (limits .multiplicands) 0 (multiplicandsInAll bs)) ≡ true
 

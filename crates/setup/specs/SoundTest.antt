@@ -14,15 +14,16 @@ use Rattle.identification.specs.declared.Identity.{Identity}
 use Rattle.identification.specs.Sound.{isSound}
 use Rattle.book.specs.Content.{Book}
 use Rattle.book_lookup.specs.Reading as L
-use Rattle.book_reading.specs.Valid.{NoLookup, SomeLookup}
+use Rattle.book_reading.specs.Carried.{NoLookup, SomeLookup, CarriedBook}
+use Rattle.book_reading.specs.Rules.{Rule6}
 use Rattle.floor_class.specs.Content.{Class}
 use Rattle.floor.specs.Content.{Floor, classCount, valueCount}
 use Rattle.residue.specs.Content.{Residue}
 use Rattle.residue.specs.Valid.{Rows8}
 use Rattle.mapping.specs.Content.{Coupling, Submap, Mapping}
 use Rattle.setup.specs.Content.{Setup}
-use Rattle.setup.specs.Carried.{Counted, CarriedBook, CarriedClass, CarriedFloor, CarriedResidue, CarriedMapping, Carried}
-use Rattle.setup.specs.Rules.{Rule6, Class11, Residue11, Coupling11, Submap11, Mapping11, Rule11, Rule12, Rule14, MeetsRules}
+use Rattle.setup.specs.Carried.{Counted, CarriedClass, CarriedFloor, CarriedResidue, CarriedMapping, Carried}
+use Rattle.setup.specs.Rules.{Class11, Residue11, Coupling11, Submap11, Mapping11, Rule11, Rule12, Rule14, MeetsRules}
 use Rattle.setup.specs.Layout.{Tables, hasRoom, writtenOut, tables}
 use Rattle.setup.specs.inner.Decode.{decodeSetup}
 use Rattle.setup.specs.Sound.{SoundCall, OneContent}

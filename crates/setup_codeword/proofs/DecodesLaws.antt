@@ -17,7 +17,8 @@ use Rattle.codeword.proofs.Laws.{read-whole, read-lone}
 use Rattle.book.specs.Content.{Book}
 use Rattle.book_head.specs.Reading.{Before}
 use Rattle.book_reading.specs.Reading.{andThis}
-use Rattle.book_reading.specs.Valid.{ValidBooks}
+use Rattle.book_reading.specs.inner.Valid.{ValidBooks}
+use Rattle.book_reading.proofs.RuleLaws as B
 use Rattle.setup.specs.Content.{Setup, lengthsOf}
 use Rattle.setup.specs.Layout.{Tables, writtenOut}
 use Rattle.setup.specs.Call.{setupOf, setupCall, answered}
@@ -35,7 +36,7 @@ use Rattle.setup_codeword.proofs.JudgedLaws.{accepted-takes, full-not-l
 book-accepted : (limits : Limits) (before : Before) (bs : List Book) (b : ℕ) → ValidBooks limits before bs → b < length bs → verdict (getD (map (λ x. x .lengths) bs) b []) ≡ Accepted
 unfolding ValidBooks
 book-accepted limits before [] b v h = absurd (omega arith)
-book-accepted limits before (x ∷ bs) zero v h = v .0 .accepted
+book-accepted limits before (x ∷ bs) zero v h = B.lengths-accepted x (v .0 .rule7) (v .0 .rule8)
 book-accepted limits before (x ∷ bs) (suc b) v h = book-accepted limits (andThis before x) bs b (v .1) (omega arith)
 
 pub lengths-accepted : (limits : Limits) (c : Setup) (b : ℕ) → ValidBooks limits (record { entries = 0; values = 0 }) (c .books) → b < length (c .books) → verdict (lengthsOf c b) ≡ Accepted

@@ -16,7 +16,8 @@ use Rattle.book.specs.Layout.{bookWidth, bookRow, numberAt, entriesAt, firstEnt
 use Rattle.book_head.specs.Reading.{Before}
 use Rattle.book_reading.specs.Reading.{andThis}
 use Rattle.book_reading.specs.Rows.{bookRows, allLengths, allCodewords, andThese}
-use Rattle.book_reading.specs.Valid.{ValidBook, ValidBooks}
+use Rattle.book_reading.specs.inner.Valid.{ValidBook, ValidBooks}
+use Rattle.book_reading.proofs.RuleLaws.{lengths-accepted}
 use Rattle.book_reading.proofs.BooksStored.{codewords-length, row-at, these-entries, within-entries, pad-fits}
 use Rattle.book_codeword.specs.inner.Stored.{entriesOf, BookStored}
 use Rattle.setup.specs.Content.{lengthsOf}
@@ -150,8 +151,8 @@ module _ {limits : Limits} {channels : ℕ} {t : Tables} (sound : Sound limits c
         let rc = facts .room .codewords in
         let f = fits in
         let w = part-within (λ x. x .lengths) items b h (firstEntryAt (t .books) b) (entriesAt (t .books) b) first-is entries-are in
-        let high = v .entries-high in
-        let whole : Codebook (own .lengths) (ledgerCodewords (own .lengths)) = record { entries = omega arith; accepted = v .accepted; coded = refl } in
+        let high = v .carried .entries in
+        let whole : Codebook (own .lengths) (ledgerCodewords (own .lengths)) = record { entries = omega arith; accepted = lengths-accepted own (v .rule7) (v .rule8); coded = refl } in
         record {
           lengths-fit = omega arith;
           codewords-fit = omega arith;

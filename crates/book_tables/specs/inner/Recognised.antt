@@ -10,7 +10,7 @@ use Rattle.book.specs.Content.{Book}
 use Rattle.book.specs.Layout.{booksNeed}
 use Rattle.book_head.specs.inner.Answers.{totals}
 use Rattle.book_reading.specs.Rows.{bookRows, allLengths, allCodewords, allMultiplicands, decodeBooks}
-use Rattle.book_reading.specs.Valid.{ValidBooks}
+use Rattle.book_reading.specs.inner.Valid.{ValidBooks}
 
 -- what a caller may ask about: few books, and limits that a place in a table can count up to
 pub record Countable (limits : Limits) (count : ℕ) : Type 0 where

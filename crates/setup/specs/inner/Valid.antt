@@ -4,7 +4,7 @@ use Prim.Native.Nat.{ℕ}
 use lib.ListN.{length}
 use Rattle.reading.specs.Encoding.{Each}
 use Rattle.limits.specs.declared.Limits.{Limits}
-use Rattle.book_reading.specs.Valid.{ValidBooks}
+use Rattle.book_reading.specs.inner.Valid.{ValidBooks}
 use Rattle.floor.specs.inner.Valid.{ValidFloor}
 use Rattle.residue.specs.Valid.{ValidResidue}
 use Rattle.mapping.specs.inner.Valid.{ValidMapping}

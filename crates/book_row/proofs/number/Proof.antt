@@ -1,7 +1,7 @@
--- `book::number` meets its contract. Assumes nothing.
+-- `book_row::number` meets its contract. Assumes nothing.
 use borrow.Author.Needs.{needs}
-use Rattle.book.proofs.number.Statement.{statement}
-use Rattle.book.proofs.number.Tie as tie
+use Rattle.book_row.proofs.number.Statement.{statement}
+use Rattle.book_row.proofs.number.Tie as tie
 
 wide-requires : tie.Need-wide-requires
 wide-requires c κs = search needs

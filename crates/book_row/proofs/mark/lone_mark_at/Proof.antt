@@ -1,8 +1,8 @@
--- `book::mark::lone_mark_at` meets its contract, by Marks. Assumes nothing.
+-- `book_row::mark::lone_mark_at` meets its contract, by Marks. Assumes nothing.
 use borrow.Author.Needs.{needs}
-use Rattle.book.proofs.Marks.{mark-part}
-use Rattle.book.proofs.mark.lone_mark_at.Statement.{statement}
-use Rattle.book.proofs.mark.lone_mark_at.Tie as tie
+use Rattle.book_row.proofs.Marks.{mark-part}
+use Rattle.book_row.proofs.mark.lone_mark_at.Statement.{statement}
+use Rattle.book_row.proofs.mark.lone_mark_at.Tie as tie
 
 wide-requires : tie.Need-wide-requires
 wide-requires c κs = search needs

@@ -1,4 +1,4 @@
--- `book::mark::first_used` meets its contract, by the laws of a sole used entry. Assumes nothing.
+-- `book_row::mark::first_used` meets its contract, by the laws of a sole used entry. Assumes nothing.
 use Prim.Native.Nat.{ℕ, _≤_, _<_, _-_}
 use mathlib.Core.Bool.{false}
 use mathlib.Core.Path.{_≡_, sym}
@@ -7,8 +7,8 @@ use lib.ListN.{length}
 use borrow.Author.Needs.{needs}
 use Rattle.codeword_assignment.specs.Book.{isUsed}
 use Rattle.codeword_assignment.proofs.Lone.{used-passed, lone-there, first-is}
-use Rattle.book.proofs.mark.first_used.Statement.{statement}
-use Rattle.book.proofs.mark.first_used.Tie as tie
+use Rattle.book_row.proofs.mark.first_used.Statement.{statement}
+use Rattle.book_row.proofs.mark.first_used.Tie as tie
 
 abbrev Inv-loop : tie.InvT-loop
 Inv-loop lengths entry₀ entry = (entry ≤ length lengths) × ((u : ℕ) → u < entry → isUsed lengths u ≡ false)

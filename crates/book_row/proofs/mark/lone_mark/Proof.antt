@@ -1,8 +1,8 @@
--- `book::mark::lone_mark` meets its contract, by the laws of a sole used entry. Assumes nothing.
+-- `book_row::mark::lone_mark` meets its contract, by the laws of a sole used entry. Assumes nothing.
 use borrow.Author.Needs.{needs}
 use Rattle.codeword_assignment.proofs.Lone.{mark-zero, mark-asked, mark-entry}
-use Rattle.book.proofs.mark.lone_mark.Statement.{statement}
-use Rattle.book.proofs.mark.lone_mark.Tie as tie
+use Rattle.book_row.proofs.mark.lone_mark.Statement.{statement}
+use Rattle.book_row.proofs.mark.lone_mark.Tie as tie
 
 is-lone-requires : tie.Need-is-lone-requires
 is-lone-requires c κs = search needs
