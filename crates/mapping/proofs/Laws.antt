@@ -2,7 +2,7 @@
 use Prim.Native.Nat.{ℕ, zero, suc, _+_, _-_, _*_, _/_, _%_, _≤_, _<_}
 use native.Mathlib.Nat.{le-of-suc-le-suc}
 use native.Mathlib.Omega.{arith}
-use borrow.Author.Tests.{ltb-true, lt-ltb, le-leb, lt-leb, leb-true, leb-false, eqb-false, not-true}
+use borrow.Author.Tests.{ltb-true, le-leb, lt-leb, leb-true, leb-false}
 use mathlib.Core.Bool.{Bool, true, false, not, cond, _&&_}
 use mathlib.Core.List.{List, [], _∷_, _++_, map}
 use mathlib.Core.Path.{_≡_, refl, sym, ap, subst, _∙_}
@@ -21,30 +21,34 @@ use Rattle.reading.proofs.PairRows.{PairRow}
 use Rattle.bits.specs.Field.{field}
 use Rattle.bits.specs.Ilog.{ilog}
 use Rattle.mapping.specs.Content.{Coupling, Submap, Mapping}
+use Rattle.mapping.specs.Rules.{Coupling11}
 use Rattle.mapping.specs.declared.Known.{Known}
 use Rattle.mapping.specs.Reading.{submapCount, couplingCount, channel, coupling, multiplex, multiplexes, submap, parts, mapping}
 use Rattle.mapping.specs.Layout.{couplingRow, submapRow, mappingRow}
-use Rattle.mapping.specs.inner.Valid.{ValidCoupling, ValidMultiplex, ValidSubmap, ValidMapping}
+use Rattle.mapping.specs.inner.Valid.{ValidMultiplex, ValidSubmap, ValidMapping}
 use Rattle.mapping.specs.inner.Decode.{couplingOf, submapOf, pairs, lessOne, decodeMapping}
 use Rattle.mapping.proofs.CountLaws.{submaps-few, steps-few, submaps-some-at-least}
 use Rattle.mapping.proofs.SizeLaws.{parts-sizes}
 use Rattle.mapping.proofs.RowLaws.{part-couplings, part-multiplex, part-submaps}
 
 -- an accepted number is below the number of channels
-pub channel-below : (channels : ℕ) (s : List ℕ) (k : ℕ) {x : ℕ × ℕ} → channel channels s k ≡ ok x → x .0 < channels
+channel-meets : (channels : ℕ) (s : List ℕ) (k : ℕ) {x : ℕ × ℕ} → channel channels s k ≡ ok x → ltb (x .0) channels ≡ true
 unfolding channel
-channel-below channels s k e = ltb-true _ _ (judged-ok (λ v. ltb v channels) 11 (field (ilog (channels - 1))) s k e .1)
+channel-meets channels s k e = judged-ok (λ v. ltb v channels) 11 (field (ilog (channels - 1))) s k e .1
 
-pub coupling-valid : (channels : ℕ) (s : List ℕ) (k : ℕ) (x : Coupling × ℕ) → coupling channels s k ≡ ok x → ValidCoupling channels (x .0)
+pub channel-below : (channels : ℕ) (s : List ℕ) (k : ℕ) {x : ℕ × ℕ} → channel channels s k ≡ ok x → x .0 < channels
+channel-below channels s k e = ltb-true _ _ (channel-meets channels s k e)
+
+pub coupling-valid : (channels : ℕ) (s : List ℕ) (k : ℕ) (x : Coupling × ℕ) → coupling channels s k ≡ ok x → Coupling11 channels (x .0)
 unfolding coupling
 coupling-valid channels s k x e =
     let a = then-ok (channel channels s k) _ e in
     let b = then-ok (judged (λ v. not (eqb v (a .0 .0))) 11 (channel channels) s (a .0 .1)) _ (a .2) in
     let j = judged-ok (λ v. not (eqb v (a .0 .0))) 11 (channel channels) s (a .0 .1) (b .1) in
     let same : _≡_ {A = Coupling × ℕ} (record { magnitude = a .0 .0; angle = b .0 .0 }, b .0 .1) x = cc in
-    let valid : ValidCoupling channels (record { magnitude = a .0 .0; angle = b .0 .0 }) =
-    record { magnitude = channel-below channels s k (a .1); angle = channel-below channels s (a .0 .1) (j .0); different = eqb-false _ _ (not-true _ (j .1)) } in
-    subst (λ (y : Coupling × ℕ). ValidCoupling channels (y .0)) same valid
+    let valid : Coupling11 channels (record { magnitude = a .0 .0; angle = b .0 .0 }) =
+    record { magnitude = channel-meets channels s k (a .1); angle = channel-meets channels s (a .0 .1) (j .0); coupled = j .1 } in
+    subst (λ (y : Coupling × ℕ). Coupling11 channels (y .0)) same valid
 
 pub submap-valid : (known : Known) (s : List ℕ) (k : ℕ) (x : Submap × ℕ) → submap known s k ≡ ok x → ValidSubmap known (x .0)
 unfolding submap
@@ -55,14 +59,14 @@ submap-valid known s k x e =
     let i = judged-ok (λ v. ltb v (known .floors)) 11 (field 8) s (a .0 .1) (b .1) in
     let j = judged-ok (λ v. ltb v (known .residues)) 11 (field 8) s (b .0 .1) (c .1) in
     let same : _≡_ {A = Submap × ℕ} (record { floor = b .0 .0; residue = c .0 .0 }, c .0 .1) x = cc in
-    let valid : ValidSubmap known (record { floor = b .0 .0; residue = c .0 .0 }) = record { floor = ltb-true _ _ (i .1); residue = ltb-true _ _ (j .1) } in
+    let valid : ValidSubmap known (record { floor = b .0 .0; residue = c .0 .0 }) = record { floor = i .1; residue = j .1 } in
     subst (λ (y : Submap × ℕ). ValidSubmap known (y .0)) same valid
 
 -- a test of all, and a fact of each
 pub each-all : (n : ℕ) (l : List ℕ) → Each (ValidMultiplex n) l → all (λ v. ltb v n) l ≡ true
 unfolding Each all
 each-all n [] h = refl
-each-all n (v ∷ l) h = rw (lt-ltb v n (h .0 .number)) (each-all n l (h .1))
+each-all n (v ∷ l) h = rw (h .0) (each-all n l (h .1))
 
 pub all-each : (n : ℕ) (l : List ℕ) → all (λ v. ltb v n) l ≡ true → Each (ValidMultiplex n) l
 unfolding Each all
@@ -70,7 +74,7 @@ all-each n [] h = tt
 all-each n (v ∷ l) h = go (ltb v n) refl h (λ f. all-each n l f)
   where
     go : (t : Bool) → ltb v n ≡ t → t && all (λ v. ltb v n) l ≡ true → (all (λ v. ltb v n) l ≡ true → Each (ValidMultiplex n) l) → ValidMultiplex n v × Each (ValidMultiplex n) l
-    go true e f r = (record { number = ltb-true _ _ e }, r f)
+    go true e f r = (e, r f)
     go false e f r = let z : _≡_ {A = ℕ} 0 1 = cc in absurd (omega arith)
 
 multiplexes-valid : (channels submaps : ℕ) (s : List ℕ) (k : ℕ) (x : List ℕ × ℕ) → multiplexes channels submaps s k ≡ ok x → all (λ v. ltb v submaps) (x .0) ≡ true
@@ -78,7 +82,7 @@ unfolding multiplexes multiplex Each
 multiplexes-valid channels submaps s k x e = go (leb submaps 1) e
   where
     below : (k : ℕ) (y : ℕ × ℕ) → judged (λ v. ltb v submaps) 11 (field 4) s k ≡ ok y → ValidMultiplex submaps (y .0)
-    below k y e = record { number = ltb-true _ _ (judged-ok (λ v. ltb v submaps) 11 (field 4) s k e .1) }
+    below k y e = judged-ok (λ v. ltb v submaps) 11 (field 4) s k e .1
 
     go : (t : Bool) → cond t (ok ([], k)) (many (multiplex submaps) channels s k) ≡ ok x → all (λ v. ltb v submaps) (x .0) ≡ true
     go true e = let p : ([], k) ≡ x = cc in subst (λ (y : List ℕ × ℕ). all (λ v. ltb v submaps) (y .0) ≡ true) p (each-all submaps [] tt)
@@ -97,7 +101,7 @@ sized-some n channels l e h = e ∙ rw (lt-leb n 1 (omega arith))
 
 -- what is accepted in each part is valid
 abbrev Pieces : Known → ℕ → Mapping → Type 0
-Pieces known submaps m = Each (ValidCoupling (known .channels)) (m .couplings) × (all (λ v. ltb v submaps) (m .multiplex) ≡ true) × Each (ValidSubmap known) (m .submaps)
+Pieces known submaps m = Each (Coupling11 (known .channels)) (m .couplings) × (all (λ v. ltb v submaps) (m .multiplex) ≡ true) × Each (ValidSubmap known) (m .submaps)
 
 pieces : (known : Known) (submaps steps : ℕ) (s : List ℕ) (k : ℕ) (x : Mapping × ℕ) → parts known submaps steps s k ≡ ok x → Pieces known submaps (x .0)
 unfolding parts
@@ -108,7 +112,7 @@ pieces known submaps steps s k x e =
     let d = then-ok (many (submap known) submaps s (c .0 .1)) _ (c .2) in
     let same : _≡_ {A = Mapping × ℕ} (record { couplings = a .0 .0; multiplex = c .0 .0; submaps = d .0 .0 }, d .0 .1) x = cc in
     subst (λ (y : Mapping × ℕ). Pieces known submaps (y .0)) same (
-      many-each (coupling (known .channels)) s (ValidCoupling (known .channels)) (coupling-valid (known .channels) s) steps k (a .1),
+      many-each (coupling (known .channels)) s (Coupling11 (known .channels)) (coupling-valid (known .channels) s) steps k (a .1),
       multiplexes-valid (known .channels) submaps s (b .0 .1) (c .0) (c .1),
       many-each (submap known) s (ValidSubmap known) (submap-valid known s) submaps (c .0 .1) (d .1),
     )
@@ -122,14 +126,13 @@ parts-valid known submaps steps s k x low high few e =
     let c = z .multiplex in
     let v = pieces known submaps steps s k x e in
     record {
-      coupling-count = omega arith;
-      couplings = v .0;
-      submaps-low = omega arith;
-      submaps-high = omega arith;
-      submaps = v .2;
-      no-multiplex = λ h. sized-none submaps (known .channels) (x .0 .multiplex) c (omega arith);
-      some-multiplex = λ h. sized-some submaps (known .channels) (x .0 .multiplex) c (omega arith);
-      multiplex = rw (z .submaps) (v .1);
+      carried = record {
+        couplings = omega arith;
+        submaps = record { low = omega arith; high = omega arith };
+        no-multiplex = λ h. sized-none submaps (known .channels) (x .0 .multiplex) c (omega arith);
+        some-multiplex = λ h. sized-some submaps (known .channels) (x .0 .multiplex) c (omega arith);
+      };
+      rule11 = record { couplings = v .0; multiplex = rw (z .submaps) (v .1); submaps = v .2 };
     }
 
 -- an accepted mapping meets every rule
@@ -177,8 +180,8 @@ pub multiplex-number : (known : Known) (m : Mapping) → ValidMapping known m �
 multiplex-number known m v = go (leb (length (m .submaps)) 1) refl
   where
     go : (t : Bool) → leb (length (m .submaps)) 1 ≡ t → length (m .multiplex) ≡ cond t 0 (known .channels)
-    go true e = let a : length (m .submaps) ≤ 1 = leb-true (length (m .submaps)) 1 e in let b = v .submaps-low in ap length (v .no-multiplex (omega arith))
-    go false e = let a : 1 < length (m .submaps) = leb-false (length (m .submaps)) 1 e in v .some-multiplex (omega arith)
+    go true e = let a : length (m .submaps) ≤ 1 = leb-true (length (m .submaps)) 1 e in let b = v .carried .submaps .low in ap length (v .carried .no-multiplex (omega arith))
+    go false e = let a : 1 < length (m .submaps) = leb-false (length (m .submaps)) 1 e in v .carried .some-multiplex (omega arith)
 
 pub multiplex-most : (known : Known) (m : Mapping) → known .channels ≤ 256 → ValidMapping known m → length (m .multiplex) ≤ 256
 multiplex-most known m h v = rw (multiplex-number known m v) (go (leb (length (m .submaps)) 1))
@@ -195,8 +198,8 @@ decode-mapping known m h v =
     let y = map suc (m .multiplex) in
     let z = rows submapRow (m .submaps) in
     let n = length (m .couplings) in
-    let a = v .coupling-count in
-    let b = v .submaps-high in
+    let a = v .carried .couplings in
+    let b = v .carried .submaps .high in
     let c = multiplex-most known m h v in
     let e : n % 256 + 256 * (n / 256) ≡ n = omega arith in
     let cs : pairs couplingOf (n % 256 + 256 * (n / 256)) (take 512 (drop 4 (mappingRow m))) ≡ m .couplings =

@@ -3,7 +3,7 @@ use Prim.Native.Nat.{ℕ, suc, _+_, _-_, _*_, _/_, _%_, _≤_, _<_}
 use native.Mathlib.Nat.{one-mul}
 use native.Mathlib.Omega.{arith}
 use borrow.Author.Needs.{needs}
-use borrow.Author.Tests.{lt-ltb, ltb-true, le-leb, leb-true, lt-leb, ne-eqb, eqb-false, not-true, not-false}
+use borrow.Author.Tests.{lt-ltb, ltb-true, le-leb, leb-true, lt-leb, not-true, not-false}
 use mathlib.Core.Bool.{Bool, true, false, not, cond}
 use mathlib.Core.List.{List, [], _∷_, _++_, map}
 use mathlib.Core.Logic.{_↔_}
@@ -20,7 +20,8 @@ use Rattle.reading.proofs.PairRows.{pair-laws}
 use Rattle.mapping.specs.Content.{Coupling, Submap, Mapping}
 use Rattle.mapping.specs.declared.Known.{Known}
 use Rattle.mapping.specs.Layout.{couplingRow, multiplexRow, submapRow, mappingRow}
-use Rattle.mapping.specs.inner.Valid.{ValidCoupling, ValidMultiplex, ValidSubmap, ValidMapping}
+use Rattle.mapping.specs.Rules.{Coupling11}
+use Rattle.mapping.specs.inner.Valid.{ValidMultiplex, ValidSubmap, ValidMapping}
 use Rattle.mapping.specs.inner.Decode.{couplingOf, submapOf}
 use Rattle.mapping_tables.specs.inner.Recognised.{MappingsRecognised, multiplexCount}
 use Rattle.mapping.proofs.RowLaws.{couplings-length, submaps-length, multiplex-rows, multiplex-length, multiplex-wide, mapping-wide, part-couplings, part-multiplex, part-submaps}
@@ -28,23 +29,22 @@ use Rattle.mapping.proofs.Laws.{each-all, all-each, sized-none, sized-some, cou
 
 -- the two numbers of a coupling step
 module _ (magnitude angle channels : ℕ) where
-  pub magnitude-high : channels ≤ magnitude → (false ≡ true) ↔ ValidCoupling channels (couplingOf magnitude angle)
-  magnitude-high h = iff-false (λ v. let b = v .magnitude in omega arith)
+  pub magnitude-high : channels ≤ magnitude → (false ≡ true) ↔ Coupling11 channels (couplingOf magnitude angle)
+  magnitude-high h = iff-false (λ v. let b = ltb-true magnitude channels (v .magnitude) in omega arith)
 
-  pub angle-high : channels ≤ angle → (false ≡ true) ↔ ValidCoupling channels (couplingOf magnitude angle)
-  angle-high h = iff-false (λ v. let b = v .angle in omega arith)
+  pub angle-high : channels ≤ angle → (false ≡ true) ↔ Coupling11 channels (couplingOf magnitude angle)
+  angle-high h = iff-false (λ v. let b = ltb-true angle channels (v .angle) in omega arith)
 
-  pub coupling-low : magnitude < channels → angle < channels → (not (eqb angle magnitude) ≡ true) ↔ ValidCoupling channels (couplingOf magnitude angle)
-  coupling-low h g =
-      ((λ e. record { magnitude = h; angle = g; different = eqb-false _ _ (not-true _ e) }), (λ v. rw (ne-eqb angle magnitude (v .different)) refl))
+  pub coupling-low : magnitude < channels → angle < channels → (not (eqb angle magnitude) ≡ true) ↔ Coupling11 channels (couplingOf magnitude angle)
+  coupling-low h g = ((λ e. record { magnitude = lt-ltb _ _ h; angle = lt-ltb _ _ g; coupled = e }), (λ v. v .coupled))
 
 -- the two numbers of a submap
 module _ (floor residue : ℕ) (known : Known) where
   pub floor-high : known .floors ≤ floor → (false ≡ true) ↔ ValidSubmap known (submapOf floor residue)
-  floor-high h = iff-false (λ v. let b = v .floor in omega arith)
+  floor-high h = iff-false (λ v. let b = ltb-true floor (known .floors) (v .floor) in omega arith)
 
   pub floor-low : floor < known .floors → (ltb residue (known .residues) ≡ true) ↔ ValidSubmap known (submapOf floor residue)
-  floor-low h = ((λ e. record { floor = h; residue = ltb-true _ _ e }), (λ v. lt-ltb _ _ (v .residue)))
+  floor-low h = ((λ e. record { floor = lt-ltb _ _ h; residue = e }), (λ v. v .residue))
 
 -- a multiplex number, which stands plus one
 module _ (number submaps : ℕ) where
@@ -52,7 +52,7 @@ module _ (number submaps : ℕ) where
   unfolding multiplexRow
   as-row r =
       let e : number ≡ suc (r .item) = ap (λ (l : List ℕ). getD l 0 0) (r .written) in
-      let v = r .valid .number in
+      let v = ltb-true (r .item) submaps (r .valid) in
       (omega arith, omega arith)
 
   pub multiplex-zero : number ≡ 0 → (false ≡ true) ↔ RowOf multiplexRow (ValidMultiplex submaps) (number ∷ [])
@@ -62,7 +62,7 @@ module _ (number submaps : ℕ) where
   unfolding multiplexRow
   multiplex-some h = (
     (λ e. let l : number ≤ submaps = leb-true number submaps e in let s : 1 ≤ number = omega (arith, h) in let q : number ≡ suc (number - 1) = omega arith in
-        record { item = number - 1; valid = record { number = omega arith }; written = ap (λ (x : ℕ). x ∷ []) q }),
+        record { item = number - 1; valid = lt-ltb (number - 1) submaps (omega arith); written = ap (λ (x : ℕ). x ∷ []) q }),
     (λ r. le-leb _ _ (as-row r .1)),
   )
 
@@ -131,24 +131,23 @@ pub record Parts (known : Known) (cells : List ℕ) (steps k : ℕ) : Type 0 whe
   pub some-submap : 1 ≤ k
   pub few-submaps : k ≤ 16
   pub zero : getD cells 3 0 ≡ 0
-  pub couplings : Encodes couplingRow (ValidCoupling (known .channels)) steps (take 512 (drop 4 cells))
+  pub couplings : Encodes couplingRow (Coupling11 (known .channels)) steps (take 512 (drop 4 cells))
   pub multiplex : Encodes multiplexRow (ValidMultiplex k) (multiplexCount k (known .channels)) (take 256 (drop 516 cells))
   pub submaps : Encodes submapRow (ValidSubmap known) k (take 32 (drop 772 cells))
 
 -- a mapping put together from valid parts is valid
 valid-made : (known : Known) (cs : List Coupling) (ms : List ℕ) (ss : List Submap) (steps submaps : ℕ) → length cs ≡ steps → steps ≤ 256
-    → Each (ValidCoupling (known .channels)) cs → length ms ≡ multiplexCount submaps (known .channels) → Each (ValidMultiplex submaps) ms
+    → Each (Coupling11 (known .channels)) cs → length ms ≡ multiplexCount submaps (known .channels) → Each (ValidMultiplex submaps) ms
     → length ss ≡ submaps → 1 ≤ submaps → submaps ≤ 16 → Each (ValidSubmap known) ss → ValidMapping known (record { couplings = cs; multiplex = ms; submaps = ss })
 valid-made known cs ms ss steps submaps nc h vc nm vm ns low high vs =
     record {
-      coupling-count = omega arith;
-      couplings = vc;
-      submaps-low = omega arith;
-      submaps-high = omega arith;
-      submaps = vs;
-      no-multiplex = λ e. sized-none submaps (known .channels) ms nm (omega arith);
-      some-multiplex = λ e. sized-some submaps (known .channels) ms nm (omega arith);
-      multiplex = rw ns (each-all submaps ms vm);
+      carried = record {
+        couplings = omega arith;
+        submaps = record { low = omega arith; high = omega arith };
+        no-multiplex = λ e. sized-none submaps (known .channels) ms nm (omega arith);
+        some-multiplex = λ e. sized-some submaps (known .channels) ms nm (omega arith);
+      };
+      rule11 = record { couplings = vc; multiplex = rw ns (each-all submaps ms vm); submaps = vs };
     }
 
 four : (cells : List ℕ) → 4 ≤ length cells → take 4 cells ≡ getD cells 0 0 ∷ getD cells 1 0 ∷ getD cells 2 0 ∷ getD cells 3 0 ∷ []
@@ -174,22 +173,22 @@ module _ (known : Known) (few : known .channels ≤ 255) where
       let e1 : getD cells 1 0 ≡ n / 256 = at 1 in
       let e2 : getD cells 2 0 ≡ k = at 2 in
       let e : getD cells 0 0 + 256 * getD cells 1 0 ≡ n = omega arith in
-      let a = v .coupling-count in
-      let b = v .submaps-low in
-      let c = v .submaps-high in
+      let a = v .carried .couplings in
+      let b = v .carried .submaps .low in
+      let c = v .carried .submaps .high in
       let lx = couplings-length (m .couplings) in
       let lz = submaps-length (m .submaps) in
       let ly : length (rows multiplexRow (m .multiplex)) ≡ length (m .multiplex) = ap length (multiplex-rows (m .multiplex)) ∙ multiplex-length (m .multiplex) in
       let my = multiplex-most known m (omega arith) v in
-      let all-below : Each (ValidMultiplex (getD cells 2 0)) (m .multiplex) = rw e2 (all-each k (m .multiplex) (v .multiplex)) in
+      let all-below : Each (ValidMultiplex (getD cells 2 0)) (m .multiplex) = rw e2 (all-each k (m .multiplex) (v .rule11 .multiplex)) in
       record {
         few-steps = omega arith;
         some-submap = omega arith;
         few-submaps = omega arith;
         zero = at 3;
         couplings =
-            rw e (encodes-pad couplingRow (ValidCoupling (known .channels)) n 512 (m .couplings) (take 512 (drop 4 cells))
-            (ap (λ (l : List ℕ). take 512 (drop 4 l)) w ∙ part-couplings (n % 256) (n / 256) k 0 x y z) refl (v .couplings) (omega arith));
+            rw e (encodes-pad couplingRow (Coupling11 (known .channels)) n 512 (m .couplings) (take 512 (drop 4 cells))
+            (ap (λ (l : List ℕ). take 512 (drop 4 l)) w ∙ part-couplings (n % 256) (n / 256) k 0 x y z) refl (v .rule11 .couplings) (omega arith));
         multiplex =
             encodes-pad multiplexRow (ValidMultiplex (getD cells 2 0)) (multiplexCount (getD cells 2 0) (known .channels)) 256 (m .multiplex) (take 256 (drop 516 cells))
             (ap (λ (l : List ℕ). take 256 (drop 516 l)) w ∙ part-multiplex (n % 256) (n / 256) k 0 x y z ∙ ap (pad 256) (sym (multiplex-rows (m .multiplex))))
@@ -197,7 +196,7 @@ module _ (known : Known) (few : known .channels ≤ 255) where
         submaps =
             rw e2 (encodes-pad submapRow (ValidSubmap known) k 32 (m .submaps) (take 32 (drop 772 cells))
             (ap (λ (l : List ℕ). take 32 (drop 772 l)) w ∙ ap (take 32) (part-submaps (n % 256) (n / 256) k 0 x y z) ∙ take-all 32 (pad 32 z) (let l = length-pad 32 z in omega arith))
-            refl (v .submaps) (omega arith));
+            refl (v .rule11 .submaps) (omega arith));
       }
 
   -- parts that stand make a row
@@ -266,7 +265,7 @@ module _ (known : Known) (cells : List ℕ) (long : length cells ≡ 804) (few :
   pub place-used : (getD cells 3 0 ≡ 0 → ⊥) → (false ≡ true) ↔ RowOf mappingRow (ValidMapping known) cells
   place-used h = iff-false (λ r. h (ps r .zero))
 
-  module _ {r₁ : Bool} (said₁ : (r₁ ≡ true) ↔ Encodes couplingRow (ValidCoupling (known .channels)) steps (take 512 (drop 4 cells))) where
+  module _ {r₁ : Bool} (said₁ : (r₁ ≡ true) ↔ Encodes couplingRow (Coupling11 (known .channels)) steps (take 512 (drop 4 cells))) where
     pub couplings-wrong : not r₁ ≡ true → (false ≡ true) ↔ RowOf mappingRow (ValidMapping known) cells
     couplings-wrong e = iff-false (λ r. not-said said₁ (not-true r₁ e) (ps r .couplings))
 

@@ -14,11 +14,12 @@ ghost use Rattle.reading.specs.Encoding.{RowOf, Encodes};
 ghost use Rattle.mapping.specs.inner.Decode.{couplingOf, submapOf};
 ghost use Rattle.mapping.specs.Layout.{couplingRow, multiplexRow, submapRow, mappingRow, mappingWidth};
 ghost use Rattle.mapping_tables.specs.inner.Recognised.{MappingsRecognised, multiplexCount};
-ghost use Rattle.mapping.specs.inner.Valid.{ValidCoupling, ValidMultiplex, ValidSubmap, ValidMapping};
+ghost use Rattle.mapping.specs.Rules.{Coupling11};
+ghost use Rattle.mapping.specs.inner.Valid.{ValidMultiplex, ValidSubmap, ValidMapping};
 
 // Whether the two numbers are a coupling step of so many channels.
 fn is_coupling(magnitude: u8, angle: u8, channels: u32) -> bool
-    ensures { λ r. ⌜ (r ≡ true) ↔ ValidCoupling channels (couplingOf magnitude angle) ⌝ }
+    ensures { λ r. ⌜ (r ≡ true) ↔ Coupling11 channels (couplingOf magnitude angle) ⌝ }
 {
     if (magnitude as u32) >= channels {
         return false;
@@ -31,7 +32,7 @@ fn is_coupling(magnitude: u8, angle: u8, channels: u32) -> bool
 
 fn are_couplings(part: &[u8], count: usize, channels: u32) -> bool
     requires { ⌜ count ≤ 256 ⌝ }
-    ensures { λ r. ⌜ (r ≡ true) ↔ Encodes couplingRow (ValidCoupling channels) count (now (part .entry)) ⌝ }
+    ensures { λ r. ⌜ (r ≡ true) ↔ Encodes couplingRow (Coupling11 channels) count (now (part .entry)) ⌝ }
 {
     if part.len() < 2 * count {
         return false;

@@ -2,7 +2,6 @@
 -- Assumes nothing.
 use Prim.Native.Nat.{ℕ, _+_, _*_, _≤_, _<_}
 use native.Mathlib.Omega.{arith}
-use borrow.Author.Tests.{ltb-true}
 use mathlib.Core.List.{List}
 use mathlib.Core.Path.{_≡_, refl, subst}
 use lib.Dec.{eqb, ltb}
@@ -45,7 +44,7 @@ mode-valid mappings s k x e =
     let f = field-ok s k 1 (flag .1) in
     let b = f .below in
     let same : _≡_ {A = Mode × ℕ} (record { blockflag = flag .0 .0; mapping = mapping .0 .0 }, mapping .0 .1) x = cc in
-    let valid : ValidMode mappings (record { blockflag = flag .0 .0; mapping = mapping .0 .0 }) = record { blockflag = omega arith; mapping = ltb-true _ _ (j .1) } in
+    let valid : ValidMode mappings (record { blockflag = flag .0 .0; mapping = mapping .0 .0 }) = record { carried = omega arith; rule11 = j .1 } in
     subst (λ (y : Mode × ℕ). ValidMode mappings (y .0)) same valid
 
 pub modes-valid : (mappings : ℕ) (s : List ℕ) (n k : ℕ) (x : List Mode × ℕ) → many (mode mappings) n s k ≡ ok x → (length (x .0) ≡ n) × Each (ValidMode mappings) (x .0)

@@ -2,7 +2,6 @@
 use Prim.Native.Nat.{ℕ, _≤_, _<_}
 use native.Mathlib.Omega.{arith}
 use borrow.Author.Needs.{needs}
-use borrow.Author.Tests.{lt-ltb, ltb-true}
 use mathlib.Core.Bool.{true, false}
 use mathlib.Core.Logic.{_↔_}
 use mathlib.Core.Path.{_≡_, refl}
@@ -20,10 +19,10 @@ mode-pairs = record { of = λ a b. refl; back = λ m. refl; wide = λ m. refl }
 -- the two numbers of a mode
 module _ (blockflag mapping mappings : ℕ) where
   pub flag-high : 1 < blockflag → (false ≡ true) ↔ ValidMode mappings (modeOf blockflag mapping)
-  flag-high h = iff-false (λ v. let b = v .blockflag in omega arith)
+  flag-high h = iff-false (λ v. let b = v .carried in omega arith)
 
   pub flag-low : blockflag ≤ 1 → (ltb mapping mappings ≡ true) ↔ ValidMode mappings (modeOf blockflag mapping)
-  flag-low h = ((λ e. record { blockflag = h; mapping = ltb-true _ _ e }), (λ v. lt-ltb _ _ (v .mapping)))
+  flag-low h = ((λ e. record { carried = h; rule11 = e }), (λ v. v .rule11))
 
 pub ruleset number-laws = (needs, flag-high, flag-low)
 

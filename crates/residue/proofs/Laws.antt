@@ -12,13 +12,16 @@ use Rattle.reading.specs.Outcome.{refusal, Outcome, ok, bad, then}
 use Rattle.reading.specs.Reader.{Reader, many, each}
 use Rattle.reading.specs.Pad.{pad}
 use Rattle.reading.specs.Lists.{all, rows}
+use Rattle.reading.specs.Encoding.{Each}
 use Rattle.reading.proofs.Outcomes.{same-ok, then-ok, need-ok}
 use Rattle.reading.proofs.Readers.{Long, many-long, each-long}
+use Rattle.reading.proofs.Accepted.{many-each}
 use Rattle.reading.proofs.Pads.{length-pad}
 use Rattle.residue.specs.Content.{Residue}
 use Rattle.residue.specs.Reading.{Books, cascade, passes, planBook, planRow, headFrom, head, residueFrom, residue, residueFits, withPlan}
 use Rattle.residue.specs.Layout.{headRow, planTable}
-use Rattle.residue.specs.Valid.{Rows8, ValidResidue, AllValid, AcceptedValid}
+use Rattle.residue.specs.Carried.{Rows8}
+use Rattle.residue.specs.inner.Valid.{ValidResidue, AcceptedValid}
 use Rattle.residue.specs.inner.Decode.{chunks, decodeResidue, decodeResidues}
 use Rattle.residue.proofs.PlanSound.{place-sound, row-read-long}
 use Rattle.residue.proofs.RowsLaws.{all-append, pad-cat}
@@ -42,15 +45,6 @@ module _ {A : Type 0} (P : A → Type 0) (All : List A → Type 0) (none : All [
       let c = then-ok (each r l s (a .0 .1)) (λ y. ok (a .0 .0 ∷ y .0, y .1)) (a .2) in
       let g : _≡_ {A = List A × ℕ} (a .0 .0 ∷ c .0 .0, c .0 .1) y = same-ok (ok (a .0 .0 ∷ c .0 .0, c .0 .1)) refl (c .2) in
       rw (ap (λ (z : List A × ℕ). z .0) (sym g)) (more (a .0 .0) (c .0 .0) (f b k (a .0) (a .1)) (each-all r s f l (a .0 .1) (c .0) (c .1)))
-
-  pub many-all : (r : Reader A) (s : List ℕ) → ((k : ℕ) (x : A × ℕ) → r s k ≡ ok x → P (x .0)) → (n k : ℕ) (y : List A × ℕ) → many r n s k ≡ ok y → All (y .0)
-  unfolding many
-  many-all r s f zero k y e = let g : _≡_ {A = List A × ℕ} ([], k) y = same-ok (ok ([], k)) refl e in rw (ap (λ (z : List A × ℕ). z .0) (sym g)) none
-  many-all r s f (suc n) k y e =
-      let a = then-ok (r s k) (λ x. then (many r n s (x .1)) (λ y. ok (x .0 ∷ y .0, y .1))) e in
-      let c = then-ok (many r n s (a .0 .1)) (λ y. ok (a .0 .0 ∷ y .0, y .1)) (a .2) in
-      let g : _≡_ {A = List A × ℕ} (a .0 .0 ∷ c .0 .0, c .0 .1) y = same-ok (ok (a .0 .0 ∷ c .0 .0, c .0 .1)) refl (c .2) in
-      rw (ap (λ (z : List A × ℕ). z .0) (sym g)) (more (a .0 .0) (c .0 .0) (f k (a .0) (a .1)) (many-all r s f n (a .0 .1) (c .0) (c .1)))
 
 -- the list that was read is as long as what was asked for
 module _ {A : Type 0} where
@@ -94,18 +88,17 @@ residue-valid books s k x e =
     long-ok (length (b .0 .0)) (each (planRow (books .count)) (b .0 .0) s (b .0 .1)) (each-long (planRow (books .count)) (b .0 .0) s (b .0 .1)) (c .0) (c .1) in
     let valid : ValidResidue books (withPlan (a .0 .0) (c .0 .0)) =
     record {
-      type = h .type;
-      begin = h .begin;
-      end = h .end;
-      size-low = h .size-low;
-      size-high = h .size-high;
-      classes-low = h .classes-low;
-      classes-high = h .classes-high;
-      classbook = h .classbook;
-      plan = n ∙ m;
-      passes = rows8 (b .0 .0) (b .0 .1) (c .0) (c .1);
-      set-up = set-up (b .0 .0) (b .0 .1) (c .0) (c .1);
-      fits = d .0;
+      carried = record {
+        begin = h .begin;
+        end = h .end;
+        size = h .size;
+        classifications = h .classifications;
+        plan = n ∙ m;
+        passes = rows8 (b .0 .0) (b .0 .1) (c .0) (c .1);
+      };
+      rule10 = h .type;
+      rule11 = record { classbook = h .classbook; plan = set-up (b .0 .0) (b .0 .1) (c .0) (c .1) };
+      rule13 = d .0;
     } in
     rw (ap (λ (z : Residue × ℕ). z .0) (sym g)) valid
   where
@@ -131,17 +124,8 @@ residue-valid books s k x e =
         s
         (λ c j y f. row-set-up (books .count) c s j y f)
 
-pub residues-valid : (books : Books) (s : List ℕ) (n k : ℕ) (y : List Residue × ℕ) → many (residue books) n s k ≡ ok y → AllValid books (y .0)
-unfolding AllValid
-residues-valid books s =
-    many-all
-    (ValidResidue books)
-    (AllValid books)
-    tt
-    (λ r l h g. (h, g))
-    (residue books)
-    s
-    (λ k x e. residue-valid books s k x e)
+pub residues-valid : (books : Books) (s : List ℕ) (n k : ℕ) (y : List Residue × ℕ) → many (residue books) n s k ≡ ok y → Each (ValidResidue books) (y .0)
+residues-valid books s n k y e = many-each (residue books) s (ValidResidue books) (residue-valid books s) n k e
 
 pub accepted-valid : (books : Books) (n : ℕ) (s : List ℕ) (k : ℕ) → AcceptedValid books n s k
 accepted-valid books n s k = record { valid = λ x e. residues-valid books s n k x e }
@@ -164,9 +148,9 @@ rows8-long (row ∷ plan) r = let a = r .0 in let b = rows8-long plan (r .1) in 
 pub planTable-is : (books : Books) (r : Residue) → ValidResidue books r → planTable r ≡ rows (λ row. row) (r .plan) ++ pad (512 - 8 * r .classifications) []
 unfolding planTable
 planTable-is books r v =
-    let a = rows8-long (r .plan) (v .passes) in
-    let b = v .plan in
-    let c = v .classes-high in
+    let a = rows8-long (r .plan) (v .carried .passes) in
+    let b = v .carried .plan in
+    let c = v .carried .classifications .high in
     ap (pad 512) (sym (append-nil (rows (λ row. row) (r .plan)))) ∙ pad-cat 512 (rows (λ row. row) (r .plan)) [] (512 - 8 * r .classifications) (omega arith)
 
 -- one row for one content: a residue is decoded from its rows, whatever follows them
@@ -176,17 +160,17 @@ decode-rows books r v h p =
     let e : chunks (r .classifications) (planTable r ++ p) ≡ r .plan =
     ap (λ (l : List ℕ). chunks (r .classifications) (l ++ p)) (planTable-is books r v)
     ∙ ap (chunks (r .classifications)) (append-assoc (rows (λ row. row) (r .plan)) (pad (512 - 8 * r .classifications) []) p)
-    ∙ ap (λ (n : ℕ). chunks n (rows (λ row. row) (r .plan) ++ (pad (512 - 8 * r .classifications) [] ++ p))) (sym (v .plan))
-    ∙ chunks-rows (r .plan) (pad (512 - 8 * r .classifications) [] ++ p) (v .passes) in
+    ∙ ap (λ (n : ℕ). chunks n (rows (λ row. row) (r .plan) ++ (pad (512 - 8 * r .classifications) [] ++ p))) (sym (v .carried .plan))
+    ∙ chunks-rows (r .plan) (pad (512 - 8 * r .classifications) [] ++ p) (v .carried .passes) in
     λ j. record { type = r .type; begin = r .begin; end = r .end; size = r .size; classifications = r .classifications; classbook = r .classbook; plan = e j }
 
 pub decode-row : (books : Books) (r : Residue) → ValidResidue books r → decodeResidue (headRow r) (planTable r) ≡ r
 decode-row books r v = (λ j. decodeResidue (sym (append-nil (headRow r)) j) (sym (append-nil (planTable r)) j)) ∙ decode-rows books r v [] []
 
 -- residues are decoded from their tables, whatever the length of these
-pub decode-residues : (books : Books) (rs : List Residue) (n a b : ℕ) → length rs ≡ n → AllValid books rs → 6 * n ≤ a → 512 * n ≤ b
+pub decode-residues : (books : Books) (rs : List Residue) (n a b : ℕ) → length rs ≡ n → Each (ValidResidue books) rs → 6 * n ≤ a → 512 * n ≤ b
     → decodeResidues n (pad a (rows headRow rs)) (pad b (rows planTable rs)) ≡ rs
-unfolding decodeResidues rows AllValid
+unfolding decodeResidues rows Each
 decode-residues books [] zero a b e v h g = refl
 decode-residues books [] (suc n) a b e v h g = absurd (omega arith)
 decode-residues books (r ∷ rs) zero a b e v h g = absurd (omega arith)

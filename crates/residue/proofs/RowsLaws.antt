@@ -9,7 +9,7 @@ use lib.ListN.{length, getD, take, length-append}
 use lib.Seq.{take-suc}
 use Rattle.reading.specs.Pad.{pad}
 use Rattle.reading.specs.Lists.{all, rows}
-use Rattle.residue.specs.Valid.{Rows8}
+use Rattle.residue.specs.Carried.{Rows8}
 use Rattle.residue.specs.inner.Plans.{Grid}
 
 pub row-long : (l : List (List ℕ)) (i : ℕ) → Rows8 l → i < length l → length (getD l i []) ≡ 8

@@ -1,6 +1,7 @@
 pub mod Content
 pub mod Reading
 pub mod Layout
-pub mod Valid
+pub mod Carried
+pub mod Rules
 pub mod Vectors
 pub mod inner

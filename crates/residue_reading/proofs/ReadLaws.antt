@@ -27,7 +27,7 @@ use Rattle.residue.specs.inner.Heads.{headNumbers}
 use Rattle.residue.specs.Layout.{Tables, headRow, planTable, putResidue}
 use Rattle.residue.specs.inner.Plans.{Grid, headFits, tablesAt}
 use Rattle.residue_reading.specs.inner.Slots.{padWith}
-use Rattle.residue.specs.Valid.{Rows8}
+use Rattle.residue.specs.Carried.{Rows8}
 use Rattle.residue.proofs.RowsLaws.{pad-cat}
 use Rattle.residue.proofs.PlanSound.{row-read-long}
 use Rattle.residue_reading.proofs.SlotLaws.{take-padWith, Filling, fill-start, fill-next, fill-refused, fill-done}

@@ -54,7 +54,7 @@ module _ (t : List ℕ) (count : ℕ) (s : List ℕ) (k : Cursor) (T U : Tables)
     unfolding residue residueFrom
     residue-rest {k₂} q₁ x =
         let m = mapped-ok (padWith 0 64) (many cascade classes s (position k₁)) (wrote-ok w q₁) in
-        let few = head-sound count s (position k) (head-is p q) .classes-high in
+        let few = head-sound count s (position k) (head-is p q) .classifications .high in
         let l : length (m .0) ≡ classes = long (many cascade classes s (position k₁)) (many-long cascade classes s (position k₁)) (m .1) in
         let f : take (h .classifications) numbers ≡ m .0 =
         ap (λ (j : ℕ). take j numbers) (sym e ∙ sym l) ∙ ap (take (length (m .0))) (sym (m .2)) ∙ take-padWith 0 64 (m .0) (omega arith) in
@@ -67,11 +67,11 @@ module _ (t : List ℕ) (count : ℕ) (s : List ℕ) (k : Cursor) (T U : Tables)
 
 -- what the calls ask
 pub classes-few : (count : ℕ) (s : List ℕ) (k : Cursor) {r : HeadRead} → headRead r ≡ head count s (position k) → {h : D.Head} {c : Cursor} → r ≡ H.Value h c → h .classifications ≤ 64
-classes-few count s k p q = head-sound count s (position k) (head-is p q) .classes-high
+classes-few count s k p q = head-sound count s (position k) (head-is p q) .classifications .high
 
 pub wide-few : (count : ℕ) (s : List ℕ) (k : Cursor) {r : HeadRead} → headRead r ≡ head count s (position k) → {h : D.Head} {c : Cursor} → r ≡ H.Value h c
     → {classes : ℕ} → classes ≡ h .classifications → classes ≤ 64
-wide-few count s k p q e = let few = head-sound count s (position k) (head-is p q) .classes-high in omega arith
+wide-few count s k p q e = let few = head-sound count s (position k) (head-is p q) .classifications .high in omega arith
 
 pub cascades-long : (classes : ℕ) (s : List ℕ) (k : Cursor) {st : Step} {numbers : List ℕ} → Wrote (mapped (padWith 0 64) (many cascade classes s (position k))) st numbers
     → {c : Cursor} → st ≡ Next c → length numbers ≡ 64

@@ -21,7 +21,7 @@ ghost use Rattle.residue.specs.Layout.{putResidue};
 ghost use Rattle.residue.specs.inner.FromTable.{booksOf};
 ghost use Rattle.residue.specs.inner.Heads.{headOf, headNumbers};
 ghost use Rattle.residue.specs.inner.Plans.{tablesAt};
-ghost use Rattle.residue.specs.Valid.{AcceptedValid};
+ghost use Rattle.residue.specs.inner.Valid.{AcceptedValid};
 
 fn write_head(residues: &mut [u32], at: usize, head: Head)
     ensures { λ _. ⌜ now (residues .exit) ≡ sets (now (residues .entry)) at (headNumbers (headOf head)) ⌝ }

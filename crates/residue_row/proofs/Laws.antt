@@ -13,7 +13,8 @@ use Rattle.reading.proofs.Stored.{Stored, stored-number, rows-stored}
 use Rattle.residue.specs.Content.{Residue}
 use Rattle.residue.specs.Reading.{Books}
 use Rattle.residue.specs.Layout.{headWidth, planWidth, headRow, planTable}
-use Rattle.residue.specs.Valid.{Rows8, ValidResidue}
+use Rattle.residue.specs.Carried.{Rows8}
+use Rattle.residue.specs.inner.Valid.{ValidResidue}
 use Rattle.residue.specs.inner.Decode.{headAt}
 use Rattle.residue.specs.inner.Heads.{headOf}
 use Rattle.residue.specs.declared.head.Head as D
@@ -78,7 +79,7 @@ module _ {residues plans : List ℕ} {i : ℕ} {r : Residue} (l : ResidueStored 
       → getD plans (planWidth * i + (8 * class + pass)) 0 ≡ getD (getD (r .plan) class []) pass 0
   unfolding planTable
   plan-place-is v class pass c p =
-      let high = v .classes-high in
-      let many = v .plan in
+      let high = v .carried .classifications .high in
+      let many = v .carried .plan in
       stored-number 512 (rows (λ row. row) (r .plan)) (l .plan) (8 * class + pass) (omega arith)
-      ∙ rows8-at (r .plan) (v .passes) class pass (8 * class + pass) (omega arith) p refl
+      ∙ rows8-at (r .plan) (v .carried .passes) class pass (8 * class + pass) (omega arith) p refl

@@ -11,12 +11,14 @@ use lib.ListN.{length, take, drop, length-drop, take-append-drop}
 use lib.Seq.{take-at, drop-at, take-add, length-take-le}
 use Rattle.reading.specs.Pad.{pad}
 use Rattle.reading.specs.Lists.{all, rows}
+use Rattle.reading.specs.Encoding.{Each}
 use Rattle.reading.proofs.Least.{and-split}
 use Rattle.reading.proofs.Pads.{length-pad}
 use Rattle.residue.specs.Content.{Residue}
 use Rattle.residue.specs.Reading.{Books, Head, placeFits, residueFits}
 use Rattle.residue.specs.Layout.{headRow, planTable}
-use Rattle.residue.specs.Valid.{Rows8, ValidResidue, AllValid}
+use Rattle.residue.specs.Carried.{Rows8}
+use Rattle.residue.specs.inner.Valid.{ValidResidue}
 use Rattle.residue.specs.inner.Plans.{headFits}
 use Rattle.residue.specs.inner.Decode.{chunks, headAt, decodeResidue, decodeResidues}
 use Rattle.residue_tables.specs.inner.Recognised.{Holds, ResiduesRecognised, OneContent, headTest, placesTest, residueTest, residuesTest}
@@ -104,18 +106,17 @@ tested books h p room room-p e =
     let sum : 8 * c + (512 - 8 * c) ≡ 512 = omega arith in
     record {
       valid = record {
-        type = leb-true (hd .type) 2 (a₁ .0);
-        begin = ltb-true (hd .begin) (2 ^ 24) (a₂ .0);
-        end = ltb-true (hd .end) (2 ^ 24) (a₃ .0);
-        size-low = leb-true 1 (hd .size) (a₄ .0);
-        size-high = leb-true (hd .size) (2 ^ 24) (a₅ .0);
-        classes-low = leb-true 1 c (a₆ .0);
-        classes-high = few;
-        classbook = ltb-true (hd .classbook) (books .count) (a₈ .0);
-        plan = chunks-long c p;
-        passes = chunks-8 c p (omega arith);
-        set-up = rw r (b₁ .0);
-        fits = both (f .0) (both (f .1) (rw r (b₂ .0)));
+        carried = record {
+          begin = ltb-true (hd .begin) (2 ^ 24) (a₂ .0);
+          end = ltb-true (hd .end) (2 ^ 24) (a₃ .0);
+          size = record { low = leb-true 1 (hd .size) (a₄ .0); high = leb-true (hd .size) (2 ^ 24) (a₅ .0) };
+          classifications = record { low = leb-true 1 c (a₆ .0); high = few };
+          plan = chunks-long c p;
+          passes = chunks-8 c p (omega arith);
+        };
+        rule10 = a₁ .0;
+        rule11 = record { classbook = a₈ .0; plan = rw r (b₁ .0) };
+        rule13 = both (f .0) (both (f .1) (rw r (b₂ .0)));
       };
       head-row = six h p room;
       plan-row =
@@ -130,11 +131,12 @@ tested books h p room room-p e =
 residue-passes : (books : Books) (r : Residue) → ValidResidue books r → (h p : List ℕ) → residueTest books (headRow r ++ h) (planTable r ++ p) ≡ true
 unfolding residueTest headTest headRow residueFits
 residue-passes books r v h p =
-    let f = and-split (leb (r .begin) (r .end)) _ (v .fits) in
+    let w = v .carried in
+    let f = and-split (leb (r .begin) (r .end)) _ (v .rule13) in
     let g = and-split (leb (r .classifications ^ books .dimensions (r .classbook)) (books .entries (r .classbook))) _ (f .1) in
     let z : List ℕ = pad (512 - 8 * r .classifications) [] in
     let whole : planTable r ++ p ≡ rows (λ row. row) (r .plan) ++ (z ++ p) = ap (λ (l : List ℕ). l ++ p) (planTable-is books r v) ∙ append-assoc (rows (λ row. row) (r .plan)) z p in
-    let long : length (rows (λ row. row) (r .plan)) ≡ 8 * r .classifications = rows8-long (r .plan) (v .passes) ∙ ap (λ (n : ℕ). 8 * n) (v .plan) in
+    let long : length (rows (λ row. row) (r .plan)) ≡ 8 * r .classifications = rows8-long (r .plan) (w .passes) ∙ ap (λ (n : ℕ). 8 * n) (w .plan) in
     let front : take (8 * r .classifications) (planTable r ++ p) ≡ rows (λ row. row) (r .plan) =
     ap (take (8 * r .classifications)) whole ∙ take-at (rows (λ row. row) (r .plan)) (z ++ p) (8 * r .classifications) long in
     let back : take (512 - 8 * r .classifications) (drop (8 * r .classifications) (planTable r ++ p)) ≡ z =
@@ -142,12 +144,12 @@ residue-passes books r v h p =
     ∙ ap (take (512 - 8 * r .classifications)) (drop-at (rows (λ row. row) (r .plan)) (z ++ p) (8 * r .classifications) long)
     ∙ take-at z p (512 - 8 * r .classifications) (length-pad (512 - 8 * r .classifications) []) in
     rw
-    (le-leb (r .type) 2 (v .type), lt-ltb (r .begin) (2 ^ 24) (v .begin), lt-ltb (r .end) (2 ^ 24) (v .end), le-leb 1 (r .size) (v .size-low), le-leb (r .size) (2 ^ 24) (v .size-high), le-leb 1 (r .classifications) (v .classes-low), le-leb (r .classifications) 64 (v .classes-high), lt-ltb (r .classbook) (books .count) (v .classbook), f .0, g .0, front, v .set-up, g .1, back)
+    (v .rule10, lt-ltb (r .begin) (2 ^ 24) (w .begin), lt-ltb (r .end) (2 ^ 24) (w .end), le-leb 1 (r .size) (w .size .low), le-leb (r .size) (2 ^ 24) (w .size .high), le-leb 1 (r .classifications) (w .classifications .low), le-leb (r .classifications) 64 (w .classifications .high), v .rule11 .classbook, f .0, g .0, front, v .rule11 .plan, g .1, back)
     (pad-zeros (512 - 8 * r .classifications))
 
 -- tables that pass hold a content
 content : (books : Books) (n : ℕ) (h p : List ℕ) → 6 * n ≤ length h → 512 * n ≤ length p → residuesTest books n h p ≡ true → (rs : List Residue) × Holds books n h p rs
-unfolding residuesTest rows AllValid
+unfolding residuesTest rows Each
 content books zero h p room room-p e =
     let a = and-split (all (λ b. eqb b 0) h) (all (λ b. eqb b 0) p) e in
     ([], record { count = refl; valid = tt; head-rows = sym (zeros-pad h (length h) refl (a .0)); plan-rows = sym (zeros-pad p (length p) refl (a .1)) })
@@ -174,9 +176,9 @@ content books (suc n) h p room room-p e =
     )
 
 -- tables that hold a content pass
-passes-all : (books : Books) (rs : List Residue) (n a b : ℕ) → length rs ≡ n → AllValid books rs → 6 * n ≤ a → 512 * n ≤ b
+passes-all : (books : Books) (rs : List Residue) (n a b : ℕ) → length rs ≡ n → Each (ValidResidue books) rs → 6 * n ≤ a → 512 * n ≤ b
     → residuesTest books n (pad a (rows headRow rs)) (pad b (rows planTable rs)) ≡ true
-unfolding residuesTest rows AllValid
+unfolding residuesTest rows Each
 passes-all books [] zero a b e v h g = both (pad-zeros a) (pad-zeros b)
 passes-all books [] (suc n) a b e v h g = absurd (omega arith)
 passes-all books (r ∷ rs) zero a b e v h g = absurd (omega arith)

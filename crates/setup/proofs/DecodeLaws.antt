@@ -34,7 +34,6 @@ use Rattle.setup.specs.Content.{Setup, booksKnown, known}
 use Rattle.setup.specs.Layout.{Tables}
 use Rattle.setup.specs.inner.Decode.{decodeRows, decodeSetup}
 use Rattle.setup.specs.Sound.{Sound, OneContent}
-use Rattle.setup.proofs.EachLaws.{each-residues}
 use Rattle.setup.proofs.WrittenLaws.{sound-facts}
 
 -- items are decoded from their rows
@@ -97,7 +96,7 @@ module _ {limits : Limits} {channels : ℕ} {t : Tables} (x : Sound limits chann
       sym
       ((λ j. decodeResidues (getD (t .counts) 2 0) (w .residues j) (w .plans j))
       ∙ decode-residues (booksKnown (c .books)) (c .residues) (getD (t .counts) 2 0) (length (t .residues)) (length (t .plans)) (sym n)
-      (each-residues (booksKnown (c .books)) (c .residues) (p .valid .residues)) (omega arith) (omega arith))
+      (p .valid .residues) (omega arith) (omega arith))
 
   -- a mapping's row has a place for each of 256 channels
   mappings-decoded : c .mappings ≡ decodeRows 804 decodeMapping (getD (t .counts) 3 0) (t .mappings)

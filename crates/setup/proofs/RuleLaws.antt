@@ -2,7 +2,8 @@
 -- and put together; the books' totals so far against those of all by induction along the books. Assumes nothing.
 use Prim.Native.Nat.{ℕ, _+_, _≤_}
 use native.Mathlib.Omega.{arith}
-use borrow.Author.Tests.{ltb-true, lt-ltb, leb-true, le-leb, eqb-false, ne-eqb, not-true}
+use borrow.Author.Tests.{leb-true, le-leb, eqb-false, ne-eqb, not-true}
+use mathlib.Core.Bool.{Bool, true, not}
 use mathlib.Core.List.{List, [], _∷_, map}
 use lib.Dec.{eqb}
 use lib.ListN.{length}
@@ -19,17 +20,10 @@ use Rattle.floor_class.specs.Content.{Class}
 use Rattle.floor.specs.Content.{Floor}
 use Rattle.floor_class.specs.inner.Valid.{ValidClass, ValidClasses}
 use Rattle.floor.specs.inner.Valid.{ValidFloor}
-use Rattle.residue.specs.Content.{Residue}
-use Rattle.residue.specs.Reading.{Books}
-use Rattle.residue.specs.Valid.{ValidResidue}
-use Rattle.mapping.specs.Content.{Coupling, Submap, Mapping}
-use Rattle.mapping.specs.declared.Known.{Known}
-use Rattle.mapping.specs.inner.Valid.{ValidCoupling, ValidSubmap, ValidMapping}
-use Rattle.mode.specs.Content.{Mode}
-use Rattle.mode.specs.inner.Valid.{ValidMode}
+use Rattle.residue.specs.Rules.{Rule10, Residue11, Rule13}
 use Rattle.setup.specs.Content.{Setup, booksKnown, known}
-use Rattle.setup.specs.Carried.{Counted, CarriedClass, CarriedFloor, CarriedResidue, CarriedMapping, CarriedMode, Carried}
-use Rattle.setup.specs.Rules.{Rule10, Class11, Residue11, Coupling11, Submap11, Mapping11, Mode11, Rule11, Rule12, Rule13, entriesInAll, multiplicandsInAll, Rule14, MeetsRules}
+use Rattle.setup.specs.Carried.{CarriedClass, CarriedFloor, Carried}
+use Rattle.setup.specs.Rules.{Class11, Rule11, Rule12, entriesInAll, multiplicandsInAll, Rule14, MeetsRules}
 use Rattle.setup.specs.inner.Valid.{ValidSetup}
 use Rattle.setup.specs.Layout.{Tables}
 use Rattle.setup.specs.Sound.{Sound}
@@ -143,98 +137,10 @@ module _ (books : ℕ) where
         different = r .1 .different;
       }
 
--- residues
-module _ (books : Books) where
-  residue-carried : (r : Residue) → ValidResidue books r → CarriedResidue r
-  residue-carried r v =
-      record {
-        begin = v .begin;
-        end = v .end;
-        size = record { low = v .size-low; high = v .size-high };
-        classifications = record { low = v .classes-low; high = v .classes-high };
-        plan = v .plan;
-        passes = v .passes;
-      }
-
-  residue-10 : (r : Residue) → ValidResidue books r → Rule10 r
-  residue-10 r v = le-leb _ _ (v .type)
-
-  residue-11 : (r : Residue) → ValidResidue books r → Residue11 (books .count) r
-  residue-11 r v = record { classbook = lt-ltb _ _ (v .classbook); plan = v .set-up }
-
-  residue-valid : (r : Residue) → CarriedResidue r → Rule10 r × (Residue11 (books .count) r × Rule13 books r) → ValidResidue books r
-  residue-valid r c x =
-      record {
-        type = leb-true _ _ (x .0);
-        begin = c .begin;
-        end = c .end;
-        size-low = c .size .low;
-        size-high = c .size .high;
-        classes-low = c .classifications .low;
-        classes-high = c .classifications .high;
-        classbook = ltb-true _ _ (x .1 .0 .classbook);
-        plan = c .plan;
-        passes = c .passes;
-        set-up = x .1 .0 .plan;
-        fits = x .1 .1;
-      }
-
--- mappings
-module _ (k : Known) where
-  coupling-11 : (c : Coupling) → ValidCoupling (k .channels) c → Coupling11 (k .channels) c
-  coupling-11 c v = record { magnitude = lt-ltb _ _ (v .magnitude); angle = lt-ltb _ _ (v .angle); coupled = rw (ne-eqb (c .angle) (c .magnitude) (v .different)) }
-
-  coupling-valid : (c : Coupling) → Coupling11 (k .channels) c → ValidCoupling (k .channels) c
-  coupling-valid c r =
-      record { magnitude = ltb-true _ _ (r .magnitude); angle = ltb-true _ _ (r .angle); different = eqb-false (c .angle) (c .magnitude) (not-true (eqb (c .angle) (c .magnitude)) (r .coupled)) }
-
-  submap-11 : (m : Submap) → ValidSubmap k m → Submap11 (k .floors) (k .residues) m
-  submap-11 m v = record { floor = lt-ltb _ _ (v .floor); residue = lt-ltb _ _ (v .residue) }
-
-  submap-valid : (m : Submap) → Submap11 (k .floors) (k .residues) m → ValidSubmap k m
-  submap-valid m r = record { floor = ltb-true _ _ (r .floor); residue = ltb-true _ _ (r .residue) }
-
-  mapping-carried : (m : Mapping) → ValidMapping k m → CarriedMapping (k .channels) m
-  mapping-carried m v =
-      record {
-        couplings = v .coupling-count;
-        submaps = record { low = v .submaps-low; high = v .submaps-high };
-        no-multiplex = v .no-multiplex;
-        some-multiplex = v .some-multiplex;
-      }
-
-  mapping-11 : (m : Mapping) → ValidMapping k m → Mapping11 (k .channels) (k .floors) (k .residues) m
-  mapping-11 m v =
-      record { couplings = each-map coupling-11 (m .couplings) (v .couplings); multiplex = v .multiplex; submaps = each-map submap-11 (m .submaps) (v .submaps) }
-
-  mapping-valid : (m : Mapping) → CarriedMapping (k .channels) m → Mapping11 (k .channels) (k .floors) (k .residues) m → ValidMapping k m
-  mapping-valid m c r =
-      record {
-        coupling-count = c .couplings;
-        couplings = each-map coupling-valid (m .couplings) (r .couplings);
-        submaps-low = c .submaps .low;
-        submaps-high = c .submaps .high;
-        submaps = each-map submap-valid (m .submaps) (r .submaps);
-        no-multiplex = c .no-multiplex;
-        some-multiplex = c .some-multiplex;
-        multiplex = r .multiplex;
-      }
-
--- modes
-module _ (mappings : ℕ) where
-  mode-valid : (m : Mode) → CarriedMode m → Mode11 mappings m → ValidMode mappings m
-  mode-valid m c r = record { blockflag = c; mapping = ltb-true _ _ r }
-
-  mode-11 : (m : Mode) → ValidMode mappings m → Mode11 mappings m
-  mode-11 m v = lt-ltb _ _ (v .mapping)
-
 abbrev none : Before
 none = record { entries = 0; values = 0 }
 
 module _ (limits : Limits) (channels : ℕ) (c : Setup) where
-  abbrev kn : Known
-  kn = known channels (c .floors) (c .residues)
-
   -- A VALID CONTENT CAN BE CARRIED, for so many channels as a packet names
   pub valid-carried : channels ≤ 255 → ValidSetup limits channels c → Carried channels c
   unfolding known
@@ -246,11 +152,11 @@ module _ (limits : Limits) (channels : ℕ) (c : Setup) where
         floor-count = v .floor-count;
         floors = each-map (floor-carried (length (c .books))) (c .floors) (v .floors);
         residue-count = v .residue-count;
-        residues = each-map (residue-carried (booksKnown (c .books))) (c .residues) (v .residues);
+        residues = each-map (λ r x. x .carried) (c .residues) (v .residues);
         mapping-count = v .mapping-count;
-        mappings = each-map (mapping-carried kn) (c .mappings) (v .mappings);
+        mappings = each-map (λ m x. x .carried) (c .mappings) (v .mappings);
         mode-count = v .mode-count;
-        modes = each-map (λ m x. x .blockflag) (c .modes) (v .modes);
+        modes = each-map (λ m x. x .carried) (c .modes) (v .modes);
       }
 
   -- AND MEETS THE RULES
@@ -262,15 +168,15 @@ module _ (limits : Limits) (channels : ℕ) (c : Setup) where
         rule6 = books-each limits (λ before b x. x .rule6) none (c .books) (v .books);
         rule7 = books-each limits (λ before b x. x .rule7) none (c .books) (v .books);
         rule8 = books-each limits (λ before b x. x .rule8) none (c .books) (v .books);
-        rule10 = each-map (residue-10 (booksKnown (c .books))) (c .residues) (v .residues);
+        rule10 = each-map (λ r x. x .rule10) (c .residues) (v .residues);
         rule11 = record {
           floors = each-map (floor-11 (length (c .books))) (c .floors) (v .floors);
-          residues = each-map (residue-11 (booksKnown (c .books))) (c .residues) (v .residues);
-          mappings = each-map (mapping-11 kn) (c .mappings) (v .mappings);
-          modes = each-map (mode-11 (length (c .mappings))) (c .modes) (v .modes);
+          residues = each-map (λ r x. x .rule11) (c .residues) (v .residues);
+          mappings = each-map (λ m x. x .rule11) (c .mappings) (v .mappings);
+          modes = each-map (λ m x. x .rule11) (c .modes) (v .modes);
         };
         rule12 = each-map (floor-12 (length (c .books))) (c .floors) (v .floors);
-        rule13 = each-map (λ r x. x .fits) (c .residues) (v .residues);
+        rule13 = each-map (λ r x. x .rule13) (c .residues) (v .residues);
         rule14 = record {
           book = books-each limits (λ before b x. x .rule14) none (c .books) (v .books);
           entries = le-leb (0 + entriesInAll (c .books)) (limits .entries) (w .0);
@@ -291,12 +197,13 @@ module _ (limits : Limits) (channels : ℕ) (c : Setup) where
         floors = each-both (floor-valid (length (c .books))) (c .floors) (d .floors) (each-both (λ f x y. (x, y)) (c .floors) (r .rule11 .floors) (r .rule12));
         residue-count = d .residue-count;
         residues =
-            each-both (residue-valid (booksKnown (c .books))) (c .residues) (d .residues)
+            each-both {Q = λ a. Rule10 a × (Residue11 (length (c .books)) a × Rule13 (booksKnown (c .books)) a)} (λ a x y. record { carried = x; rule10 = y .0; rule11 = y .1 .0; rule13 = y .1 .1 })
+            (c .residues) (d .residues)
             (each-both (λ a x y. (x, y)) (c .residues) (r .rule10) (each-both (λ a x y. (x, y)) (c .residues) (r .rule11 .residues) (r .rule13)));
         mapping-count = d .mapping-count;
-        mappings = each-both (mapping-valid kn) (c .mappings) (d .mappings) (r .rule11 .mappings);
+        mappings = each-both (λ m x y. record { carried = x; rule11 = y }) (c .mappings) (d .mappings) (r .rule11 .mappings);
         mode-count = d .mode-count;
-        modes = each-both (mode-valid (length (c .mappings))) (c .modes) (d .modes) (r .rule11 .modes);
+        modes = each-both (λ m x y. record { carried = x; rule11 = y }) (c .modes) (d .modes) (r .rule11 .modes);
       }
 
 -- so the content of sound tables is valid

@@ -8,19 +8,14 @@ use lib.Dec.{ltb, leb}
 use lib.ListN.{length}
 use Rattle.reading.specs.Lists.{all}
 use Rattle.reading.specs.Encoding.{Each}
+use Rattle.reading.specs.Counted.{Counted}
 use Rattle.book_reading.specs.Carried.{CarriedBook}
 use Rattle.floor_class.specs.Content.{Class}
 use Rattle.floor.specs.Content.{Floor, classCount, valueCount}
-use Rattle.residue.specs.Content.{Residue}
-use Rattle.residue.specs.Valid.{Rows8}
-use Rattle.mapping.specs.Content.{Mapping}
-use Rattle.mode.specs.Content.{Mode}
+use Rattle.residue.specs.Carried.{CarriedResidue}
+use Rattle.mapping.specs.Carried.{CarriedMapping}
+use Rattle.mode.specs.Carried.{CarriedMode}
 use Rattle.setup.specs.Content.{Setup}
-
--- a count that a field less one carries, up to so many
-pub record Counted (most n : ℕ) : Type 0 where
-  pub low : 1 ≤ n
-  pub high : n ≤ most
 
 -- a book (002): `CarriedBook`, crates/book_reading/specs/Carried.antt
 
@@ -43,26 +38,6 @@ pub record CarriedFloor (f : Floor) : Type 0 where
   pub rangebits : f .rangebits ≤ 15
   pub value-count : length (f .xs) ≡ valueCount (map (λ c. c .dimensions) (f .classes)) (f .partitions)
   pub in-range : all (λ x. ltb x (2 ^ f .rangebits)) (f .xs) ≡ true
-
--- a residue (001): a row of 8 passes for each class
-pub record CarriedResidue (r : Residue) : Type 0 where
-  pub begin : r .begin < 2 ^ 24
-  pub end : r .end < 2 ^ 24
-  pub size : Counted (2 ^ 24) (r .size)
-  pub classifications : Counted 64 (r .classifications)
-  pub plan : length (r .plan) ≡ r .classifications
-  pub passes : Rows8 (r .plan)
-
--- a mapping (003): a multiplex exactly where there is more than one submap, a number for each channel
-pub record CarriedMapping (channels : ℕ) (m : Mapping) : Type 0 where
-  pub couplings : length (m .couplings) ≤ 256
-  pub submaps : Counted 16 (length (m .submaps))
-  pub no-multiplex : length (m .submaps) ≡ 1 → m .multiplex ≡ []
-  pub some-multiplex : 2 ≤ length (m .submaps) → length (m .multiplex) ≡ channels
-
--- a mode (003)
-abbrev pub CarriedMode : Mode → Type 0
-CarriedMode m = m .blockflag ≤ 1
 
 -- for an identity's channels, which the identification packet has 8 bits for (003, 4.2.2)
 pub record Carried (channels : ℕ) (c : Setup) : Type 0 where

@@ -6,7 +6,7 @@ use mathlib.Core.Bool.{true}
 use mathlib.Core.List.{List, map}
 use mathlib.Core.Path.{_≡_}
 use lib.ListN.{length}
-use Rattle.reading.specs.Lists.{all, rows, sum}
+use Rattle.reading.specs.Lists.{all, sum}
 use Rattle.reading.specs.Encoding.{Each}
 use Rattle.limits.specs.declared.Limits.{Limits}
 use Rattle.rules.specs.Rules as Rule
@@ -15,43 +15,17 @@ use Rattle.book_reading.specs.Rules.{Rule6, Rule7, Rule8, Book14}
 use Rattle.floor_class.specs.Content.{Class}
 use Rattle.floor.specs.Content.{Floor}
 use Rattle.floor_x_list.specs.Content.{xList}
-use Rattle.residue.specs.Content.{Residue}
-use Rattle.residue.specs.Reading.{Books, residueFits}
-use Rattle.mapping.specs.Content.{Coupling, Submap, Mapping}
-use Rattle.mode.specs.Content.{Mode}
+use Rattle.residue.specs.Rules.{Rule10, Residue11, Rule13}
+use Rattle.mapping.specs.Rules.{Mapping11}
+use Rattle.mode.specs.Rules.{Mode11}
 use Rattle.setup.specs.Content.{Setup, booksKnown}
 
 -- 6, 7 and 8, of a book, and 14 of a book alone: crates/book_reading/specs/Rules.antt
-
--- 10, of a residue
-abbrev pub Rule10 : Residue → Type 0
-Rule10 r = Rule.meets10 (Rule.residueType (r .type)) ≡ true
 
 -- 11, of a floor's class, a residue, a mapping and a mode, where so many of each are set up
 pub record Class11 (books : ℕ) (c : Class) : Type 0 where
   pub master : Rule.meets11 (Rule.bookOrNone books (c .master)) ≡ true
   pub subclasses : all (λ v. Rule.meets11 (Rule.bookOrNone books v)) (c .books) ≡ true
-
-pub record Residue11 (books : ℕ) (r : Residue) : Type 0 where
-  pub classbook : Rule.meets11 (Rule.book books (r .classbook)) ≡ true
-  pub plan : all (λ v. Rule.meets11 (Rule.bookOrNone books v)) (rows (λ row. row) (r .plan)) ≡ true
-
-pub record Coupling11 (channels : ℕ) (c : Coupling) : Type 0 where
-  pub magnitude : Rule.meets11 (Rule.channel channels (c .magnitude)) ≡ true
-  pub angle : Rule.meets11 (Rule.channel channels (c .angle)) ≡ true
-  pub coupled : Rule.meets11 (Rule.coupled (c .magnitude) (c .angle)) ≡ true
-
-pub record Submap11 (floors residues : ℕ) (m : Submap) : Type 0 where
-  pub floor : Rule.meets11 (Rule.floor floors (m .floor)) ≡ true
-  pub residue : Rule.meets11 (Rule.residue residues (m .residue)) ≡ true
-
-pub record Mapping11 (channels floors residues : ℕ) (m : Mapping) : Type 0 where
-  pub couplings : Each (Coupling11 channels) (m .couplings)
-  pub multiplex : all (λ v. Rule.meets11 (Rule.submap (length (m .submaps)) v)) (m .multiplex) ≡ true
-  pub submaps : Each (Submap11 floors residues) (m .submaps)
-
-abbrev pub Mode11 : ℕ → Mode → Type 0
-Mode11 mappings m = Rule.meets11 (Rule.mapping mappings (m .mapping)) ≡ true
 
 pub record Rule11 (channels : ℕ) (c : Setup) : Type 0 where
   pub floors : Each (λ f. Each (Class11 (length (c .books))) (f .classes)) (c .floors)
@@ -63,10 +37,6 @@ pub record Rule11 (channels : ℕ) (c : Setup) : Type 0 where
 pub record Rule12 (f : Floor) : Type 0 where
   pub count : Rule.meets12 (Rule.explicit (length (f .xs))) ≡ true
   pub different : Rule.meets12 (Rule.values (xList (f .rangebits) (f .xs))) ≡ true
-
--- 13, of a residue: `residueFits` has its four parts
-abbrev pub Rule13 : Books → Residue → Type 0
-Rule13 books r = residueFits books r ≡ true
 
 -- 14, of each book and of the books together
 unfoldable pub entriesInAll : List Book → ℕ

@@ -8,6 +8,7 @@ use mathlib.Core.Path.{_≡_, refl, ap}
 use lib.Dec.{ltb, leb}
 use lib.ListN.{length}
 use Rattle.reading.specs.Lists.{all}
+use Rattle.reading.specs.Counted.{Counted}
 use Rattle.reading.specs.inner.Decide.{Decided, holds, atMost, below, equal, equivalent, both, implies, negated, each, sameList}
 use Rattle.limits.specs.declared.Limits.{Limits}
 use Rattle.identification.specs.declared.Identity.{Identity}
@@ -19,11 +20,14 @@ use Rattle.book_reading.specs.Rules.{Rule6}
 use Rattle.floor_class.specs.Content.{Class}
 use Rattle.floor.specs.Content.{Floor, classCount, valueCount}
 use Rattle.residue.specs.Content.{Residue}
-use Rattle.residue.specs.Valid.{Rows8}
+use Rattle.residue.specs.Carried.{Rows8, CarriedResidue}
+use Rattle.residue.specs.Rules.{Residue11}
 use Rattle.mapping.specs.Content.{Coupling, Submap, Mapping}
+use Rattle.mapping.specs.Carried.{CarriedMapping}
+use Rattle.mapping.specs.Rules.{Coupling11, Submap11, Mapping11}
 use Rattle.setup.specs.Content.{Setup}
-use Rattle.setup.specs.Carried.{Counted, CarriedClass, CarriedFloor, CarriedResidue, CarriedMapping, Carried}
-use Rattle.setup.specs.Rules.{Class11, Residue11, Coupling11, Submap11, Mapping11, Rule11, Rule12, Rule14, MeetsRules}
+use Rattle.setup.specs.Carried.{CarriedClass, CarriedFloor, Carried}
+use Rattle.setup.specs.Rules.{Class11, Rule11, Rule12, Rule14, MeetsRules}
 use Rattle.setup.specs.Layout.{Tables, hasRoom, writtenOut, tables}
 use Rattle.setup.specs.inner.Decode.{decodeSetup}
 use Rattle.setup.specs.Sound.{SoundCall, OneContent}

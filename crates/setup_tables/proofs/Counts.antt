@@ -7,9 +7,9 @@ use mathlib.Core.Logic.{_↔_}
 use mathlib.Core.Path.{_≡_}
 use lib.ListN.{getD, drop}
 use Rattle.reading.specs.Encoding.{Zeros}
+use Rattle.reading.specs.Counted.{Counted}
 use Rattle.reading.proofs.Encodes.{iff-false, iff-true}
 use Rattle.book_tables.proofs.TestLaws.{refuted, shown}
-use Rattle.setup.specs.Carried.{Counted}
 use Rattle.setup_tables.specs.inner.Recognised.{CountsRecognised}
 
 -- one count

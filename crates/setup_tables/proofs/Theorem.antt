@@ -6,6 +6,7 @@ use mathlib.Core.Path.{_≡_, sym, ap, subst, _∙_}
 use lib.ListN.{length, getD}
 use Rattle.reading.specs.Pad.{pad}
 use Rattle.reading.specs.Encoding.{Each}
+use Rattle.reading.specs.Counted.{Counted}
 use Rattle.reading.proofs.Encodes.{rows-length}
 use Rattle.limits.specs.declared.Limits.{Limits}
 use Rattle.book.specs.Content.{Book}
@@ -19,7 +20,7 @@ use Rattle.floor_tables.specs.inner.Recognised.{FloorsRecognised}
 use Rattle.residue.specs.Content.{Residue}
 use Rattle.residue.specs.inner.FromTable.{booksOf}
 use Rattle.residue.specs.Reading.{Books}
-use Rattle.residue.specs.Valid.{ValidResidue, AllValid}
+use Rattle.residue.specs.inner.Valid.{ValidResidue}
 use Rattle.residue_tables.specs.inner.Recognised.{ResiduesRecognised}
 use Rattle.mapping.specs.declared.Known.{Known}
 use Rattle.mapping.specs.Layout.{mappingRow}
@@ -32,14 +33,13 @@ use Rattle.mode.specs.inner.Recognised.{ModesRecognised}
 use Rattle.mode.proofs.Laws.{mode-wide}
 use Rattle.setup.specs.Content.{Setup, booksKnown, known}
 use Rattle.setup.specs.Layout.{Tables, layout, writtenOut, tables}
-use Rattle.setup.specs.Carried.{Counted}
 use Rattle.setup.specs.inner.Valid.{ValidSetup}
 use Rattle.setup.specs.Sound.{Sound}
 use Rattle.setup.proofs.RuleLaws.{valid-carried, valid-meets}
 use Rattle.setup.proofs.BookLinks.{books-link}
 use Rattle.setup.proofs.TableLaws.{room-parts}
 use Rattle.setup.proofs.CountsLaws.{five, five-written}
-use Rattle.setup.proofs.EachLaws.{floors-each, each-floors, residues-each, each-residues}
+use Rattle.setup.proofs.EachLaws.{floors-each, each-floors}
 use Rattle.setup.proofs.WrittenLaws.{SoundFacts, sound-facts}
 use Rattle.setup_tables.specs.inner.Recognised.{CountsRecognised, knownBy, PartsRecognised}
 
@@ -91,7 +91,7 @@ module _ (limits : Limits) (channels : ℕ) (t : Tables) where
           floor-count = subst (Counted 64) (sym floor-number) (p .numbers .floors);
           floors = subst (λ (n : ℕ). Each (ValidFloor n) (p .front .floor-table .content)) (sym book-number) (floors-each _ _ (p .front .floor-table .valid));
           residue-count = subst (Counted 64) (sym residue-number) (p .numbers .residues);
-          residues = subst (λ (k : Books). Each (ValidResidue k) (p .back .residue-tables .content)) books-same (residues-each _ _ (p .back .residue-tables .holds .valid));
+          residues = subst (λ (k : Books). Each (ValidResidue k) (p .back .residue-tables .content)) books-same (p .back .residue-tables .holds .valid);
           mapping-count = subst (Counted 64) (sym mapping-number) (p .numbers .mappings);
           mappings =
               subst (λ (k : Known). Each (ValidMapping k) (p .back .mapping-table .items))
@@ -184,7 +184,7 @@ module _ (limits : Limits) (channels : ℕ) (t : Tables) where
           content = s .content .residues;
           holds = record {
             count = sym (facts .written .counts .third);
-            valid = subst (λ (k : Books). AllValid k (s .content .residues)) (sym books-known) (each-residues _ _ (facts .valid .residues));
+            valid = subst (λ (k : Books). Each (ValidResidue k) (s .content .residues)) (sym books-known) (facts .valid .residues);
             head-rows = facts .written .residues;
             plan-rows = facts .written .plans;
           };

@@ -1,7 +1,9 @@
--- Which modes meet every rule, where `mappings` mappings are set up (01, refusal 11; the width of each field).
-use Prim.Native.Nat.{ℕ, _≤_, _<_}
+-- Which modes a packet can carry and meet every rule, where `mappings` mappings are set up.
+use Prim.Native.Nat.{ℕ}
 use Rattle.mode.specs.Content.{Mode}
+use Rattle.mode.specs.Carried.{CarriedMode}
+use Rattle.mode.specs.Rules.{Mode11}
 
 pub record ValidMode (mappings : ℕ) (m : Mode) : Type 0 where
-  pub blockflag : m .blockflag ≤ 1
-  pub mapping : m .mapping < mappings
+  pub carried : CarriedMode m
+  pub rule11 : Mode11 mappings m

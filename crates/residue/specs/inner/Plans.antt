@@ -9,7 +9,7 @@ use Rattle.reading.specs.inner.Table.{table}
 use Rattle.rules.specs.Rules as Rule
 use Rattle.residue.specs.Reading.{Books, Head}
 use Rattle.residue.specs.Layout.{headWidth, planWidth, Tables}
-use Rattle.residue.specs.Valid.{Rows8}
+use Rattle.residue.specs.Carried.{Rows8}
 
 -- 64 classes by 8 passes
 pub record Grid (plan : List (List ℕ)) : Type 0 where

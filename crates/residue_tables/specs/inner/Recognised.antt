@@ -7,17 +7,18 @@ use lib.Dec.{eqb, leb, ltb}
 use lib.ListN.{length, take, drop}
 use Rattle.reading.specs.Pad.{pad}
 use Rattle.reading.specs.Lists.{all, rows}
+use Rattle.reading.specs.Encoding.{Each}
 use Rattle.residue.specs.Content.{Residue}
 use Rattle.residue.specs.Reading.{Books, Head, placeFits}
 use Rattle.residue.specs.Layout.{headWidth, planWidth, headRow, planTable}
-use Rattle.residue.specs.Valid.{AllValid}
+use Rattle.residue.specs.inner.Valid.{ValidResidue}
 use Rattle.residue.specs.inner.Plans.{headFits}
 use Rattle.residue.specs.inner.Decode.{headAt, decodeResidues}
 
 -- the tables hold a content's rows, and zeros behind them whatever length was lent
 pub record Holds (books : Books) (n : ℕ) (residues plans : List ℕ) (content : List Residue) : Type 0 where
   pub count : length content ≡ n
-  pub valid : AllValid books content
+  pub valid : Each (ValidResidue books) content
   pub head-rows : residues ≡ pad (length residues) (rows headRow content)
   pub plan-rows : plans ≡ pad (length plans) (rows planTable content)
 

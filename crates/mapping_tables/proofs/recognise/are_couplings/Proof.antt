@@ -3,13 +3,13 @@ use Prim.Native.Nat.{_-_, _≤_}
 use Rattle.mapping_tables.proofs.RecogniseLaws.{coupling-recognise-laws}
 use Rattle.mapping.proofs.Laws.{coupling-pairs}
 use Rattle.reading.proofs.PairRows.{Finding}
-use Rattle.mapping.specs.inner.Valid.{ValidCoupling}
+use Rattle.mapping.specs.Rules.{Coupling11}
 use borrow.Author.Needs.{needs}
 use Rattle.mapping_tables.proofs.recognise.are_couplings.Statement.{statement}
 use Rattle.mapping_tables.proofs.recognise.are_couplings.Tie as tie
 
 abbrev Inv-loop : tie.InvT-loop
-Inv-loop part count channels i₀ i = (count ≤ 256) × Finding (ValidCoupling channels) coupling-pairs count part i
+Inv-loop part count channels i₀ i = (count ≤ 256) × Finding (Coupling11 channels) coupling-pairs count part i
 
 abbrev μ-loop : tie.MeasureT-loop
 μ-loop part count channels i₀ i = count - i
