@@ -5,4 +5,5 @@ pub mod Least
 pub mod Tabulate
 pub mod Lists
 pub mod Encoding
+pub mod Counted
 pub mod inner

@@ -9,6 +9,7 @@ use lib.ListN.{length, replicate}
 use Rattle.reading.specs.Outcome.{ok, refusal}
 use Rattle.reading.specs.Reader.{Reader, many}
 use Rattle.reading.specs.Pad.{pad}
+use Rattle.reading.specs.Counted.{Counted}
 use Rattle.reading.proofs.Outcomes.{same-ok, then-ok, need-ok}
 use Rattle.reading.proofs.Accepted.{many-number}
 use Rattle.reading.proofs.Pads.{length-pad}
@@ -34,7 +35,6 @@ use Rattle.mode.proofs.Laws.{modes-valid}
 use Rattle.setup.specs.Content.{Setup, booksKnown, known}
 use Rattle.setup.specs.Reading.{bookSection, section, timeValue, sections, setup}
 use Rattle.setup.specs.Layout.{Tables, layout, hasRoom, writtenOut, cleared}
-use Rattle.setup.specs.Carried.{Counted}
 use Rattle.setup.specs.inner.Valid.{ValidSetup}
 use Rattle.setup.specs.Sound.{Sound, SoundCall}
 use Rattle.setup.specs.Call.{setupOf}
@@ -42,7 +42,7 @@ use Rattle.setup.specs.inner.Parts.{Small}
 use Rattle.setup.specs.Accepted.{AcceptedSound}
 use Rattle.setup.proofs.TableLaws.{room-parts}
 use Rattle.setup.proofs.RuleLaws.{valid-carried, valid-meets}
-use Rattle.setup.proofs.EachLaws.{floors-each, residues-each}
+use Rattle.setup.proofs.EachLaws.{residues-each}
 use Rattle.setup.proofs.DecodeLaws.{content-decoded}
 use Rattle.setup.proofs.TestLaws.{test-tells}
 use Rattle.setup.proofs.Numbers.{call-numbered, not-zero}
@@ -95,7 +95,7 @@ sections-valid limits channels s k {x} e =
       book-count = b .0;
       books = b .1;
       floor-count = f .counted;
-      floors = floors-each (length (bs .0 .0)) (fs .0 .0) (floors-valid (length (bs .0 .0)) s (f .number) (f .place) (f .read));
+      floors = floors-valid (length (bs .0 .0)) s (f .number) (f .place) (f .read);
       residue-count = r .counted;
       residues = residues-each (booksKnown (bs .0 .0)) (rs .0 .0) (residues-valid (booksKnown (bs .0 .0)) s (r .number) (r .place) (rs .0) (r .read));
       mapping-count = m .counted;

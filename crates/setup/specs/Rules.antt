@@ -12,9 +12,8 @@ use Rattle.limits.specs.declared.Limits.{Limits}
 use Rattle.codeword_assignment.specs.Book.{used, firstRefused, freeAfter, isLone}
 use Rattle.rules.specs.Rules as Rule
 use Rattle.book.specs.Content.{Book}
-use Rattle.floor_class.specs.Content.{Class}
-use Rattle.floor.specs.Content.{Floor}
-use Rattle.floor_x_list.specs.Content.{xList}
+use Rattle.floor_class.specs.Rules.{Class11}
+use Rattle.floor.specs.Rules.{Rule12}
 use Rattle.residue.specs.Content.{Residue}
 use Rattle.residue.specs.Reading.{Books, residueFits}
 use Rattle.mapping.specs.Content.{Coupling, Submap, Mapping}
@@ -39,10 +38,6 @@ abbrev pub Rule10 : Residue → Type 0
 Rule10 r = Rule.meets10 (Rule.residueType (r .type)) ≡ true
 
 -- 11, of a floor's class, a residue, a mapping and a mode, where so many of each are set up
-pub record Class11 (books : ℕ) (c : Class) : Type 0 where
-  pub master : Rule.meets11 (Rule.bookOrNone books (c .master)) ≡ true
-  pub subclasses : all (λ v. Rule.meets11 (Rule.bookOrNone books v)) (c .books) ≡ true
-
 pub record Residue11 (books : ℕ) (r : Residue) : Type 0 where
   pub classbook : Rule.meets11 (Rule.book books (r .classbook)) ≡ true
   pub plan : all (λ v. Rule.meets11 (Rule.bookOrNone books v)) (rows (λ row. row) (r .plan)) ≡ true
@@ -69,11 +64,6 @@ pub record Rule11 (channels : ℕ) (c : Setup) : Type 0 where
   pub residues : Each (Residue11 (length (c .books))) (c .residues)
   pub mappings : Each (Mapping11 channels (length (c .floors)) (length (c .residues))) (c .mappings)
   pub modes : Each (Mode11 (length (c .mappings))) (c .modes)
-
--- 12, of a floor
-pub record Rule12 (f : Floor) : Type 0 where
-  pub count : Rule.meets12 (Rule.explicit (length (f .xs))) ≡ true
-  pub different : Rule.meets12 (Rule.values (xList (f .rangebits) (f .xs))) ≡ true
 
 -- 13, of a residue: `residueFits` has its four parts
 abbrev pub Rule13 : Books → Residue → Type 0

@@ -8,6 +8,7 @@ use mathlib.Core.Path.{_≡_, refl, ap}
 use lib.Dec.{ltb, leb}
 use lib.ListN.{length}
 use Rattle.reading.specs.Lists.{all}
+use Rattle.reading.specs.Counted.{Counted}
 use Rattle.reading.specs.inner.Decide.{Decided, holds, atMost, below, equal, equivalent, both, implies, negated, each, sameList}
 use Rattle.limits.specs.declared.Limits.{Limits}
 use Rattle.identification.specs.declared.Identity.{Identity}
@@ -16,13 +17,17 @@ use Rattle.book.specs.Content.{Book}
 use Rattle.book_lookup.specs.Reading as L
 use Rattle.book_reading.specs.Valid.{NoLookup, SomeLookup}
 use Rattle.floor_class.specs.Content.{Class}
+use Rattle.floor_class.specs.Carried.{CarriedClass}
+use Rattle.floor_class.specs.Rules.{Class11}
 use Rattle.floor.specs.Content.{Floor, classCount, valueCount}
+use Rattle.floor.specs.Carried.{CarriedFloor}
+use Rattle.floor.specs.Rules.{Rule12}
 use Rattle.residue.specs.Content.{Residue}
 use Rattle.residue.specs.Valid.{Rows8}
 use Rattle.mapping.specs.Content.{Coupling, Submap, Mapping}
 use Rattle.setup.specs.Content.{Setup}
-use Rattle.setup.specs.Carried.{Counted, CarriedBook, CarriedClass, CarriedFloor, CarriedResidue, CarriedMapping, Carried}
-use Rattle.setup.specs.Rules.{Rule6, Class11, Residue11, Coupling11, Submap11, Mapping11, Rule11, Rule12, Rule14, MeetsRules}
+use Rattle.setup.specs.Carried.{CarriedBook, CarriedResidue, CarriedMapping, Carried}
+use Rattle.setup.specs.Rules.{Rule6, Residue11, Coupling11, Submap11, Mapping11, Rule11, Rule14, MeetsRules}
 use Rattle.setup.specs.Layout.{Tables, hasRoom, writtenOut, tables}
 use Rattle.setup.specs.inner.Decode.{decodeSetup}
 use Rattle.setup.specs.Sound.{SoundCall, OneContent}

@@ -9,7 +9,7 @@ use lib.ListN.{getD, drop}
 use Rattle.reading.specs.Encoding.{Zeros}
 use Rattle.reading.proofs.Encodes.{iff-false, iff-true}
 use Rattle.book_tables.proofs.TestLaws.{refuted, shown}
-use Rattle.setup.specs.Carried.{Counted}
+use Rattle.reading.specs.Counted.{Counted}
 use Rattle.setup_tables.specs.inner.Recognised.{CountsRecognised}
 
 -- one count

@@ -15,7 +15,7 @@ ghost use Rattle.residue_tables.specs.inner.Recognised.{ResiduesRecognised};
 ghost use Rattle.mapping_tables.specs.inner.Recognised.{MappingsRecognised};
 ghost use Rattle.mode.specs.inner.Recognised.{ModesRecognised};
 ghost use Rattle.setup.specs.inner.Parts.{Small};
-ghost use Rattle.setup.specs.Carried.{Counted};
+ghost use Rattle.reading.specs.Counted.{Counted};
 ghost use Rattle.setup_tables.specs.inner.Recognised.{CountsRecognised, FrontRecognised, BackRecognised, knownBy};
 
 // Whether a count is one that a field less one carries, up to `most`.

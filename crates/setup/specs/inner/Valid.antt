@@ -3,6 +3,7 @@
 use Prim.Native.Nat.{ℕ}
 use lib.ListN.{length}
 use Rattle.reading.specs.Encoding.{Each}
+use Rattle.reading.specs.Counted.{Counted}
 use Rattle.limits.specs.declared.Limits.{Limits}
 use Rattle.book_reading.specs.Valid.{ValidBooks}
 use Rattle.floor.specs.inner.Valid.{ValidFloor}
@@ -10,7 +11,6 @@ use Rattle.residue.specs.Valid.{ValidResidue}
 use Rattle.mapping.specs.inner.Valid.{ValidMapping}
 use Rattle.mode.specs.inner.Valid.{ValidMode}
 use Rattle.setup.specs.Content.{Setup, booksKnown, known}
-use Rattle.setup.specs.Carried.{Counted}
 
 -- for an identity's channels
 pub record ValidSetup (limits : Limits) (channels : ℕ) (c : Setup) : Type 0 where

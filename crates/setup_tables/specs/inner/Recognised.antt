@@ -6,6 +6,7 @@ use mathlib.Core.List.{List}
 use mathlib.Core.Path.{_≡_}
 use lib.ListN.{getD, drop}
 use Rattle.reading.specs.Encoding.{Zeros}
+use Rattle.reading.specs.Counted.{Counted}
 use Rattle.limits.specs.declared.Limits.{Limits}
 use Rattle.book_tables.specs.inner.Recognised.{BooksRecognised}
 use Rattle.floor_tables.specs.inner.Recognised.{FloorsRecognised}
@@ -15,7 +16,6 @@ use Rattle.mapping.specs.declared.Known.{Known}
 use Rattle.mapping_tables.specs.inner.Recognised.{MappingsRecognised}
 use Rattle.mode.specs.inner.Recognised.{ModesRecognised}
 use Rattle.setup.specs.Layout.{Tables, hasRoom}
-use Rattle.setup.specs.Carried.{Counted}
 
 -- how many books, floors, residues, mappings and modes there are, each as its field can carry it; zeros behind them (003, 4.2.4)
 pub record CountsRecognised (counts : List ℕ) : Type 0 where
