@@ -18,6 +18,7 @@ use Rattle.floor.specs.Layout.{floorRow}
 use Rattle.floor.specs.inner.Valid.{ValidFloor}
 use Rattle.floor.specs.inner.Decode.{floorAt, decodeFloor}
 use Rattle.floor.proofs.RowLaws.{class-count-most}
+use Rattle.floor.proofs.ValidLaws.{values-few}
 
 -- the row of a floor has 277 numbers
 pub floor-long : (f : Floor) → length (floorRow f) ≡ 277
@@ -76,16 +77,16 @@ pub floor-decoded-at : {t : List ℕ} (at books : ℕ) (f : Floor) → ValidFloo
 unfolding floorAt
 floor-decoded-at {t} at books f v l =
     let k = floor-stored f l in
-    let most = class-count-most (f .partitions) (v .classes-named) in
-    let few : length (f .classes) ≤ 16 = rw (v .class-count) most in
+    let most = class-count-most (f .partitions) (v .carried .classes-named) in
+    let few : length (f .classes) ≤ 16 = rw (v .carried .class-count) most in
     let ps : slice (at + 5) (at + 5 + getD t at 0) t ≡ f .partitions =
-    ap (λ (n : ℕ). slice (at + 5) (at + 5 + n) t) (k .count) ∙ stored-slice 31 (length (f .partitions)) (f .partitions) (k .partitions) refl (v .partitions) in
+    ap (λ (n : ℕ). slice (at + 5) (at + 5 + n) t) (k .count) ∙ stored-slice 31 (length (f .partitions)) (f .partitions) (k .partitions) refl (v .carried .partitions) in
     let cs : classesAt t (at + 36) (getD t (at + 1) 0) ≡ f .classes =
-    ap (classesAt t (at + 36)) (k .named) ∙ classes-decoded (at + 36) books 16 (f .classes) few (v .classes) (k .classes) in
+    ap (classesAt t (at + 36)) (k .named) ∙ classes-decoded (at + 36) 16 (f .classes) few (v .carried .classes) (k .classes) in
     let end : at + 212 + (2 + length (f .xs)) ≡ at + 214 + length (f .xs) = omega arith in
     let xs : slice (at + 214) (at + 212 + getD t (at + 4) 0) t ≡ f .xs =
     ap (λ (n : ℕ). slice (at + 214) (at + 212 + n) t) (k .values) ∙ ap (λ (n : ℕ). slice (at + 214) n t) end
-    ∙ stored-slice 63 (length (f .xs)) (f .xs) (xs-stored at (f .rangebits) (f .xs) (k .list)) refl (v .few) in
+    ∙ stored-slice 63 (length (f .xs)) (f .xs) (xs-stored at (f .rangebits) (f .xs) (k .list)) refl (values-few v) in
     λ j. record { partitions = ps j; classes = cs j; multiplier = k .multiplier j; rangebits = k .rangebits j; xs = xs j }
 
 -- ONE ROW, ONE FLOOR

@@ -2,6 +2,7 @@
 -- Assumes nothing.
 use Prim.Native.Nat.{ℕ, zero, suc, _*_, _≤_, _<_}
 use native.Mathlib.Omega.{arith}
+use borrow.Author.Tests.{le-leb}
 use mathlib.Core.List.{List, map}
 use mathlib.Core.Path.{_≡_, ap, _∙_, subst}
 use lib.Dec.{ltb}
@@ -10,8 +11,10 @@ use Rattle.reading.specs.Lists.{rows}
 use Rattle.reading.specs.Pad.{pad}
 use Rattle.reading.specs.Outcome.{ok}
 use Rattle.reading.specs.Reader.{many}
+use Rattle.reading.specs.Encoding.{Each}
 use Rattle.reading.proofs.Outcomes.{then-ok, ok-is}
 use Rattle.reading.proofs.Accepted.{many-cons, many-all}
+use Rattle.reading.proofs.EachLaws.{each-map}
 use Rattle.bits.specs.Field.{field}
 use Rattle.bits.proofs.Fields.{field-ok}
 use Rattle.reading.proofs.Stored.{Stored, rows-stored}
@@ -25,7 +28,7 @@ use Rattle.floor.specs.Content.{Floor, classCount, valueCount}
 use Rattle.floor.specs.Layout.{floorRow}
 use Rattle.floor.specs.inner.Decode.{noFloor}
 use Rattle.floor.specs.Reading.{floorType, floorFrom, floor1, floor}
-use Rattle.floor.specs.inner.Valid.{ValidFloor, ValidFloors}
+use Rattle.floor.specs.inner.Valid.{ValidFloor}
 use Rattle.floor.proofs.Decoded.{floor-long, FloorStored, floor-stored}
 
 -- AN ACCEPTED FLOOR MEETS EVERY RULE
@@ -40,32 +43,35 @@ floor1-valid books place s k {x} e =
     let nl = nf .below in
     let pl = many-length (field 4) (n .0 .0) s (n .0 .1) (p .0 .0) (p .1) in
     let fits = ends-fit place (valueCount (map (λ c. c .dimensions) (c .0 .0)) (p .0 .0)) s (c .0 .1) (d .1) in
+    let cs = classes-valid books s (classCount (p .0 .0)) (p .0 .1) (c .1) in
+    let few : length (d .0 .0 .xs) ≤ 63 = rw (fits .long) (fits .few) in
     let same : _≡_ {A = Floor × ℕ} (record { partitions = p .0 .0; classes = c .0 .0; multiplier = d .0 .0 .multiplier; rangebits = d .0 .0 .rangebits; xs = d .0 .0 .xs }, d .0 .1) x = ok-is (d .2) in
     subst (λ (y : Floor × ℕ). ValidFloor books (y .0)) same
     (record {
-      partitions = omega arith;
-      classes-named = many-all (λ c. ltb c 16) (field 4) s (field-below 4 s) (n .0 .0) (n .0 .1) (p .1);
-      class-count = many-length (class books) (classCount (p .0 .0)) s (p .0 .1) (c .0 .0) (c .1);
-      classes = classes-valid books s (classCount (p .0 .0)) (p .0 .1) (c .1);
-      multiplier-low = fits .multiplier-low;
-      multiplier-high = fits .multiplier-high;
-      rangebits = fits .rangebits;
-      value-count = fits .long;
-      few = rw (fits .long) (fits .few);
-      in-range = fits .in-range;
-      different = fits .different;
+      carried = record {
+        partitions = omega arith;
+        classes-named = many-all (λ c. ltb c 16) (field 4) s (field-below 4 s) (n .0 .0) (n .0 .1) (p .1);
+        class-count = many-length (class books) (classCount (p .0 .0)) s (p .0 .1) (c .0 .0) (c .1);
+        classes = each-map (λ a v. v .carried) (c .0 .0) cs;
+        multiplier = record { low = fits .multiplier-low; high = fits .multiplier-high };
+        rangebits = fits .rangebits;
+        value-count = fits .long;
+        in-range = fits .in-range;
+      };
+      classes = each-map (λ a v. v .rules) (c .0 .0) cs;
+      rules = record { count = le-leb (length (d .0 .0 .xs)) 63 few; different = fits .different };
     })
 
 pub floor-valid : (books : ℕ) (s : List ℕ) (k : ℕ) {x : Floor × ℕ} → floor books s k ≡ ok x → ValidFloor books (x .0)
 unfolding floor
 floor-valid books s k e = let t = then-ok (floorType s k) _ e in floor1-valid books k s (t .0 .1) (t .2)
 
-pub floors-valid : (books : ℕ) (s : List ℕ) (n k : ℕ) {x : List Floor × ℕ} → many (floor books) n s k ≡ ok x → ValidFloors books (x .0)
-unfolding ValidFloors many
-floors-valid books s zero k e = subst (λ (y : List Floor × ℕ). ValidFloors books (y .0)) (ok-is e) tt
+pub floors-valid : (books : ℕ) (s : List ℕ) (n k : ℕ) {x : List Floor × ℕ} → many (floor books) n s k ≡ ok x → Each (ValidFloor books) (x .0)
+unfolding Each many
+floors-valid books s zero k e = subst (λ (y : List Floor × ℕ). Each (ValidFloor books) (y .0)) (ok-is e) tt
 floors-valid books s (suc n) k e =
     let c = many-cons (floor books) n s k e in
-    subst (λ (y : List Floor × ℕ). ValidFloors books (y .0)) (c .4) (floor-valid books s k (c .2), floors-valid books s n (c .0 .1) (c .3))
+    subst (λ (y : List Floor × ℕ). Each (ValidFloor books) (y .0)) (c .4) (floor-valid books s k (c .2), floors-valid books s n (c .0 .1) (c .3))
 
 pub floors-counted : (books : ℕ) (s : List ℕ) (n k : ℕ) {fs : List Floor} {j : ℕ} → many (floor books) n s k ≡ ok (fs, j) → length fs ≡ n
 floors-counted books s n k {fs} e = many-length (floor books) n s k fs e

@@ -9,12 +9,13 @@ use lib.Pow.{pow-mono}
 use lib.Seq.{slice}
 use Rattle.reading.specs.Lists.{rows}
 use Rattle.reading.specs.Pad.{pad}
+use Rattle.reading.specs.Encoding.{Each}
 use Rattle.reading.proofs.Pads.{length-pad}
 use Rattle.reading.proofs.Stored.{Stored, stored-at, stored-left, stored-right, stored-first, stored-rest, stored-slice}
 use Rattle.reading.proofs.Encodes.{pad-append}
 use Rattle.floor_class.specs.Content.{Class}
 use Rattle.floor_class.specs.Layout.{classRow}
-use Rattle.floor_class.specs.inner.Valid.{ValidClasses}
+use Rattle.floor_class.specs.Carried.{CarriedClass}
 use Rattle.floor_class.specs.inner.Decode.{classAt, classesAt}
 
 -- the row of a class has 11 numbers
@@ -59,12 +60,12 @@ classes-stored {t} {at} m c cs l =
     let k : Stored t at (classRow c ++ pad (11 * m) (rows classRow cs)) = rw p at l in
     (stored-left (classRow c) (pad (11 * m) (rows classRow cs)) k, rw (class-long c) at (stored-right (classRow c) (pad (11 * m) (rows classRow cs)) k))
 
-pub classes-decoded : {t : List ℕ} (at books m : ℕ) (cs : List Class) → length cs ≤ m → ValidClasses books cs → Stored t at (pad (11 * m) (rows classRow cs)) → classesAt t at (length cs) ≡ cs
-unfolding classesAt ValidClasses
-classes-decoded at books m [] h v l = refl
-classes-decoded at books zero (c ∷ cs) h v l = absurd (omega arith)
-classes-decoded {t} at books (suc m) (c ∷ cs) h v l =
+pub classes-decoded : {t : List ℕ} (at m : ℕ) (cs : List Class) → length cs ≤ m → Each CarriedClass cs → Stored t at (pad (11 * m) (rows classRow cs)) → classesAt t at (length cs) ≡ cs
+unfolding classesAt Each
+classes-decoded at m [] h v l = refl
+classes-decoded at zero (c ∷ cs) h v l = absurd (omega arith)
+classes-decoded {t} at (suc m) (c ∷ cs) h v l =
     let k = classes-stored m c cs l in
     let here = class-decoded c (v .0 .count) (v .0 .subclasses) (class-stored c (k .0)) in
-    let later = classes-decoded (at + 11) books m cs (omega arith) (v .1) (k .1) in
+    let later = classes-decoded (at + 11) m cs (omega arith) (v .1) (k .1) in
     λ j. here j ∷ later j

@@ -1,3 +1,4 @@
 pub mod ClassLaws
 pub mod Accepted
 pub mod Decoded
+pub mod ValidLaws

@@ -1,4 +1,6 @@
 pub mod Content
+pub mod Carried
+pub mod Rules
 pub mod Reading
 pub mod Layout
 pub mod inner

@@ -57,7 +57,7 @@ no-turn lengthsOf c s left k t = each-done 0 (putRow cell) (value lengthsOf) [] 
 module _ {floors books lengths codewords : List ℕ} {n c : ℕ} (l : ClassStored floors books lengths codewords n c) where
   pub subclasses-few : {sub : ℕ} → sub ≡ getD floors (277 * n + 36 + 11 * c + 1) 0 → sub ≤ 3
   unfolding classIn classAt
-  subclasses-few e = rw e (l .valid .subclasses)
+  subclasses-few e = rw e (l .valid .carried .subclasses)
 
   book-is : (j : ℕ) → j < 2 ^ classIn floors n c .subclasses → getD (classIn floors n c .books) j 0 ≡ getD floors (277 * n + 36 + 11 * c + 3 + j) 0
   unfolding classIn classAt
@@ -65,8 +65,8 @@ module _ {floors books lengths codewords : List ℕ} {n c : ℕ} (l : ClassStore
 
   book-stored : (j : ℕ) → j < 2 ^ classIn floors n c .subclasses → PlaceStored books lengths codewords (getD (classIn floors n c .books) j 0)
   book-stored j h =
-      let long = l .valid .count in
-      let most = leb-true _ _ (all-get (λ b. leb b (l .count)) (classIn floors n c .books) j (l .valid .set-up) (omega arith)) in
+      let long = l .valid .carried .count in
+      let most = leb-true _ _ (all-get (λ b. leb b (l .count)) (classIn floors n c .books) j (l .valid .rules .subclasses) (omega arith)) in
       record { readable = λ some. l .readable (getD (classIn floors n c .books) j 0 - 1) (below (getD (classIn floors n c .books) j 0) some most) }
     where
       below : (p : ℕ) → (p ≡ 0 → ⊥) → p ≤ l .count → p - 1 < l .count
@@ -102,7 +102,7 @@ module _ {s floors books lengths codewords : List ℕ} {n c v : ℕ} {entry : Li
     module _ {j : ℕ} (digit : j ≡ left % base) where
       pub digit-few : j < 8
       digit-few =
-          let h : 2 ^ classIn floors n c .subclasses ≤ 8 = pow-mono (w .stored .valid .subclasses) in
+          let h : 2 ^ classIn floors n c .subclasses ≤ 8 = pow-mono (w .stored .valid .carried .subclasses) in
           let b = w .based in
           let d = digit-low in
           omega arith

@@ -24,6 +24,7 @@ use Rattle.book.specs.Layout.{entriesAt, firstEntryAt}
 use Rattle.book_codeword.specs.inner.Stored.{entriesOf, BookStored}
 use Rattle.numbers.specs.inner.Cell.{cell}
 use Rattle.floor_class.specs.inner.Decode.{classAt}
+use Rattle.floor_class.proofs.ValidLaws.{master-most}
 use Rattle.floor_partition.specs.Partition.{classValue, value}
 use Rattle.floor_partition.specs.inner.Stored.{lengthsIn, classIn, Readable, PlaceStored, ClassStored}
 
@@ -82,11 +83,11 @@ module _ {floors books lengths codewords : List ℕ} {n c : ℕ} (l : ClassStore
   module _ (some : sub ≡ 0 → ⊥) {m m′ : ℕ} (e₂ : m ≡ getD floors (277 * n + 36 + 11 * c + 2) 0) (e₃ : m′ ≡ m) where
     pub master-low : 1 ≤ m′
     unfolding classIn classAt
-    master-low = rw (e₃, e₂) (l .valid .some-master (λ z. some (e ∙ z)))
+    master-low = rw (e₃, e₂) (l .valid .carried .some-master (λ z. some (e ∙ z)))
 
     master-high : m′ ≤ l .count
     unfolding classIn classAt
-    master-high = rw (e₃, e₂) (l .valid .master)
+    master-high = rw (e₃, e₂) (master-most (l .valid))
 
     pub master-stored : BookStored books lengths codewords (m′ - 1)
     master-stored = let a = master-low in let b = master-high in l .readable (m′ - 1) (omega arith) .stored

@@ -2,6 +2,7 @@
 use Prim.Native.Nat.{ℕ, zero, suc, _+_, _-_, _*_, _^_, _≤_, _<_}
 use native.Mathlib.Nat.{add-zero}
 use native.Mathlib.Omega.{arith}
+use borrow.Author.Tests.{le-leb}
 use mathlib.Core.Bool.{Bool, true, false, not}
 use mathlib.Core.List.{List, [], _∷_, _++_, map}
 use mathlib.Core.Logic.{_↔_}
@@ -11,14 +12,15 @@ use lib.ListN.{length, getD, drop, length-drop, length-replicate, getD-replicate
 use lib.Seq.{slice, take-length, getD-drop, ext-getD}
 use Rattle.reading.specs.Lists.{all, distinct, rows}
 use Rattle.reading.specs.Pad.{pad}
-use Rattle.reading.specs.Encoding.{Zeros}
+use Rattle.reading.specs.Encoding.{Zeros, Each}
+use Rattle.reading.proofs.EachLaws.{each-map, each-at}
 use Rattle.reading.proofs.Pads.{length-pad}
 use Rattle.floor_class.specs.Content.{Class}
 use Rattle.floor.specs.Content.{Floor, classCount, valueCount}
 use Rattle.floor_x_list.specs.Content.{xList}
 use Rattle.floor_class.specs.Layout.{classRow}
 use Rattle.floor.specs.Layout.{floorRow}
-use Rattle.floor.specs.inner.Valid.{ValidFloor, ValidFloors}
+use Rattle.floor.specs.inner.Valid.{ValidFloor}
 use Rattle.floor.specs.inner.Pieces.{classesTo, valuesTo}
 use Rattle.floor_tables.specs.inner.Rules.{ListRules, FloorRules, FloorsRules}
 use Rattle.floor_class.specs.inner.Decode.{classesAt}
@@ -28,6 +30,7 @@ use Rattle.reading.proofs.Stored.{Stored, stored-at, stored-both, stored-first,
 use Rattle.floor_class.proofs.Decoded.{class-long}
 use Rattle.floor.proofs.RowLaws.{class-count-most, classes-counted, values-counted}
 use Rattle.floor.proofs.Decoded.{floor-long, FloorStored, floor-stored, xs-stored}
+use Rattle.floor.proofs.ValidLaws.{values-few, classes-meet}
 use Rattle.floor.proofs.Laws.{floors-row}
 use Rattle.floor_tables.specs.inner.ClassRules.{Below}
 use Rattle.reading.proofs.Encodes.{rows-length, iff-false, refuted, shown}
@@ -102,19 +105,21 @@ module _ (books : ℕ) (t : List ℕ) where
       let counted : m ≡ classCount ps =
       r .classes .count ∙ ap (λ (x : List ℕ). classesTo x n) Pw ∙ ap (classesTo (pad 31 ps)) (sym pl) ∙ classes-counted 31 ps (omega arith) in
       let valued : valuesTo (slice (at + 36) (at + 212) t) (slice (at + 5) (at + 36) t) n ≡ valueCount (map (λ (x : Class). x .dimensions) cs) ps =
-      (λ j. valuesTo (Cw j) (Pw j) (sym pl j)) ∙ values-counted cs 31 ps (omega arith) named in (
+      (λ j. valuesTo (Cw j) (Pw j) (sym pl j)) ∙ values-counted cs 31 ps (omega arith) named in
+      let few : length xs ≤ 63 = omega arith in (
         record {
-          partitions = omega arith;
-          classes-named = named;
-          class-count = held .long ∙ counted;
-          classes = held .valid;
-          multiplier-low = r .head .low;
-          multiplier-high = r .head .high;
-          rangebits = r .head .rangebits;
-          value-count = omega arith;
-          few = omega arith;
-          in-range = xr;
-          different = ap distinct (sym whole) ∙ r .list .different;
+          carried = record {
+            partitions = omega arith;
+            classes-named = named;
+            class-count = held .long ∙ counted;
+            classes = each-map (λ c v. v .carried) cs (held .valid);
+            multiplier = record { low = r .head .low; high = r .head .high };
+            rangebits = r .head .rangebits;
+            value-count = omega arith;
+            in-range = xr;
+          };
+          classes = each-map (λ c v. v .rules) cs (held .valid);
+          rules = record { count = le-leb (length xs) 63 few; different = ap distinct (sym whole) ∙ r .list .different };
         },
         row-stored at n m (getD t (at + 2) 0) b v ps (rows classRow cs) xs pl (held .long) vl refl refl refl refl refl P C L,
       )
@@ -124,17 +129,17 @@ module _ (books : ℕ) (t : List ℕ) where
   list-tested at f v k =
       let X = xs-stored at (f .rangebits) (f .xs) (k .list) in
       let end : at + 214 + length (f .xs) ≡ at + 212 + (2 + length (f .xs)) = omega arith in
-      let fewx = v .few in
+      let fewx = values-few v in
       let whole = stored-slice 65 (2 + length (f .xs)) (xList (f .rangebits) (f .xs)) (k .list) (omega arith) (omega arith) in
       let range : Below t (at + 214) (at + 212 + (2 + length (f .xs))) (2 ^ f .rangebits) =
-      rw end at (padded-below (at + 214) 63 (length (f .xs)) (2 ^ f .rangebits) (f .xs) refl (v .few) X (v .in-range)) in
+      rw end at (padded-below (at + 214) 63 (length (f .xs)) (2 ^ f .rangebits) (f .xs) refl fewx X (v .carried .in-range)) in
       let zeros : Below t (at + 212 + (2 + length (f .xs))) (at + 277) 1 = rw (end, place at 214 63 277 refl) at (padded-zeros (at + 214) 63 (length (f .xs)) (f .xs) refl X) in
       record {
         first = stored-first (k .list);
         second = ap (λ (j : ℕ). getD t j 0) (omega arith) ∙ stored-first (stored-rest (k .list)) ∙ ap (λ (e : ℕ). 2 ^ e) (sym (k .rangebits));
         range = rw (k .values, k .rangebits) range;
         zeros = rw (k .values) zeros;
-        different = rw (k .values) (ap distinct whole ∙ v .different);
+        different = rw (k .values) (ap distinct whole ∙ v .rules .different);
       }
 
   pub floor-tested : (at : ℕ) (f : Floor) → ValidFloor books f → Stored t at (floorRow f) → FloorRules books t at
@@ -142,34 +147,34 @@ module _ (books : ℕ) (t : List ℕ) where
       let k = floor-stored f l in
       let ps = f .partitions in
       let cs = f .classes in
-      let most = class-count-most ps (v .classes-named) in
-      let few : length cs ≤ 16 = rw (v .class-count) most in
+      let most = class-count-most ps (v .carried .classes-named) in
+      let few : length cs ≤ 16 = rw (v .carried .class-count) most in
       let Pw : slice (at + 5) (at + 36) t ≡ pad 31 ps = stored-whole (at + 5) 31 ps (at + 36) (omega arith) (k .partitions) in
       let Cw : slice (at + 36) (at + 212) t ≡ pad 176 (rows classRow cs) = stored-whole (at + 36) 176 (rows classRow cs) (at + 212) (omega arith) (k .classes) in
       let cl : length (rows classRow cs) ≡ 11 * length cs = rows-length classRow (λ _. Unit {0}) 11 class-long cs in
       let counted : length cs ≡ classesTo (slice (at + 5) (at + 36) t) (getD t at 0) =
-      v .class-count ∙ sym (classes-counted 31 ps (v .partitions)) ∙ (λ j. classesTo (sym Pw j) (sym (k .count) j)) in
+      v .carried .class-count ∙ sym (classes-counted 31 ps (v .carried .partitions)) ∙ (λ j. classesTo (sym Pw j) (sym (k .count) j)) in
       let valued : valuesTo (slice (at + 36) (at + 212) t) (slice (at + 5) (at + 36) t) (getD t at 0) ≡ valueCount (map (λ (x : Class). x .dimensions) cs) ps =
-      (λ j. valuesTo (Cw j) (Pw j) (k .count j)) ∙ values-counted cs 31 ps (v .partitions) (v .classes-named) in
-      let vc = v .value-count in
+      (λ j. valuesTo (Cw j) (Pw j) (k .count j)) ∙ values-counted cs 31 ps (v .carried .partitions) (v .carried .classes-named) in
+      let vc = v .carried .value-count in
       let kv = k .values in
-      let fewx = v .few in
+      let fewx = values-few v in
       record {
         partitions = record {
-          few = rw (k .count) (v .partitions);
-          named = rw (k .count) (padded-below (at + 5) 31 (length ps) 16 ps refl (v .partitions) (k .partitions) (v .classes-named));
+          few = rw (k .count) (v .carried .partitions);
+          named = rw (k .count) (padded-below (at + 5) 31 (length ps) 16 ps refl (v .carried .partitions) (k .partitions) (v .carried .classes-named));
           zeros = rw (k .count, ← place at 5 31 36 refl) (padded-zeros (at + 5) 31 (length ps) ps refl (k .partitions));
         };
         classes = record {
           count = k .named ∙ counted;
           few = rw (k .named) few;
-          classes = rw (k .named) (classes-tested books t (at + 36) cs few (v .classes) (k .classes));
+          classes = rw (k .named) (classes-tested books t (at + 36) cs few (classes-meet v) (k .classes));
           zeros = rw (k .named, ← place at 36 176 212 refl) (padded-zeros (at + 36) 176 (11 * length cs) (rows classRow cs) cl (k .classes));
         };
         head = record {
-          low = rw (k .multiplier) (v .multiplier-low);
-          high = rw (k .multiplier) (v .multiplier-high);
-          rangebits = rw (k .rangebits) (v .rangebits);
+          low = rw (k .multiplier) (v .carried .multiplier .low);
+          high = rw (k .multiplier) (v .carried .multiplier .high);
+          rangebits = rw (k .rangebits) (v .carried .rangebits);
           count = record { values = omega arith; few = omega arith };
         };
         list = list-tested at f v k;
@@ -183,11 +188,11 @@ module _ (books : ℕ) (t : List ℕ) where
 
   record FloorsEncoded (at n : ℕ) : Type 0 where
     pub long : length (floorsAt at n) ≡ n
-    pub valid : ValidFloors books (floorsAt at n)
+    pub valid : Each (ValidFloor books) (floorsAt at n)
     pub stored : Stored t at (rows floorRow (floorsAt at n))
 
   floors-encoded : (at n : ℕ) → at + 277 * n ≤ length t → ((f : ℕ) → f < n → FloorRules books t (at + 277 * f)) → FloorsEncoded at n
-  unfolding ValidFloors rows floorsAt
+  unfolding Each rows floorsAt
   floors-encoded at zero room r = record { long = refl; valid = tt; stored = record { room = omega arith; same = λ i h. absurd (omega arith) } }
   floors-encoded at (suc n) room r =
       let here = floor-encodes at (omega arith) (rw (add-zero at) at (r 0 (omega arith))) in
@@ -213,19 +218,13 @@ module _ (books : ℕ) (t : List ℕ) where
         written = sym (take-length t) ∙ stored-whole 0 (length t) (rows floorRow fs) (length t) (omega arith) stored;
       }
 
-  valid-floor : (fs : List Floor) → ValidFloors books fs → (f : ℕ) → f < length fs → ValidFloor books (getD fs f noFloor)
-  unfolding ValidFloors
-  valid-floor [] v f h = absurd (omega arith)
-  valid-floor (x ∷ fs) v zero h = v .0
-  valid-floor (x ∷ fs) v (suc f) h = valid-floor fs (v .1) f (omega arith)
-
   pub floors-tested : (count : ℕ) → count ≤ 64 → FloorsRecognised books count t → FloorsRules books t count
   floors-tested count few st =
       let c = st .counted in
       let r = st .room in
       record {
         each = λ f h.
-            floor-tested (277 * f) (getD (st .content) f noFloor) (valid-floor (st .content) (st .valid) f (omega arith)) (floors-row (st .content) t (st .written) (omega arith) f (omega arith));
+            floor-tested (277 * f) (getD (st .content) f noFloor) (each-at (ValidFloor books) noFloor (st .content) (st .valid) f (omega arith)) (floors-row (st .content) t (st .written) (omega arith) f (omega arith));
       }
 
   pub floors-trailing : (count : ℕ) → FloorsRecognised books count t → Below t (277 * count) (length t) 1

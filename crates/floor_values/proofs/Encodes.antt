@@ -1,33 +1,26 @@
 -- For callers: in tables that hold floors, each floor lies as reading its values asks, and it is the floor of the content. Assumes nothing.
-use Prim.Native.Nat.{ℕ, zero, suc, _*_, _≤_, _<_}
+use Prim.Native.Nat.{ℕ, _*_, _≤_, _<_}
 use native.Mathlib.Omega.{arith}
-use mathlib.Core.List.{List, [], _∷_}
+use mathlib.Core.List.{List}
 use mathlib.Core.Path.{_≡_}
 use lib.ListN.{length, getD}
-use Rattle.floor.specs.Content.{Floor}
 use Rattle.floor.specs.inner.Decode.{noFloor}
 use Rattle.floor.specs.Layout.{floorRow}
 use Rattle.floor.specs.inner.Valid.{ValidFloor}
-use Rattle.floor.specs.inner.Valid.{ValidFloors}
 use Rattle.floor_tables.specs.inner.Recognised.{FloorsRecognised}
 use Rattle.floor.proofs.Decoded.{floor-long, floor-decoded-at}
 use Rattle.reading.proofs.Stored.{Stored}
+use Rattle.reading.proofs.EachLaws.{each-at}
 use Rattle.floor.proofs.Laws.{floors-row}
 use Rattle.floor_partition.specs.inner.Stored.{Readable}
 use Rattle.floor_values.specs.inner.Stored.{floorIn, FloorStored}
-
-valid-floor : (b : ℕ) (fs : List Floor) (n : ℕ) → n < length fs → ValidFloors b fs → ValidFloor b (getD fs n noFloor)
-unfolding ValidFloors
-valid-floor b [] n h v = absurd (omega arith)
-valid-floor b (f ∷ fs) zero h v = v .0
-valid-floor b (f ∷ fs) (suc n) h v = valid-floor b fs n (omega arith) (v .1)
 
 module _ {setUp count : ℕ} {floors : List ℕ} (st : FloorsRecognised setUp count floors) (few : count ≤ 64) (n : ℕ) (h : n < count) where
   row : Stored floors (277 * n) (floorRow (getD (st .content) n noFloor))
   row = let c = st .counted in let r = st .room in floors-row (st .content) floors (st .written) (omega arith) n (omega arith)
 
   valid : ValidFloor setUp (getD (st .content) n noFloor)
-  valid = let c = st .counted in valid-floor setUp (st .content) n (omega arith) (st .valid)
+  valid = let c = st .counted in each-at (ValidFloor setUp) noFloor (st .content) (st .valid) n (omega arith)
 
   pub floor-is : floorIn floors n ≡ getD (st .content) n noFloor
   unfolding floorIn

@@ -37,10 +37,10 @@ module _ {floors books lengths codewords : List ℕ} {n : ℕ} (l : FloorStored 
   multiplier-is = e
 
   pub multiplier-byte : m < 256
-  multiplier-byte = let h = l .valid .multiplier-high in let f = multiplier-is in omega arith
+  multiplier-byte = let h = l .valid .carried .multiplier .high in let f = multiplier-is in omega arith
 
   known : Bits (floorIn floors n .multiplier)
-  known = bits-known (floorIn floors n .multiplier) (l .valid .multiplier-low) (l .valid .multiplier-high)
+  known = bits-known (floorIn floors n .multiplier) (l .valid .carried .multiplier .low) (l .valid .carried .multiplier .high)
 
   module _ {m′ range : ℕ} (e₂ : m′ ≡ m) (e₃ : range ≡ rangeOf m′) where
     range-is : range ≡ rangeOf (floorIn floors n .multiplier)

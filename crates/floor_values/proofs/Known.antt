@@ -24,7 +24,7 @@ use Rattle.floor_class.specs.Content.{Class}
 use Rattle.floor.specs.Content.{Floor, valueCount}
 use Rattle.floor_x_list.specs.Content.{xList}
 use Rattle.floor_class.specs.inner.Decode.{noClass}
-use Rattle.floor_class.specs.inner.Valid.{ValidClasses}
+use Rattle.floor_class.specs.Rules.{Class11}
 use Rattle.floor.specs.inner.Valid.{ValidFloor}
 use Rattle.floor_partition.specs.Partition.{classValue, chosen, value, partition, whole}
 use Rattle.floor_values.specs.Values.{firstBits, partitionOf, usedValues, floorValues}
@@ -97,10 +97,10 @@ all-low count [] h j = omega arith
 all-low count (x ∷ l) h zero = leb-true x count (and-split (leb x count) (all (λ b. leb b count) l) h .0)
 all-low count (x ∷ l) h (suc j) = all-low count l (and-split (leb x count) (all (λ b. leb b count) l) h .1) j
 
-places-low : (count : ℕ) (cs : List Class) → ValidClasses count cs → (p j : ℕ) → getD (getD cs p noClass .books) j 0 ≤ count
-unfolding ValidClasses
+places-low : (count : ℕ) (cs : List Class) → Each (Class11 count) cs → (p j : ℕ) → getD (getD cs p noClass .books) j 0 ≤ count
+unfolding Each
 places-low count [] v p j = omega arith
-places-low count (c ∷ cs) v zero j = all-low count (c .books) (v .0 .set-up) j
+places-low count (c ∷ cs) v zero j = all-low count (c .books) (v .0 .subclasses) j
 places-low count (c ∷ cs) v (suc p) j = places-low count cs (v .1) p j
 
 positive : (x : ℕ) → (x ≡ 0 → ⊥) → 1 ≤ x
@@ -148,7 +148,7 @@ module _ (lengthsOf : ℕ → List ℕ) (count : ℕ) (entries : (b : ℕ) → b
     -- the first two
     first-below : (k : ℕ) (x : ℕ × ℕ) → field (firstBits (f .multiplier)) s k ≡ ok x → x .0 < 256
     first-below k x e =
-        let few = bits-known (f .multiplier) (valid .multiplier-low) (valid .multiplier-high) .few in
+        let few = bits-known (f .multiplier) (valid .carried .multiplier .low) (valid .carried .multiplier .high) .few in
         let h = field-ok s k (firstBits (f .multiplier)) e .below in
         let g : 2 ^ firstBits (f .multiplier) ≤ 2 ^ 8 = pow-mono few in
         omega arith
@@ -181,7 +181,7 @@ module _ (lengthsOf : ℕ → List ℕ) (count : ℕ) (entries : (b : ℕ) → b
         let low = each-get (a .0 .0) (many-each (field w) s (λ v. v < 256) first-below 2 k (a .1)) in
         let later = total-long lengthsOf s f (f .partitions) (a .0 .1) (b .1) in
         let long = length-append (a .0 .0) (rows whole (b .0 .0)) in
-        let xs = valid .value-count in
+        let xs = valid .carried .value-count in
         subst Known same
         (record {
           counted = omega arith;

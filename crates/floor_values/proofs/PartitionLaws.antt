@@ -10,6 +10,7 @@ use Rattle.reading.specs.Outcome.{Outcome}
 use Rattle.reading.specs.Reader.{each, mapped, puts, into, into1}
 use Rattle.reading.specs.inner.Table.{Table, table, putRow}
 use Rattle.reading.proofs.Tables.{puts-rows}
+use Rattle.reading.proofs.EachLaws.{each-at}
 use Rattle.bits.specs.declared.Cursor.{Cursor}
 use Rattle.bits.specs.declared.Refusal.{Refusal}
 use Rattle.bits.specs.declared.Step.{Step}
@@ -17,12 +18,12 @@ use Rattle.bits.specs.declared.Step.the-variants as S
 use Rattle.bits.specs.inner.Cursors.{position, Wrote}
 use Rattle.bits.proofs.Steps.{EachRest, each-loop-start, each-loop-next, each-loop-refused, each-loop-done}
 use Rattle.bits.proofs.Written.{wrote-through}
-use Rattle.floor_class.specs.Content.{Class}
 use Rattle.floor.specs.Content.{classCount}
 use Rattle.floor_class.specs.inner.Decode.{noClass, classAt, classesAt}
 use Rattle.floor.specs.inner.Decode.{floorAt}
-use Rattle.floor_class.specs.inner.Valid.{ValidClass, ValidClasses}
+use Rattle.floor_class.specs.inner.Valid.{ValidClass}
 use Rattle.floor.proofs.RowLaws.{class-count-most}
+use Rattle.floor.proofs.ValidLaws.{classes-meet}
 use Rattle.floor_partition.specs.Partition.{partition, whole}
 use Rattle.floor_values.specs.Values.{partitionOf}
 use Rattle.floor_partition.specs.inner.Stored.{lengthsIn, classIn, ClassStored}
@@ -40,12 +41,6 @@ classes-get t at zero c h = absurd (omega arith)
 classes-get t at (suc n) zero h = ap (classAt t) (omega arith)
 classes-get t at (suc n) (suc c) h = classes-get t (at + 11) n c (omega arith) ∙ ap (classAt t) (omega arith)
 
-pub valid-get : (b : ℕ) (cs : List Class) (c : ℕ) → c < length cs → ValidClasses b cs → ValidClass b (getD cs c noClass)
-unfolding ValidClasses
-valid-get b [] c h v = absurd (omega arith)
-valid-get b (x ∷ cs) zero h v = v .0
-valid-get b (x ∷ cs) (suc c) h v = valid-get b cs c (omega arith) (v .1)
-
 pub class-below : (ps : List ℕ) (i : ℕ) → i < length ps → getD ps i 0 < classCount ps
 unfolding classCount
 class-below [] i h = absurd (omega arith)
@@ -56,7 +51,7 @@ module _ {floors books lengths codewords : List ℕ} {n : ℕ} (l : FloorStored 
   -- as many partitions as the row says
   pub partitions-long : getD floors (277 * n) 0 ≡ length (floorIn floors n .partitions)
   partitions-long =
-      let few : length (floorIn floors n .partitions) ≤ 31 = l .valid .partitions in
+      let few : length (floorIn floors n .partitions) ≤ 31 = l .valid .carried .partitions in
       let room = l .room in
       let e : length (floorIn floors n .partitions) ≡ length (drop (277 * n + 5) (take (277 * n + 5 + getD floors (277 * n) 0) floors)) = unfold floorIn floorAt in refl in
       let d = length-drop (277 * n + 5) (take (277 * n + 5 + getD floors (277 * n) 0) floors) in
@@ -75,7 +70,7 @@ module _ {floors books lengths codewords : List ℕ} {n : ℕ} (l : FloorStored 
     class-of = partition-get i h ∙ sym (e₂ ∙ e₁)
 
     class-low : class < length (floorIn floors n .classes)
-    class-low = let b = class-below (floorIn floors n .partitions) i h in let c = l .valid .class-count in let e = class-of in omega arith
+    class-low = let b = class-below (floorIn floors n .partitions) i h in let c = l .valid .carried .class-count in let e = class-of in omega arith
 
     class-few : class < getD floors (277 * n + 1) 0
     class-few =
@@ -91,13 +86,13 @@ module _ {floors books lengths codewords : List ℕ} {n : ℕ} (l : FloorStored 
     pub class-stored : ClassStored floors books lengths codewords n class
     class-stored =
         let low = class-low in
-        let most = class-count-most (floorIn floors n .partitions) (l .valid .classes-named) in
-        let c = l .valid .class-count in
+        let most = class-count-most (floorIn floors n .partitions) (l .valid .carried .classes-named) in
+        let c = l .valid .carried .class-count in
         record {
           floor-few = l .few;
           class-few = omega arith;
           count = l .count;
-          valid = rw (← class-get) (valid-get (l .count) (floorIn floors n .classes) class low (l .valid .classes));
+          valid = rw (← class-get) (each-at (ValidClass (l .count)) noClass (floorIn floors n .classes) (classes-meet (l .valid)) class low);
           readable = l .readable;
         }
 
@@ -136,7 +131,7 @@ module _ {s floors books lengths codewords : List ℕ} {n : ℕ} {entry : List �
 
   module _ {now : List ℕ} {next : Cursor} {at i : ℕ} (w : Progress s floors books lengths codewords n entry from count now next at i) where
     pub count-few : count ≤ 31
-    count-few = rw (w .counted) (w .stored .valid .partitions)
+    count-few = rw (w .counted) (w .stored .valid .carried .partitions)
 
     pub place-low : at ≤ 65535
     place-low = let a = w .place-few in let b = w .within in let d = count-few in omega arith
@@ -163,7 +158,7 @@ module _ {s floors books lengths codewords : List ℕ} {n : ℕ} {entry : List �
             → Progress s floors books lengths codewords n entry from count now′ after at′ (i + 1)
         go-next q e {d} {at′} f {d′} g a =
             let dims : d′ ≡ classIn floors n class .dimensions = unfold classIn classAt in (g ∙ f) in
-            let most = go-class .valid .dimensions-high in
+            let most = go-class .valid .carried .dimensions .high in
             let place = w .place-few in
             record {
               stored = w .stored;

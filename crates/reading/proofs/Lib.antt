@@ -12,3 +12,4 @@ pub mod PairRows
 pub mod Runs
 pub mod Parts
 pub mod Stored
+pub mod EachLaws

@@ -4,7 +4,6 @@ pub mod CountsLaws
 pub mod BookLinks
 pub mod Whole
 pub mod RuleLaws
-pub mod EachLaws
 pub mod WrittenLaws
 pub mod DecodeLaws
 pub mod TestLaws

@@ -2,13 +2,12 @@
 -- and put together; the books' totals so far against those of all by induction along the books. Assumes nothing.
 use Prim.Native.Nat.{ℕ, _+_, _≤_}
 use native.Mathlib.Omega.{arith}
-use borrow.Author.Tests.{leb-true, le-leb, eqb-false, ne-eqb, not-true}
-use mathlib.Core.Bool.{Bool, true, not}
+use borrow.Author.Tests.{leb-true, le-leb}
 use mathlib.Core.List.{List, [], _∷_, map}
-use lib.Dec.{eqb}
 use lib.ListN.{length}
 use Rattle.reading.specs.Lists.{sum}
 use Rattle.reading.specs.Encoding.{Each}
+use Rattle.reading.proofs.EachLaws.{each-map, each-both}
 use Rattle.limits.specs.declared.Limits.{Limits}
 use Rattle.book.specs.Content.{Book}
 use Rattle.book_head.specs.Reading.{Before}
@@ -16,28 +15,15 @@ use Rattle.book_reading.specs.Reading.{andThis}
 use Rattle.book_reading.specs.Carried.{CarriedBook}
 use Rattle.book_reading.specs.Rules.{Rule6, Rule7, Rule8, Book14}
 use Rattle.book_reading.specs.inner.Valid.{ValidBook, ValidBooks}
-use Rattle.floor_class.specs.Content.{Class}
-use Rattle.floor.specs.Content.{Floor}
-use Rattle.floor_class.specs.inner.Valid.{ValidClass, ValidClasses}
-use Rattle.floor.specs.inner.Valid.{ValidFloor}
+use Rattle.floor_class.specs.Rules.{Class11}
+use Rattle.floor.specs.Rules.{Rule12}
 use Rattle.residue.specs.Rules.{Rule10, Residue11, Rule13}
 use Rattle.setup.specs.Content.{Setup, booksKnown, known}
-use Rattle.setup.specs.Carried.{CarriedClass, CarriedFloor, Carried}
-use Rattle.setup.specs.Rules.{Class11, Rule11, Rule12, entriesInAll, multiplicandsInAll, Rule14, MeetsRules}
+use Rattle.setup.specs.Carried.{Carried}
+use Rattle.setup.specs.Rules.{Rule11, entriesInAll, multiplicandsInAll, Rule14, MeetsRules}
 use Rattle.setup.specs.inner.Valid.{ValidSetup}
 use Rattle.setup.specs.Layout.{Tables}
 use Rattle.setup.specs.Sound.{Sound}
-
--- a fact of each item from another, and from two
-each-map : {A : Type 0} {P Q : A → Type 0} → ((a : A) → P a → Q a) → (l : List A) → Each P l → Each Q l
-unfolding Each
-each-map f [] e = tt
-each-map f (a ∷ l) e = (f a (e .0), each-map f l (e .1))
-
-each-both : {A : Type 0} {P Q R : A → Type 0} → ((a : A) → P a → Q a → R a) → (l : List A) → Each P l → Each Q l → Each R l
-unfolding Each
-each-both f [] d e = tt
-each-both f (a ∷ l) d e = (f a (d .0) (e .0), each-both f l (d .1) (e .1))
 
 -- books
 module _ (limits : Limits) where
@@ -63,80 +49,6 @@ module _ (limits : Limits) where
   books-valid before (b ∷ bs) c r s e f p q =
       (record { carried = c .0; rule6 = r .0; rule7 = s .0; rule8 = e .0; rule14 = f .0; entries-all = omega arith; values-all = omega arith }, books-valid (andThis before b) bs (c .1) (r .1) (s .1) (e .1) (f .1) (omega arith) (omega arith))
 
--- floors
-module _ (books : ℕ) where
-  classes-each : {P : Class → Type 0} → ((c : Class) → ValidClass books c → P c) → (cs : List Class) → ValidClasses books cs → Each P cs
-  unfolding ValidClasses Each
-  classes-each f [] v = tt
-  classes-each f (c ∷ cs) v = (f c (v .0), classes-each f cs (v .1))
-
-  classes-valid : (cs : List Class) → Each CarriedClass cs → Each (Class11 books) cs → ValidClasses books cs
-  unfolding ValidClasses Each
-  classes-valid [] d e = tt
-  classes-valid (c ∷ cs) d e = (
-    record {
-      dimensions-low = d .0 .dimensions .low;
-      dimensions-high = d .0 .dimensions .high;
-      subclasses = d .0 .subclasses;
-      no-master = d .0 .no-master;
-      some-master = d .0 .some-master;
-      master = leb-true _ _ (e .0 .master);
-      count = d .0 .count;
-      set-up = e .0 .subclasses;
-      carried = d .0 .books;
-    },
-    classes-valid cs (d .1) (e .1),
-  )
-
-  class-carried : (c : Class) → ValidClass books c → CarriedClass c
-  class-carried c v =
-      record {
-        dimensions = record { low = v .dimensions-low; high = v .dimensions-high };
-        subclasses = v .subclasses;
-        no-master = v .no-master;
-        some-master = v .some-master;
-        count = v .count;
-        books = v .carried;
-      }
-
-  class-11 : (c : Class) → ValidClass books c → Class11 books c
-  class-11 c v = record { master = le-leb _ _ (v .master); subclasses = v .set-up }
-
-  floor-carried : (f : Floor) → ValidFloor books f → CarriedFloor f
-  floor-carried f v =
-      record {
-        partitions = v .partitions;
-        classes-named = v .classes-named;
-        class-count = v .class-count;
-        classes = classes-each class-carried (f .classes) (v .classes);
-        multiplier = record { low = v .multiplier-low; high = v .multiplier-high };
-        rangebits = v .rangebits;
-        value-count = v .value-count;
-        in-range = v .in-range;
-      }
-
-  floor-11 : (f : Floor) → ValidFloor books f → Each (Class11 books) (f .classes)
-  floor-11 f v = classes-each class-11 (f .classes) (v .classes)
-
-  floor-12 : (f : Floor) → ValidFloor books f → Rule12 f
-  floor-12 f v = record { count = le-leb _ _ (v .few); different = v .different }
-
-  floor-valid : (f : Floor) → CarriedFloor f → Each (Class11 books) (f .classes) × Rule12 f → ValidFloor books f
-  floor-valid f c r =
-      record {
-        partitions = c .partitions;
-        classes-named = c .classes-named;
-        class-count = c .class-count;
-        classes = classes-valid (f .classes) (c .classes) (r .0);
-        multiplier-low = c .multiplier .low;
-        multiplier-high = c .multiplier .high;
-        rangebits = c .rangebits;
-        value-count = c .value-count;
-        few = leb-true _ _ (r .1 .count);
-        in-range = c .in-range;
-        different = r .1 .different;
-      }
-
 abbrev none : Before
 none = record { entries = 0; values = 0 }
 
@@ -150,7 +62,7 @@ module _ (limits : Limits) (channels : ℕ) (c : Setup) where
         book-count = v .book-count;
         books = books-each limits (λ before b x. x .carried) none (c .books) (v .books);
         floor-count = v .floor-count;
-        floors = each-map (floor-carried (length (c .books))) (c .floors) (v .floors);
+        floors = each-map (λ f x. x .carried) (c .floors) (v .floors);
         residue-count = v .residue-count;
         residues = each-map (λ r x. x .carried) (c .residues) (v .residues);
         mapping-count = v .mapping-count;
@@ -170,12 +82,12 @@ module _ (limits : Limits) (channels : ℕ) (c : Setup) where
         rule8 = books-each limits (λ before b x. x .rule8) none (c .books) (v .books);
         rule10 = each-map (λ r x. x .rule10) (c .residues) (v .residues);
         rule11 = record {
-          floors = each-map (floor-11 (length (c .books))) (c .floors) (v .floors);
+          floors = each-map (λ f x. x .classes) (c .floors) (v .floors);
           residues = each-map (λ r x. x .rule11) (c .residues) (v .residues);
           mappings = each-map (λ m x. x .rule11) (c .mappings) (v .mappings);
           modes = each-map (λ m x. x .rule11) (c .modes) (v .modes);
         };
-        rule12 = each-map (floor-12 (length (c .books))) (c .floors) (v .floors);
+        rule12 = each-map (λ f x. x .rules) (c .floors) (v .floors);
         rule13 = each-map (λ r x. x .rule13) (c .residues) (v .residues);
         rule14 = record {
           book = books-each limits (λ before b x. x .rule14) none (c .books) (v .books);
@@ -194,7 +106,9 @@ module _ (limits : Limits) (channels : ℕ) (c : Setup) where
         book-count = d .book-count;
         books = books-valid limits none (c .books) (d .books) (r .rule6) (r .rule7) (r .rule8) (r .rule14 .book) (omega arith) (omega arith);
         floor-count = d .floor-count;
-        floors = each-both (floor-valid (length (c .books))) (c .floors) (d .floors) (each-both (λ f x y. (x, y)) (c .floors) (r .rule11 .floors) (r .rule12));
+        floors =
+            each-both (λ f x (y : Each (Class11 (length (c .books))) (f .classes) × Rule12 f). record { carried = x; classes = y .0; rules = y .1 }) (c .floors) (d .floors)
+            (each-both (λ f x y. (x, y)) (c .floors) (r .rule11 .floors) (r .rule12));
         residue-count = d .residue-count;
         residues =
             each-both {Q = λ a. Rule10 a × (Residue11 (length (c .books)) a × Rule13 (booksKnown (c .books)) a)} (λ a x y. record { carried = x; rule10 = y .0; rule11 = y .1 .0; rule13 = y .1 .1 })

@@ -42,7 +42,6 @@ use Rattle.setup.specs.inner.Parts.{Small}
 use Rattle.setup.specs.Accepted.{AcceptedSound}
 use Rattle.setup.proofs.TableLaws.{room-parts}
 use Rattle.setup.proofs.RuleLaws.{valid-carried, valid-meets}
-use Rattle.setup.proofs.EachLaws.{floors-each}
 use Rattle.setup.proofs.DecodeLaws.{content-decoded}
 use Rattle.setup.proofs.TestLaws.{test-tells}
 use Rattle.setup.proofs.Numbers.{call-numbered, not-zero}
@@ -95,7 +94,7 @@ sections-valid limits channels s k {x} e =
       book-count = b .0;
       books = b .1;
       floor-count = f .counted;
-      floors = floors-each (length (bs .0 .0)) (fs .0 .0) (floors-valid (length (bs .0 .0)) s (f .number) (f .place) (f .read));
+      floors = floors-valid (length (bs .0 .0)) s (f .number) (f .place) (f .read);
       residue-count = r .counted;
       residues = residues-valid (booksKnown (bs .0 .0)) s (r .number) (r .place) (rs .0) (r .read);
       mapping-count = m .counted;

@@ -6,15 +6,14 @@ use mathlib.Core.Bool.{true}
 use mathlib.Core.List.{List, map}
 use mathlib.Core.Path.{_≡_}
 use lib.ListN.{length}
-use Rattle.reading.specs.Lists.{all, sum}
+use Rattle.reading.specs.Lists.{sum}
 use Rattle.reading.specs.Encoding.{Each}
 use Rattle.limits.specs.declared.Limits.{Limits}
 use Rattle.rules.specs.Rules as Rule
 use Rattle.book.specs.Content.{Book}
 use Rattle.book_reading.specs.Rules.{Rule6, Rule7, Rule8, Book14}
-use Rattle.floor_class.specs.Content.{Class}
-use Rattle.floor.specs.Content.{Floor}
-use Rattle.floor_x_list.specs.Content.{xList}
+use Rattle.floor_class.specs.Rules.{Class11}
+use Rattle.floor.specs.Rules.{Rule12}
 use Rattle.residue.specs.Rules.{Rule10, Residue11, Rule13}
 use Rattle.mapping.specs.Rules.{Mapping11}
 use Rattle.mode.specs.Rules.{Mode11}
@@ -23,20 +22,11 @@ use Rattle.setup.specs.Content.{Setup, booksKnown}
 -- 6, 7 and 8, of a book, and 14 of a book alone: crates/book_reading/specs/Rules.antt
 
 -- 11, of a floor's class, a residue, a mapping and a mode, where so many of each are set up
-pub record Class11 (books : ℕ) (c : Class) : Type 0 where
-  pub master : Rule.meets11 (Rule.bookOrNone books (c .master)) ≡ true
-  pub subclasses : all (λ v. Rule.meets11 (Rule.bookOrNone books v)) (c .books) ≡ true
-
 pub record Rule11 (channels : ℕ) (c : Setup) : Type 0 where
   pub floors : Each (λ f. Each (Class11 (length (c .books))) (f .classes)) (c .floors)
   pub residues : Each (Residue11 (length (c .books))) (c .residues)
   pub mappings : Each (Mapping11 channels (length (c .floors)) (length (c .residues))) (c .mappings)
   pub modes : Each (Mode11 (length (c .mappings))) (c .modes)
-
--- 12, of a floor
-pub record Rule12 (f : Floor) : Type 0 where
-  pub count : Rule.meets12 (Rule.explicit (length (f .xs))) ≡ true
-  pub different : Rule.meets12 (Rule.values (xList (f .rangebits) (f .xs))) ≡ true
 
 -- 14, of each book and of the books together
 unfoldable pub entriesInAll : List Book → ℕ

@@ -18,7 +18,11 @@ use Rattle.book_lookup.specs.Reading as L
 use Rattle.book_reading.specs.Carried.{NoLookup, SomeLookup, CarriedBook}
 use Rattle.book_reading.specs.Rules.{Rule6}
 use Rattle.floor_class.specs.Content.{Class}
+use Rattle.floor_class.specs.Carried.{CarriedClass}
+use Rattle.floor_class.specs.Rules.{Class11}
 use Rattle.floor.specs.Content.{Floor, classCount, valueCount}
+use Rattle.floor.specs.Carried.{CarriedFloor}
+use Rattle.floor.specs.Rules.{Rule12}
 use Rattle.residue.specs.Content.{Residue}
 use Rattle.residue.specs.Carried.{Rows8, CarriedResidue}
 use Rattle.residue.specs.Rules.{Residue11}
@@ -26,8 +30,8 @@ use Rattle.mapping.specs.Content.{Coupling, Submap, Mapping}
 use Rattle.mapping.specs.Carried.{CarriedMapping}
 use Rattle.mapping.specs.Rules.{Coupling11, Submap11, Mapping11}
 use Rattle.setup.specs.Content.{Setup}
-use Rattle.setup.specs.Carried.{CarriedClass, CarriedFloor, Carried}
-use Rattle.setup.specs.Rules.{Class11, Rule11, Rule12, Rule14, MeetsRules}
+use Rattle.setup.specs.Carried.{Carried}
+use Rattle.setup.specs.Rules.{Rule11, Rule14, MeetsRules}
 use Rattle.setup.specs.Layout.{Tables, hasRoom, writtenOut, tables}
 use Rattle.setup.specs.inner.Decode.{decodeSetup}
 use Rattle.setup.specs.Sound.{SoundCall, OneContent}

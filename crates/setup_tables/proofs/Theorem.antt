@@ -5,6 +5,7 @@ use mathlib.Core.List.{List}
 use mathlib.Core.Path.{_≡_, sym, ap, subst, _∙_}
 use lib.ListN.{length, getD}
 use Rattle.reading.specs.Pad.{pad}
+use Rattle.reading.specs.Counted.{Counted}
 use Rattle.reading.specs.Encoding.{Each}
 use Rattle.reading.specs.Counted.{Counted}
 use Rattle.reading.proofs.Encodes.{rows-length}
@@ -15,7 +16,7 @@ use Rattle.book_head.specs.inner.Answers.{totals}
 use Rattle.book_reading.specs.Rows.{bookRows}
 use Rattle.book_tables.specs.inner.Recognised.{BooksRecognised}
 use Rattle.floor.specs.Content.{Floor}
-use Rattle.floor.specs.inner.Valid.{ValidFloor, ValidFloors}
+use Rattle.floor.specs.inner.Valid.{ValidFloor}
 use Rattle.floor_tables.specs.inner.Recognised.{FloorsRecognised}
 use Rattle.residue.specs.Content.{Residue}
 use Rattle.residue.specs.inner.FromTable.{booksOf}
@@ -39,7 +40,6 @@ use Rattle.setup.proofs.RuleLaws.{valid-carried, valid-meets}
 use Rattle.setup.proofs.BookLinks.{books-link}
 use Rattle.setup.proofs.TableLaws.{room-parts}
 use Rattle.setup.proofs.CountsLaws.{five, five-written}
-use Rattle.setup.proofs.EachLaws.{floors-each, each-floors}
 use Rattle.setup.proofs.WrittenLaws.{SoundFacts, sound-facts}
 use Rattle.setup_tables.specs.inner.Recognised.{CountsRecognised, knownBy, PartsRecognised}
 
@@ -89,7 +89,7 @@ module _ (limits : Limits) (channels : ℕ) (t : Tables) where
           book-count = subst (Counted 256) (sym book-number) (p .numbers .books);
           books = p .front .book-tables .valid;
           floor-count = subst (Counted 64) (sym floor-number) (p .numbers .floors);
-          floors = subst (λ (n : ℕ). Each (ValidFloor n) (p .front .floor-table .content)) (sym book-number) (floors-each _ _ (p .front .floor-table .valid));
+          floors = subst (λ (n : ℕ). Each (ValidFloor n) (p .front .floor-table .content)) (sym book-number) (p .front .floor-table .valid);
           residue-count = subst (Counted 64) (sym residue-number) (p .numbers .residues);
           residues = subst (λ (k : Books). Each (ValidResidue k) (p .back .residue-tables .content)) books-same (p .back .residue-tables .holds .valid);
           mapping-count = subst (Counted 64) (sym mapping-number) (p .numbers .mappings);
@@ -168,7 +168,7 @@ module _ (limits : Limits) (channels : ℕ) (t : Tables) where
           room = facts .room .floors;
           content = s .content .floors;
           counted = sym (facts .written .counts .second);
-          valid = subst (λ (n : ℕ). ValidFloors n (s .content .floors)) (sym (facts .written .counts .first)) (each-floors _ _ (facts .valid .floors));
+          valid = subst (λ (n : ℕ). Each (ValidFloor n) (s .content .floors)) (sym (facts .written .counts .first)) (facts .valid .floors);
           written = facts .written .floors;
         }
 

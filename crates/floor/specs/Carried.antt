@@ -1,0 +1,23 @@
+-- Which floors a packet can carry, whatever the rules say of them: numbers that fit their fields, and as many as the numbers before say (004).
+use Prim.Native.Nat.{_^_, _≤_}
+use mathlib.Core.Bool.{true}
+use mathlib.Core.List.{map}
+use mathlib.Core.Path.{_≡_}
+use lib.Dec.{ltb}
+use lib.ListN.{length}
+use Rattle.reading.specs.Lists.{all}
+use Rattle.reading.specs.Encoding.{Each}
+use Rattle.reading.specs.Counted.{Counted}
+use Rattle.floor_class.specs.Carried.{CarriedClass}
+use Rattle.floor.specs.Content.{Floor, classCount, valueCount}
+
+-- a floor (004): classes up to the greatest that a partition names, and an X value for each dimension of each partition's class
+pub record CarriedFloor (f : Floor) : Type 0 where
+  pub partitions : length (f .partitions) ≤ 31
+  pub classes-named : all (λ c. ltb c 16) (f .partitions) ≡ true
+  pub class-count : length (f .classes) ≡ classCount (f .partitions)
+  pub classes : Each CarriedClass (f .classes)
+  pub multiplier : Counted 4 (f .multiplier)
+  pub rangebits : f .rangebits ≤ 15
+  pub value-count : length (f .xs) ≡ valueCount (map (λ c. c .dimensions) (f .classes)) (f .partitions)
+  pub in-range : all (λ x. ltb x (2 ^ f .rangebits)) (f .xs) ≡ true
