@@ -1,0 +1,5 @@
+pub mod Requests
+pub mod Run
+pub mod Claims
+pub mod Vectors
+pub mod inner
