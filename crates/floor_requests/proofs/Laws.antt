@@ -2,7 +2,7 @@
 use Prim.Native.Nat.{ℕ, _-_}
 use mathlib.Core.Bool.{cond}
 use mathlib.Core.List.{List, _++_}
-use mathlib.Core.Option.{Option, none, some}
+use mathlib.Core.Option.{none, some}
 use mathlib.Core.Path.{_≡_, refl, _∙_}
 use lib.Dec.{eqb}
 use lib.ListN.{getD}
@@ -17,7 +17,7 @@ use Rattle.floor.specs.Content.{Floor}
 use Rattle.floor_partition.specs.Partition.{classValue, chosen, value, partition, whole}
 use Rattle.floor_values.specs.Values.{firstBits, partitionOf, usedValues, floorValues}
 use Rattle.requests.specs.Requests.{Request, number, word, floor, Requests, done, request, bind, many, each}
-use Rattle.requests.specs.Run.{read, run, outcome}
+use Rattle.requests.specs.Run.{read}
 use Rattle.requests.specs.inner.Parts.{Reads}
 use Rattle.requests.proofs.Laws.{reads-done, reads-bind, reads-many, reads-each, reads-if, reads-request}
 use Rattle.requests.proofs.Single.{read-refused}

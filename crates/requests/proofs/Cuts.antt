@@ -1,5 +1,5 @@
 -- THE CUT THEOREM of runs (specs/Claims.antt), by one induction for every tree of requests. Assumes nothing.
-use Prim.Native.Nat.{ℕ, _*_, _≤_}
+use Prim.Native.Nat.{ℕ, _+_, _*_, _≤_}
 use native.Mathlib.Omega.{arith}
 use mathlib.Core.List.{List, [], _∷_}
 use mathlib.Core.Logic.{_⊎_, inl, inr}
@@ -7,10 +7,11 @@ use mathlib.Core.Option.{none, some}
 use mathlib.Core.Path.{_≡_, refl, ap}
 use lib.ListN.{length, take}
 use Rattle.reading.specs.Outcome.{refusal, Outcome, ok, bad}
+use Rattle.reading.specs.Lists.{sum}
 use Rattle.requests.specs.Requests.{Request, Requests, done, ask}
 use Rattle.requests.specs.Run.{read, Item, item, Run, ended, before, continued, run}
-use Rattle.requests.specs.Claims.{Prefix, SameOrPrefix, CutTheorem, Positions}
-use Rattle.requests.proofs.Single.{read-advances, read-within, read-cut}
+use Rattle.requests.specs.Claims.{SameOrPrefix, CutTheorem, bitCount, Positions}
+use Rattle.requests.proofs.Single.{read-counted, read-within, read-cut}
 
 module _ {A : Type 0} where
   same : (r : Run A) → SameOrPrefix r r
@@ -32,21 +33,24 @@ module _ {A : Type 0} where
   continued-prefix q k o′ o f′ f (inr e) h g = rw e (inr (record { cut = refl; rest = continued q k o f .items; items = refl; position = h }))
 
   module _ (lengthsOf : ℕ → List ℕ) where
-    -- the position never falls
-    run-advances : (x : Requests A) (s : List ℕ) (k : ℕ) → k ≤ run (read lengthsOf) x s k .position
-    unfolding run
-    run-advances (done a) s k = omega arith
-    run-advances (ask q f) s k = go (λ v n. run-advances (f v) s n) (read lengthsOf q s k) refl
+    -- the position is just behind the items' bits
+    run-counted : (x : Requests A) (s : List ℕ) (k : ℕ) → run (read lengthsOf) x s k .position ≡ k + bitCount lengthsOf (run (read lengthsOf) x s k .items)
+    unfolding run bitCount sum
+    run-counted (done a) s k = omega arith
+    run-counted (ask q f) s k = go (λ v n. run-counted (f v) s n) (read lengthsOf q s k) refl
       where
-        go : ((v n : ℕ) → n ≤ run (read lengthsOf) (f v) s n .position) → (o : Outcome (ℕ × ℕ)) → read lengthsOf q s k ≡ o
-            → k ≤ continued q k o (λ v n. run (read lengthsOf) (f v) s n) .position
+        go : ((v n : ℕ) → run (read lengthsOf) (f v) s n .position ≡ n + bitCount lengthsOf (run (read lengthsOf) (f v) s n .items)) → (o : Outcome (ℕ × ℕ)) → read lengthsOf q s k ≡ o
+            → continued q k o (λ v n. run (read lengthsOf) (f v) s n) .position ≡ k + bitCount lengthsOf (continued q k o (λ v n. run (read lengthsOf) (f v) s n) .items)
         go h (ok x) e =
-            let a = read-advances lengthsOf q s k (x .0) (x .1) e in
+            let a = read-counted lengthsOf q s k (x .0) (x .1) e in
             let b = h (x .0) (x .1) in
             omega arith
         go h (bad z) e = omega arith
 
-    -- nor passes the packet's end
+    run-advances : (x : Requests A) (s : List ℕ) (k : ℕ) → k ≤ run (read lengthsOf) x s k .position
+    run-advances x s k = let h = run-counted x s k in omega arith
+
+    -- and never passes the packet's end
     run-within : (x : Requests A) (s : List ℕ) (k : ℕ) → k ≤ 8 * length s → run (read lengthsOf) x s k .position ≤ 8 * length s
     unfolding run
     run-within (done a) s k l = l
@@ -71,4 +75,4 @@ module _ {A : Type 0} (lengthsOf : ℕ → List ℕ) (x : Requests A) where
   cut-theorem = record { prefix = λ s m k. run-prefix lengthsOf x s m k }
 
   pub positions : Positions lengthsOf x
-  positions = record { advances = λ s k. run-advances lengthsOf x s k; within = λ s k l. run-within lengthsOf x s k l }
+  positions = record { counted = λ s k. run-counted lengthsOf x s k; within = λ s k l. run-within lengthsOf x s k l }

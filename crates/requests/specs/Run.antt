@@ -1,18 +1,26 @@
 -- A RUN OF A TREE OF REQUESTS on a packet: all that is read before the tree's end or a cut. A cut ends the run, and nothing more is read; it does not refuse an
 -- audio packet, whose items up to there stand (01, "Audio order" 2 and 5). Assumes nothing: these are definitions.
 use Prim.Native.Nat.{ℕ}
+use mathlib.Core.Bool.{cond}
 use mathlib.Core.List.{List, [], _∷_}
 use mathlib.Core.Option.{Option, none, some}
+use lib.ListN.{getD}
 use Rattle.reading.specs.Outcome.{refusal, Outcome, ok, bad}
 use Rattle.reading.specs.Reader.{Reader}
 use Rattle.bits.specs.Field.{field}
-use Rattle.codeword.specs.Codeword.{codeword}
+use Rattle.codeword_assignment.specs.Book.{used, isLone}
+use Rattle.codeword.specs.Codeword.{loneBits, codeword}
 use Rattle.requests.specs.Requests.{Request, number, word, Requests, done, ask}
 
 -- what a request reads; `lengthsOf` gives the entry lengths of a book by its number
 unfoldable pub read : (ℕ → List ℕ) → Request → Reader ℕ
 read lengthsOf (number width) = field width
 read lengthsOf (word book role) = codeword (lengthsOf book)
+
+-- how many bits carry an answer: a field's width, a codeword's length; a sole used entry takes none (000, 3.2.1)
+unfoldable pub bitsOf : (ℕ → List ℕ) → Request → ℕ → ℕ
+bitsOf lengthsOf (number width) v = width
+bitsOf lengthsOf (word book role) e = cond (isLone (used (lengthsOf book))) loneBits (getD (lengthsOf book) e 0)
 
 -- a request with its answer
 pub record Item : Type 0 where

@@ -1,5 +1,5 @@
 -- Worked examples.
-use Prim.Native.Nat.{ℕ, zero, suc}
+use Prim.Native.Nat.{ℕ}
 use mathlib.Core.List.{List, [], _∷_}
 use mathlib.Core.Option.{none, some}
 use mathlib.Core.Path.{_≡_, refl}
@@ -8,8 +8,9 @@ use Rattle.reading.specs.Reader.{mapped}
 use Rattle.bits.specs.Field.{bitAt, valueAt, field}
 use Rattle.codeword_assignment.specs.Book.{used, isUsed, isLone, firstUsed}
 use Rattle.codeword.specs.Codeword.{codeword}
-use Rattle.requests.specs.Requests.{Request, number, word, floor, class, vector, Requests, request, bind, many, each}
+use Rattle.requests.specs.Requests.{number, word, floor, class, vector, request, bind, many, each}
 use Rattle.requests.specs.Run.{read, item, ended, run}
+use Rattle.requests.specs.Values.{wholeValues}
 
 -- every book has a sole used entry, its second, which takes no bits (000, 3.2.1)
 abbrev lengthsOf : ℕ → List ℕ
@@ -24,6 +25,8 @@ pub record RunVectors : Type 0 where
   pub counted :
       run (read lengthsOf) (bind (request (number 2)) (λ n. many (request (number 3)) n)) (0b10111010 ∷ []) 0
       ≡ ended (item (number 2) 2 ∷ item (number 3) 6 ∷ item (number 3) 5 ∷ []) 8 (some (6 ∷ 5 ∷ []))
+  -- the same three times, of which the second is cut behind its count
+  pub whole-before-cut : wholeValues (read lengthsOf) (λ w. bind (request (number 2)) (λ n. many (request (number w)) n)) (3 ∷ 8 ∷ 0 ∷ []) (0b10111010 ∷ 1 ∷ []) 0 ≡ (6 ∷ 5 ∷ []) ∷ []
   -- a sole entry stands at the exact end of a packet too, but not behind a cut
   pub sole :
       run (read lengthsOf) (bind (many (request (word 3 floor)) 2) (λ _. bind (request (number 8)) (λ _. request (word 5 class)))) (9 ∷ []) 0
@@ -33,5 +36,5 @@ pub record RunVectors : Type 0 where
       ≡ ended (item (word 3 vector) 1 ∷ []) 0 none
 
 pub runs : RunVectors
-unfolding run read request bind many each field valueAt bitAt codeword mapped used isUsed isLone firstUsed lowest
-runs = record { cut = refl; counted = refl; sole = refl; sole-behind-cut = refl }
+unfolding wholeValues run read request bind many each field valueAt bitAt codeword mapped used isUsed isLone firstUsed lowest
+runs = record { cut = refl; counted = refl; whole-before-cut = refl; sole = refl; sole-behind-cut = refl }
