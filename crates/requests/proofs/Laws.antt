@@ -1,9 +1,10 @@
 -- Laws of trees of requests and their runs, for every way `reads` to read a request. Assumes nothing.
-use Prim.Native.Nat.{ℕ, zero, suc}
+use Prim.Native.Nat.{ℕ, zero, suc, _+_}
+use native.Mathlib.Omega.{arith}
 use mathlib.Core.Bool.{Bool, true, false, cond}
 use mathlib.Core.List.{List, [], _∷_, _++_, append-assoc}
 use mathlib.Core.Option.{Option, none, some}
-use mathlib.Core.Path.{_≡_, refl, ap}
+use mathlib.Core.Path.{_≡_, refl, ap, sym, _∙_}
 use Rattle.reading.specs.Outcome.{Refusal, refusal, Outcome, ok, bad, then}
 use Rattle.reading.specs.Reader as reader
 use Rattle.requests.specs.Requests.{Request, Requests, done, ask, request, bind, many, each}
@@ -26,6 +27,40 @@ module _ {A B C : Type 0} where
   unfolding bind
   bind-bind (done a) f g = refl
   bind-bind (ask q h) f g = λ j. ask q (λ v. bind-bind (h v) f g j)
+
+module _ {A B : Type 0} where
+  pub bind-same : (x : Requests A) (f g : A → Requests B) → ((a : A) → f a ≡ g a) → bind x f ≡ bind x g
+  bind-same x f g e = λ j. bind x (λ a. e a j)
+
+-- one list and then another, one count and then another
+module _ {A : Type 0} where
+  -- the values of x, those of y behind them
+  abbrev pub appended : Requests (List A) → Requests (List A) → Requests (List A)
+  appended x y = bind x (λ l. bind y (λ m. done (l ++ m)))
+
+  one-before : (a : A) (x y : Requests (List A)) → bind (appended x y) (λ l. done (a ∷ l)) ≡ bind (bind x (λ l. done (a ∷ l))) (λ l. bind y (λ m. done (l ++ m)))
+  unfolding bind
+  one-before a x y =
+      bind-bind x (λ l. bind y (λ m. done (l ++ m))) (λ l. done (a ∷ l))
+      ∙ bind-same x (λ l. bind (bind y (λ m. done (l ++ m))) (λ t. done (a ∷ t))) (λ l. bind y (λ m. done (a ∷ l ++ m))) (λ l. bind-bind y (λ m. done (l ++ m)) (λ t. done (a ∷ t)))
+      ∙ sym (bind-bind x (λ l. done (a ∷ l)) (λ l. bind y (λ m. done (l ++ m))))
+
+  -- a tree more before the first
+  more : (z : Requests A) (w x y : Requests (List A)) → w ≡ appended x y
+      → bind z (λ a. bind w (λ l. done (a ∷ l))) ≡ appended (bind z (λ a. bind x (λ l. done (a ∷ l)))) y
+  more z w x y e =
+      bind-same z (λ a. bind w (λ l. done (a ∷ l))) (λ a. bind (bind x (λ l. done (a ∷ l))) (λ l. bind y (λ m. done (l ++ m)))) (λ a. rw e (one-before a x y))
+      ∙ sym (bind-bind z (λ a. bind x (λ l. done (a ∷ l))) (λ l. bind y (λ m. done (l ++ m))))
+
+  pub many-add : (x : Requests A) (n m : ℕ) → many x (n + m) ≡ appended (many x n) (many x m)
+  unfolding many bind
+  many-add x zero m = let e : 0 + m ≡ m = omega arith in rw e (sym (bind-end (many x m)))
+  many-add x (suc n) m = let e : suc n + m ≡ suc (n + m) = omega arith in rw e (more x (many x (n + m)) (many x n) (many x m) (many-add x n m))
+
+  pub each-append : {B : Type 0} (g : B → Requests A) (bs cs : List B) → each g (bs ++ cs) ≡ appended (each g bs) (each g cs)
+  unfolding each bind
+  each-append g [] cs = sym (bind-end (each g cs))
+  each-append g (b ∷ bs) cs = more (g b) (each g (bs ++ cs)) (each g bs) (each g cs) (each-append g bs cs)
 
 -- the run of one tree and then another
 module _ {A B : Type 0} (reads : Request → reader.Reader ℕ) (s : List ℕ) where

@@ -1,6 +1,5 @@
 -- What a single request reads: nothing but a cut refuses it, a cut packet gives the same or the cut, and it ends behind its bits and within the packet. Assumes nothing.
 use Prim.Native.Nat.{ℕ, zero, suc, _+_, _*_, _≤_}
-use native.Mathlib.Omega.{arith}
 use mathlib.Core.Bool.{Bool, true, false, cond}
 use mathlib.Core.List.{List}
 use mathlib.Core.Logic.{_⊎_}
