@@ -9,7 +9,7 @@ pub data Role : Type 0 where
   class : Role
   vector : Role
 
--- a field of so many bits (000, 2.1); a codeword of the book with this number (000, 3.2.1). The answer is a number: the field's value, or the entry
+-- a field of so many bits (000, 2.1); a codeword of the book with this number (002, "Using a codebook"). The answer is a number: the field's value, or the entry
 pub data Request : Type 0 where
   number : ℕ → Request
   word : ℕ → Role → Request

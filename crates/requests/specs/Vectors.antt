@@ -25,7 +25,7 @@ pub record RunVectors : Type 0 where
   pub counted :
       run (read lengthsOf) (bind (request (number 2)) (λ n. many (request (number 3)) n)) (0b10111010 ∷ []) 0
       ≡ ended (item (number 2) 2 ∷ item (number 3) 6 ∷ item (number 3) 5 ∷ []) 8 (some (6 ∷ 5 ∷ []))
-  -- the same three times, of which the second is cut behind its count
+  -- three such trees, of numbers of 3, 8 and 0 bits: the second is cut behind its count
   pub whole-before-cut : wholeValues (read lengthsOf) (λ w. bind (request (number 2)) (λ n. many (request (number w)) n)) (3 ∷ 8 ∷ 0 ∷ []) (0b10111010 ∷ 1 ∷ []) 0 ≡ (6 ∷ 5 ∷ []) ∷ []
   -- a sole entry stands at the exact end of a packet too, but not behind a cut
   pub sole :
