@@ -1,0 +1,4 @@
+pub mod Laws
+pub mod Single
+pub mod Cuts
+pub mod Values

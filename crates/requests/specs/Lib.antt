@@ -1,0 +1,6 @@
+pub mod Requests
+pub mod Run
+pub mod Values
+pub mod Claims
+pub mod Vectors
+pub mod inner

@@ -1,0 +1,40 @@
+-- Worked examples.
+use Prim.Native.Nat.{ℕ}
+use mathlib.Core.List.{List, [], _∷_}
+use mathlib.Core.Option.{none, some}
+use mathlib.Core.Path.{_≡_, refl}
+use Rattle.reading.specs.Least.{lowest}
+use Rattle.reading.specs.Reader.{mapped}
+use Rattle.bits.specs.Field.{bitAt, valueAt, field}
+use Rattle.codeword_assignment.specs.Book.{used, isUsed, isLone, firstUsed}
+use Rattle.codeword.specs.Codeword.{codeword}
+use Rattle.requests.specs.Requests.{number, word, floor, class, vector, request, bind, many, each}
+use Rattle.requests.specs.Run.{read, item, ended, run}
+use Rattle.requests.specs.Values.{wholeValues}
+
+-- every book has a sole used entry, its second, which takes no bits (000, 3.2.1)
+abbrev lengthsOf : ℕ → List ℕ
+lengthsOf b = 0 ∷ 1 ∷ []
+
+pub record RunVectors : Type 0 where
+  -- the packet of four bytes of 000, 2.1.6, of which 5 bits are left where 6 are asked for: what follows is not read, though it has fewer bits
+  pub cut :
+      run (read lengthsOf) (each (λ w. request (number w)) (4 ∷ 3 ∷ 7 ∷ 13 ∷ 6 ∷ 1 ∷ [])) (252 ∷ 72 ∷ 206 ∷ 6 ∷ []) 0
+      ≡ ended (item (number 4) 12 ∷ item (number 3) 7 ∷ item (number 7) 17 ∷ item (number 13) 6969 ∷ []) 27 none
+  -- a count of 2 bits, then as many numbers of 3 bits
+  pub counted :
+      run (read lengthsOf) (bind (request (number 2)) (λ n. many (request (number 3)) n)) (0b10111010 ∷ []) 0
+      ≡ ended (item (number 2) 2 ∷ item (number 3) 6 ∷ item (number 3) 5 ∷ []) 8 (some (6 ∷ 5 ∷ []))
+  -- three such trees, of numbers of 3, 8 and 0 bits: the second is cut behind its count
+  pub whole-before-cut : wholeValues (read lengthsOf) (λ w. bind (request (number 2)) (λ n. many (request (number w)) n)) (3 ∷ 8 ∷ 0 ∷ []) (0b10111010 ∷ 1 ∷ []) 0 ≡ (6 ∷ 5 ∷ []) ∷ []
+  -- a sole entry stands at the exact end of a packet too, but not behind a cut
+  pub sole :
+      run (read lengthsOf) (bind (many (request (word 3 floor)) 2) (λ _. bind (request (number 8)) (λ _. request (word 5 class)))) (9 ∷ []) 0
+      ≡ ended (item (word 3 floor) 1 ∷ item (word 3 floor) 1 ∷ item (number 8) 9 ∷ item (word 5 class) 1 ∷ []) 8 (some 1)
+  pub sole-behind-cut :
+      run (read lengthsOf) (bind (request (word 3 vector)) (λ _. bind (request (number 9)) (λ _. request (word 5 vector)))) (9 ∷ []) 0
+      ≡ ended (item (word 3 vector) 1 ∷ []) 0 none
+
+pub runs : RunVectors
+unfolding wholeValues run read request bind many each field valueAt bitAt codeword mapped used isUsed isLone firstUsed lowest
+runs = record { cut = refl; counted = refl; whole-before-cut = refl; sole = refl; sole-behind-cut = refl }
