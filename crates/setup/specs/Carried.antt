@@ -1,14 +1,6 @@
 -- WHICH CONTENTS A PACKET CAN CARRY, whatever the rules say of them: numbers that fit their fields, and as many as the numbers before say (001 to 004). A number that no
 -- field carries is in no content.
-<<<<<<< HEAD
 use Prim.Native.Nat.{ℕ, _≤_}
-=======
-use Prim.Native.Nat.{ℕ, _^_, _≤_, _<_}
-use mathlib.Core.Bool.{true}
-use mathlib.Core.List.{map}
-use mathlib.Core.Path.{_≡_}
-use lib.Dec.{ltb, leb}
->>>>>>> rb
 use lib.ListN.{length}
 use Rattle.reading.specs.Encoding.{Each}
 use Rattle.reading.specs.Counted.{Counted}
