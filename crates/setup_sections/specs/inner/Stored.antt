@@ -8,7 +8,7 @@ use Rattle.residue.specs.Content.{Residue}
 use Rattle.mapping.specs.Content.{Mapping}
 use Rattle.mode.specs.Content.{Mode}
 use Rattle.setup.specs.Handed.{Slice}
-use Rattle.setup.specs.inner.Parts.{RowsStored, BooksStored, ResiduesStored, FloorsStored, MappingsStored, AfterBooksStored}
+use Rattle.setup.specs.inner.Parts.{RowsStored, BooksStored, ResiduesStored, FloorsStored, MappingsStored, AfterBooksStored, RestStored}
 
 -- n items with their rows in a table
 module _ {A : Type 0} where
@@ -50,6 +50,17 @@ mappingsStoredIn mappingCount modeCount mappings modes =
 abbrev pub afterBooksStoredIn : ℕ → ℕ → ℕ → ℕ → Slice → Slice → Slice → Slice → Slice → (List Floor × List Residue) × (List Mapping × List Mode) → Type 0
 afterBooksStoredIn floorCount residueCount mappingCount modeCount floors residues plans mappings modes =
     AfterBooksStored floorCount residueCount mappingCount modeCount
+    (now (floors .entry)) (now (floors .exit))
+    (now (residues .entry)) (now (residues .exit))
+    (now (plans .entry)) (now (plans .exit))
+    (now (mappings .entry)) (now (mappings .exit))
+    (now (modes .entry)) (now (modes .exit))
+
+-- the same with the counts of all, behind so many books
+abbrev pub restStoredIn : ℕ → Slice → Slice → Slice → Slice → Slice → Slice → (List Floor × List Residue) × (List Mapping × List Mode) → Type 0
+restStoredIn bookCount counts floors residues plans mappings modes =
+    RestStored bookCount
+    (now (counts .entry)) (now (counts .exit))
     (now (floors .entry)) (now (floors .exit))
     (now (residues .entry)) (now (residues .exit))
     (now (plans .entry)) (now (plans .exit))
