@@ -15,8 +15,8 @@ abbrev μ-loop : tie.MeasureT-loop
 class-dimensions-requires : tie.Need-class-dimensions-requires Inv-loop μ-loop
 class-dimensions-requires c κs = (c .before .before .before .before .before .before .pre .1 .floor-few, c .before .before .before .before .before .before .pre .1 .class-few)
 
-wide-requires : tie.Need-wide-requires Inv-loop μ-loop
-wide-requires c κs = search needs
+wide-u16-requires : tie.Need-wide-u16-requires Inv-loop μ-loop
+wide-u16-requires c κs = search needs
 
 class-subclasses-requires : tie.Need-class-subclasses-requires Inv-loop μ-loop
 class-subclasses-requires c κs = (c .before .before .before .before .before .before .before .before .pre .1 .floor-few, c .before .before .before .before .before .before .before .before .pre .1 .class-few)
@@ -25,7 +25,7 @@ choices-requires : tie.Need-choices-requires Inv-loop μ-loop
 choices-requires c κs = subclasses-few (c .before .before .before .before .before .before .before .before .before .pre .1) (c .class-subclasses .ensures)
 
 loop-holds : tie.Need-loop-holds Inv-loop μ-loop
-loop-holds c = choose-start (c .before .before .before .before .before .before .before .before .before .before .pre .0) (c .before .before .before .before .before .before .before .before .before .before .pre .1) (c .before .before .before .class-dimensions .ensures) (c .before .before .wide .ensures) (c .before .class-subclasses .ensures) (c .choices .ensures)
+loop-holds c = choose-start (c .before .before .before .before .before .before .before .before .before .before .pre .0) (c .before .before .before .before .before .before .before .before .before .before .pre .1) (c .before .before .before .class-dimensions .ensures) (c .before .before .wide-u16 .ensures) (c .before .class-subclasses .ensures) (c .choices .ensures)
 
 rem-index : tie.Need-rem-index Inv-loop μ-loop
 rem-index c = base-low (c .before .loop .inv)
@@ -64,7 +64,13 @@ loop-less : tie.Need-loop-less Inv-loop μ-loop
 loop-less c = search needs
 
 loop-again : tie.Need-loop-again Inv-loop μ-loop
-loop-again c = choose-next (c .before .before .before .before .before .before .before .before .before .before .loop .inv) (c .before .before .before .before .before .before .before .before .index .ensures) (c .before .before .before .before .before .before .before .subclass-book .ensures) (omega arith) (c .before .before .before .before .before .read-value .ensures) (c .before .after .given .1) (search needs)
+loop-again c =
+    let at-read-value = c .before .before .before .before .before in
+    let at-subclass-book = at-read-value .before .before in
+    let at-index = at-subclass-book .before in
+    let at-loop = at-index .before .before in
+    choose-next (at-loop .loop .inv) (at-index .index .ensures) (at-subclass-book .subclass-book .ensures) (omega arith)
+    (at-read-value .read-value .ensures) (c .before .after .given .1) (search needs)
 
 same-length-2 : tie.Need-same-length-2 Inv-loop μ-loop
 same-length-2 c = search needs
@@ -79,7 +85,7 @@ read-chosen-spec =
     Inv-loop
     μ-loop
     class-dimensions-requires
-    wide-requires
+    wide-u16-requires
     class-subclasses-requires
     choices-requires
     loop-holds

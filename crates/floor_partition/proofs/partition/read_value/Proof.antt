@@ -41,7 +41,15 @@ same-length-2 : tie.Need-same-length-2
 same-length-2 c = search needs
 
 returns-3 : tie.Need-returns-3
-returns-3 c = value-read (c .before .before .before .before .before .before .before .before .before .before .before .before .before .before .before .before .pre) _ _ (c .before .before .before .before .before .before .before .before .before .before .if1 .left) (c .before .before .before .before .before .before .before .before .before .long .ensures) _ (c .before .before .before .before .before .before .before .before .read-entry .ensures .0) (c .before .before .before .before .before .before .entry .given .1) (c .before .before .before .narrow .ensures) _ _ _ (c .before .before .put-u162 .ensures)
+returns-3 c =
+    let at-narrow = c .before .before .before in
+    let at-entry = at-narrow .before .before .before in
+    let at-read-entry = at-entry .before .before in
+    let at-long = at-read-entry .before in
+    let at-if1 = at-long .before in
+    let at-pre = at-if1 .before .before .before .before .before .before in
+    value-read (at-pre .pre) _ _ (at-if1 .if1 .left) (at-long .long .ensures) _ (at-read-entry .read-entry .ensures .0) (at-entry .entry .given .1)
+    (at-narrow .narrow .ensures) _ _ _ (c .before .before .put-u162 .ensures)
 
 pub read-value-spec : {M : Type 1} → statement M
 read-value-spec =
