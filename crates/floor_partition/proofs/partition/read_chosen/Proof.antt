@@ -27,20 +27,20 @@ choices-requires c κs = subclasses-few (c .before .before .before .before .befo
 loop-holds : tie.Need-loop-holds Inv-loop μ-loop
 loop-holds c = choose-start (c .before .before .before .before .before .before .before .before .before .before .pre .0) (c .before .before .before .before .before .before .before .before .before .before .pre .1) (c .before .before .before .class-dimensions .ensures) (c .before .before .wide-u16 .ensures) (c .before .class-subclasses .ensures) (c .choices .ensures)
 
-rem-index : tie.Need-rem-index Inv-loop μ-loop
-rem-index c = base-low (c .before .loop .inv)
+rem-wide-u32 : tie.Need-rem-wide-u32 Inv-loop μ-loop
+rem-wide-u32 c = base-low (c .before .loop .inv)
 
-index-requires : tie.Need-index-requires Inv-loop μ-loop
-index-requires c κs = search needs
+wide-u32-requires : tie.Need-wide-u32-requires Inv-loop μ-loop
+wide-u32-requires c κs = search needs
 
 subclass-book-requires : tie.Need-subclass-book-requires Inv-loop μ-loop
-subclass-book-requires c κs = (c .before .before .loop .inv .stored .floor-few, c .before .before .loop .inv .stored .class-few, digit-few (c .before .before .loop .inv) (c .index .ensures))
+subclass-book-requires c κs = (c .before .before .loop .inv .stored .floor-few, c .before .before .loop .inv .stored .class-few, digit-few (c .before .before .loop .inv) (c .wide-u32 .ensures))
 
 add-read-value : tie.Need-add-read-value Inv-loop μ-loop
 add-read-value c = search needs
 
 read-value-requires : tie.Need-read-value-requires Inv-loop μ-loop
-read-value-requires c κs = place-stored (c .before .before .before .before .loop .inv) (c .before .before .index .ensures) (c .before .subclass-book .ensures)
+read-value-requires c κs = place-stored (c .before .before .before .before .loop .inv) (c .before .before .wide-u32 .ensures) (c .before .subclass-book .ensures)
 
 enum-known-z : tie.Need-enum-known-z Inv-loop μ-loop
 enum-known-z c = search needs
@@ -49,7 +49,7 @@ same-length : tie.Need-same-length Inv-loop μ-loop
 same-length c = search needs
 
 returns : tie.Need-returns Inv-loop μ-loop
-returns c = choose-refused (c .before .before .before .before .before .before .before .before .before .before .loop .inv) (c .before .before .before .before .before .before .before .before .index .ensures) (c .before .before .before .before .before .before .before .subclass-book .ensures) (omega arith) (c .before .before .before .before .before .read-value .ensures) (c .before .z .given .1) _
+returns c = choose-refused (c .before .before .before .before .before .before .before .before .before .before .loop .inv) (c .before .before .before .before .before .before .before .before .wide-u32 .ensures) (c .before .before .before .before .before .before .before .subclass-book .ensures) (omega arith) (c .before .before .before .before .before .read-value .ensures) (c .before .z .given .1) _
 
 enum-known-after : tie.Need-enum-known-after Inv-loop μ-loop
 enum-known-after c = search needs
@@ -67,9 +67,9 @@ loop-again : tie.Need-loop-again Inv-loop μ-loop
 loop-again c =
     let at-read-value = c .before .before .before .before .before in
     let at-subclass-book = at-read-value .before .before in
-    let at-index = at-subclass-book .before in
-    let at-loop = at-index .before .before in
-    choose-next (at-loop .loop .inv) (at-index .index .ensures) (at-subclass-book .subclass-book .ensures) (omega arith)
+    let at-wide-u32 = at-subclass-book .before in
+    let at-loop = at-wide-u32 .before .before in
+    choose-next (at-loop .loop .inv) (at-wide-u32 .wide-u32 .ensures) (at-subclass-book .subclass-book .ensures) (omega arith)
     (at-read-value .read-value .ensures) (c .before .after .given .1) (search needs)
 
 same-length-2 : tie.Need-same-length-2 Inv-loop μ-loop
@@ -89,8 +89,8 @@ read-chosen-spec =
     class-subclasses-requires
     choices-requires
     loop-holds
-    rem-index
-    index-requires
+    rem-wide-u32
+    wide-u32-requires
     subclass-book-requires
     add-read-value
     read-value-requires
