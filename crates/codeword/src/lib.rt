@@ -2,6 +2,7 @@
 use bits::Cursor;
 use bits::Field;
 use bits::Refusal;
+use reading::widths::wide_u8;
 ghost use mathlib.Core.Path.{_≡_};
 ghost use Prim.Native.Nat.{_+_, _*_, _<_};
 ghost use lib.Dec.{ltb};
@@ -66,7 +67,7 @@ fn match_codeword(packet: &[u8], from: Cursor, lengths: &[u8], codewords: &[u32]
             if entry == lengths.len() {
                 break 'word cut(from);
             }
-            let length = wide(lengths[entry]);
+            let length = wide_u8(lengths[entry]);
             if taken <= length {
                 if codewords[entry] >> (length - taken) == word {
                     if taken == length {
@@ -90,12 +91,6 @@ fn cut(from: Cursor) -> Field
     })
 }
 
-fn wide(x: u8) -> usize
-    ensures { λ r. ⌜ r ≡ x ⌝ }
-{
-    x as usize
-}
-
 // Whether the packet has the bit `taken` bits behind the cursor.
 fn has_bit(packet: &[u8], from: Cursor, taken: usize) -> bool
     requires { ⌜ taken < 32 ⌝ }
@@ -105,7 +100,7 @@ fn has_bit(packet: &[u8], from: Cursor, taken: usize) -> bool
     if packet.len() <= byte {
         return false;
     }
-    (wide(from.bit) + taken) / 8 < packet.len() - byte
+    (wide_u8(from.bit) + taken) / 8 < packet.len() - byte
 }
 
 // The bit `taken` bits behind the cursor.
@@ -113,7 +108,7 @@ fn bit(packet: &[u8], from: Cursor, taken: usize) -> u32
     requires { ⌜ (taken < 32) × (position from + taken < 8 * length (now packet)) ⌝ }
     ensures { λ r. ⌜ r ≡ bitAt (now (packet .entry)) (position from + taken) ⌝ }
 {
-    let bit = wide(from.bit) + taken;
+    let bit = wide_u8(from.bit) + taken;
     let byte = from.byte + bit / 8;
     ((packet[byte] >> (bit % 8)) % 2) as u32
 }
@@ -123,7 +118,7 @@ fn after(from: Cursor, taken: usize) -> Cursor
     requires { ⌜ (taken < 33) × (from .byte < 9223372036854775808) ⌝ }
     ensures { λ r. ⌜ position r ≡ position from + taken ⌝ }
 {
-    let bit = wide(from.bit) + taken;
+    let bit = wide_u8(from.bit) + taken;
     Cursor {
         byte: from.byte + bit / 8,
         bit: (bit % 8) as u8,

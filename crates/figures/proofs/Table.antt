@@ -97,4 +97,6 @@ tests-hold (f ∷ fs) t = let p = and-split (test f) (tests fs) t in (test-holds
 pub figures : Figures
 figures =
     tests-hold table
-    (unfold tests test same isNumber lengthsTest lowest isUsed isLone used accepted runAnswers enterAnswer enterBlocks blockFor isLength blockAbove smallest emptyBlocks offset line searched F.rangeOf takesLow takesHigh lowNeighbour highNeighbour F.predicted F.room F.unwrapped F.flagged F.step F.steps F.begun F.points F.clamped F.fitting F.finalYs takesLeft takesRight lastAt nextAfter heightAt natural lineAt between curveAt in refl)
+    (unfold tests test same isNumber lengthsTest lowest isUsed isLone used accepted runAnswers enterAnswer enterBlocks blockFor isLength blockAbove smallest emptyBlocks
+    offset line searched F.rangeOf takesLow takesHigh lowNeighbour highNeighbour F.predicted F.room F.unwrapped F.flagged F.step F.steps F.begun F.points
+    F.clamped F.fitting F.finalYs takesLeft takesRight lastAt nextAfter heightAt natural lineAt between curveAt in refl)

@@ -7,7 +7,7 @@ use lines::draw_line;
 use points::height_at;
 use points::last_at;
 use points::next_after;
-use points::wide;
+use reading::widths::wide_u16;
 ghost use mathlib.Core.Path.{_≡_};
 ghost use lib.ListN.{length, replicate};
 ghost use Rattle.floor_curve.specs.Curve as drawing;
@@ -34,7 +34,7 @@ fn draw_points(x: &[u16], y: &[u8], flags: &[u8], multiplier: u8, out: &mut [u8]
             x[r],
             height_at(y, multiplier, r),
         );
-        at = wide(x[r]);
+        at = wide_u16(x[r]);
     }
 }
 
@@ -57,7 +57,9 @@ fn fitting(x: &[u16], y: usize, flags: usize) -> bool
 // The curve's first `out.len()` places. True where there are as many X, Y and flags, at least one, and the first X is 0. Otherwise false, and `out` is all
 // zero.
 pub fn curve(x: &[u16], y: &[u8], flags: &[u8], multiplier: u8, out: &mut [u8]) -> bool
-    ensures { λ r. ⌜ (left r (now (out .exit)) ≡ drawing.curve (now (x .entry)) (now (y .entry)) (now (flags .entry)) multiplier (length (now (out .entry)))) × Bytes (curveAt (now (x .entry)) (now (y .entry)) (now (flags .entry)) multiplier) ⌝ }
+    ensures { λ r. ⌜ (left r (now (out .exit))
+        ≡ drawing.curve (now (x .entry)) (now (y .entry)) (now (flags .entry)) multiplier (length (now (out .entry))))
+        × Bytes (curveAt (now (x .entry)) (now (y .entry)) (now (flags .entry)) multiplier) ⌝ }
 {
     if fitting(x, y.len(), flags.len()) {
         draw_points(x, y, flags, multiplier, out);

@@ -1,22 +1,17 @@
 // The flagged points around a place: the last at or left of it, and the next right of it.
+use reading::widths::wide_u16;
 ghost use mathlib.Core.Path.{_≡_};
 ghost use mathlib.Core.Bool.{cond};
 ghost use Prim.Native.Nat.{_*_, _≤_, _<_, min};
 ghost use lib.ListN.{length, getD};
 ghost use Rattle.floor_curve.specs.Curve.{xOr, takesLeft, takesRight, lastAt, nextAfter, IsLast, IsNext, heightAt};
 
-pub fn wide(x: u16) -> usize
-    ensures { λ r. ⌜ r ≡ x ⌝ }
-{
-    x as usize
-}
-
 // The X of a place; 65,536 past the list.
 fn x_or(x: &[u16], j: usize) -> usize
     ensures { λ r. ⌜ r ≡ xOr (now (x .entry)) j ⌝ }
 {
     if j < x.len() {
-        return wide(x[j]);
+        return wide_u16(x[j]);
     }
     65536
 }
@@ -29,7 +24,7 @@ fn later(x: &[u16], flags: &[u8], at: usize, j: usize, best: usize) -> usize
     if flags[j] == 0 {
         return best;
     }
-    if at < wide(x[j]) {
+    if at < wide_u16(x[j]) {
         return best;
     }
     if x[best] >= x[j] {
@@ -46,10 +41,10 @@ fn earlier(x: &[u16], flags: &[u8], at: usize, j: usize, best: usize) -> usize
     if flags[j] == 0 {
         return best;
     }
-    if wide(x[j]) <= at {
+    if wide_u16(x[j]) <= at {
         return best;
     }
-    if x_or(x, best) <= wide(x[j]) {
+    if x_or(x, best) <= wide_u16(x[j]) {
         return best;
     }
     j
@@ -57,7 +52,8 @@ fn earlier(x: &[u16], flags: &[u8], at: usize, j: usize, best: usize) -> usize
 
 pub fn last_at(x: &[u16], flags: &[u8], at: usize) -> usize
     requires { ⌜ (0 < length (now x)) × (length (now flags) ≡ length (now x)) ⌝ }
-    ensures { λ r. ⌜ (r ≡ lastAt (now (x .entry)) (now (flags .entry)) at) × (r < length (now (x .entry))) × (getD (now (x .entry)) 0 0 ≤ at → IsLast (now (x .entry)) (now (flags .entry)) at r) ⌝ }
+    ensures { λ r. ⌜ (r ≡ lastAt (now (x .entry)) (now (flags .entry)) at) × (r < length (now (x .entry)))
+        × (getD (now (x .entry)) 0 0 ≤ at → IsLast (now (x .entry)) (now (flags .entry)) at r) ⌝ }
 {
     let mut best: usize = 0;
     let mut j: usize = 0;
@@ -70,7 +66,8 @@ pub fn last_at(x: &[u16], flags: &[u8], at: usize) -> usize
 
 pub fn next_after(x: &[u16], flags: &[u8], at: usize) -> usize
     requires { ⌜ length (now flags) ≡ length (now x) ⌝ }
-    ensures { λ r. ⌜ (r ≡ nextAfter (now (x .entry)) (now (flags .entry)) at) × (r ≤ length (now (x .entry))) × IsNext (now (x .entry)) (now (flags .entry)) at r ⌝ }
+    ensures { λ r. ⌜ (r ≡ nextAfter (now (x .entry)) (now (flags .entry)) at) × (r ≤ length (now (x .entry)))
+        × IsNext (now (x .entry)) (now (flags .entry)) at r ⌝ }
 {
     let mut best = x.len();
     let mut j: usize = 0;

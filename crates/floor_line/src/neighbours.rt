@@ -36,7 +36,8 @@ fn lower(x: &[u16], bottom: u16, j: usize, best: usize) -> usize
 
 pub fn low_neighbour(x: &[u16], i: usize) -> usize
     requires { ⌜ (0 < i) × (i < length (now x)) ⌝ }
-    ensures { λ r. ⌜ (r ≡ lowNeighbour (now (x .entry)) i) × (r < i) × (xAt (now (x .entry)) 0 < xAt (now (x .entry)) i → IsLow (now (x .entry)) i r) ⌝ }
+    ensures { λ r. ⌜ (r ≡ lowNeighbour (now (x .entry)) i) × (r < i)
+        × (xAt (now (x .entry)) 0 < xAt (now (x .entry)) i → IsLow (now (x .entry)) i r) ⌝ }
 {
     let top = x[i];
     let mut best: usize = 0;
@@ -50,7 +51,8 @@ pub fn low_neighbour(x: &[u16], i: usize) -> usize
 
 pub fn high_neighbour(x: &[u16], i: usize) -> usize
     requires { ⌜ (1 < i) × (i < length (now x)) ⌝ }
-    ensures { λ r. ⌜ (r ≡ highNeighbour (now (x .entry)) i) × (r < i) × (xAt (now (x .entry)) i < xAt (now (x .entry)) 1 → IsHigh (now (x .entry)) i r) ⌝ }
+    ensures { λ r. ⌜ (r ≡ highNeighbour (now (x .entry)) i) × (r < i)
+        × (xAt (now (x .entry)) i < xAt (now (x .entry)) 1 → IsHigh (now (x .entry)) i r) ⌝ }
 {
     let bottom = x[i];
     let mut best: usize = 1;

@@ -2,40 +2,19 @@
 use bits::Cursor;
 use bits::Field;
 use bits::Step;
+use numbers::narrow;
 use reading::buffers;
+use reading::widths::u32_from_u16;
+use reading::widths::wide_u16;
+use reading::widths::wide_u32;
 ghost use mathlib.Core.Path.{_≡_};
-ghost use Prim.Native.Nat.{_+_, _^_, _<_, _≤_};
+ghost use Prim.Native.Nat.{_+_, _^_, _≤_};
 ghost use Rattle.reading.specs.Reader.{each, into, into1};
 ghost use Rattle.reading.specs.inner.Table.{table, putRow};
 ghost use Rattle.bits.specs.inner.Cursors.{position, outcome, Wrote};
 ghost use Rattle.numbers.specs.inner.Cell.{cell};
 ghost use Rattle.floor_partition.specs.Partition.{classValue, chosen, value, partition, whole};
 ghost use Rattle.floor_partition.specs.inner.Stored.{lengthsIn, classIn, PlaceStored, ClassStored};
-
-pub fn wide(x: u16) -> usize
-    ensures { λ r. ⌜ r ≡ x ⌝ }
-{
-    x as usize
-}
-
-fn long(x: u16) -> u32
-    ensures { λ r. ⌜ r ≡ x ⌝ }
-{
-    x as u32
-}
-
-fn index(x: u32) -> usize
-    ensures { λ r. ⌜ r ≡ x ⌝ }
-{
-    x as usize
-}
-
-fn narrow(x: u32) -> u16
-    requires { ⌜ x < 65536 ⌝ }
-    ensures { λ r. ⌜ r ≡ x ⌝ }
-{
-    x as u16
-}
 
 // How many books a class has.
 fn choices(subclasses: u16) -> u32
@@ -57,13 +36,22 @@ fn read_value(
     at: usize,
 ) -> Step
     requires { ⌜ PlaceStored (now books) (now lengths) (now codewords) place ⌝ }
-    ensures { λ r. ⌜ Wrote (into1 (putRow cell) (value (lengthsIn (now (books .entry)) (now (lengths .entry))) place (now (packet .entry)) (position from)) (table (now (values .entry)) at)) r (table (now (values .exit)) (at + 1)) ⌝ }
+    ensures { λ r. ⌜ Wrote (into1 (putRow cell)
+        (value (lengthsIn (now (books .entry)) (now (lengths .entry))) place (now (packet .entry)) (position from))
+        (table (now (values .entry)) at)) r (table (now (values .exit)) (at + 1)) ⌝ }
 {
     if place == 0 {
         buffers::put_u16(values, at, 0);
         return Step::Next(from);
     }
-    match book_codeword::read_entry(packet, from, long(place) - 1, books, lengths, codewords) {
+    match book_codeword::read_entry(
+        packet,
+        from,
+        u32_from_u16(place) - 1,
+        books,
+        lengths,
+        codewords,
+    ) {
         Field::Refused(z) => Step::Refused(z),
         Field::Value(entry, next) => {
             buffers::put_u16(values, at, narrow(entry));
@@ -84,12 +72,13 @@ fn read_class_value(
     codewords: &[u32],
 ) -> Field
     requires { ⌜ ClassStored (now floors) (now books) (now lengths) (now codewords) floor class ⌝ }
-    ensures { λ r. ⌜ outcome r ≡ classValue (lengthsIn (now (books .entry)) (now (lengths .entry))) (classIn (now (floors .entry)) floor class) (now (packet .entry)) (position from) ⌝ }
+    ensures { λ r. ⌜ outcome r ≡ classValue (lengthsIn (now (books .entry)) (now (lengths .entry))) (classIn (now (floors .entry)) floor class)
+        (now (packet .entry)) (position from) ⌝ }
 {
     if floor_row::class_subclasses(floors, floor, class) == 0 {
         return Field::Value(0, from);
     }
-    let master = long(floor_row::class_master(floors, floor, class));
+    let master = u32_from_u16(floor_row::class_master(floors, floor, class));
     book_codeword::read_entry(packet, from, master - 1, books, lengths, codewords)
 }
 
@@ -108,15 +97,19 @@ fn read_chosen(
     at: usize,
 ) -> Step
     requires { ⌜ (at ≤ 65535) × ClassStored (now floors) (now books) (now lengths) (now codewords) floor class ⌝ }
-    ensures { λ r. ⌜ Wrote (into (putRow cell) (each (value (lengthsIn (now (books .entry)) (now (lengths .entry)))) (chosen (classIn (now (floors .entry)) floor class) «class_value» (classIn (now (floors .entry)) floor class .dimensions)) (now (packet .entry)) (position from)) (table (now (values .entry)) at)) r (table (now (values .exit)) (at + classIn (now (floors .entry)) floor class .dimensions)) ⌝ }
+    ensures { λ r. ⌜ Wrote (into (putRow cell)
+        (each (value (lengthsIn (now (books .entry)) (now (lengths .entry))))
+        (chosen (classIn (now (floors .entry)) floor class) «class_value» (classIn (now (floors .entry)) floor class .dimensions))
+        (now (packet .entry)) (position from)) (table (now (values .entry)) at)) r
+        (table (now (values .exit)) (at + classIn (now (floors .entry)) floor class .dimensions)) ⌝ }
 {
-    let count = wide(floor_row::class_dimensions(floors, floor, class));
+    let count = wide_u16(floor_row::class_dimensions(floors, floor, class));
     let base = choices(floor_row::class_subclasses(floors, floor, class));
     let mut next = from;
     let mut left = class_value;
     let mut i: usize = 0;
     while i < count {
-        let place = floor_row::subclass_book(floors, floor, class, index(left % base));
+        let place = floor_row::subclass_book(floors, floor, class, wide_u32(left % base));
         match read_value(
             packet,
             next,
@@ -154,7 +147,10 @@ pub fn read_partition(
     at: usize,
 ) -> Step
     requires { ⌜ (at ≤ 65535) × ClassStored (now floors) (now books) (now lengths) (now codewords) floor class ⌝ }
-    ensures { λ r. ⌜ Wrote (into1 (putRow whole) (partition (lengthsIn (now (books .entry)) (now (lengths .entry))) (classIn (now (floors .entry)) floor class) (now (packet .entry)) (position from)) (table (now (values .entry)) at)) r (table (now (values .exit)) (at + classIn (now (floors .entry)) floor class .dimensions)) ⌝ }
+    ensures { λ r. ⌜ Wrote (into1 (putRow whole)
+        (partition (lengthsIn (now (books .entry)) (now (lengths .entry))) (classIn (now (floors .entry)) floor class)
+        (now (packet .entry)) (position from)) (table (now (values .entry)) at)) r
+        (table (now (values .exit)) (at + classIn (now (floors .entry)) floor class .dimensions)) ⌝ }
 {
     match read_class_value(
         packet,

@@ -12,12 +12,7 @@ use floor_line::lines::line_height;
 use floor_line::neighbours::high_neighbour;
 use floor_line::neighbours::low_neighbour;
 use reading::buffers::clear_u8;
-
-fn wide(x: u16) -> u32
-    ensures { λ r. ⌜ r ≡ x ⌝ }
-{
-    x as u32
-}
+use reading::widths::u32_from_u16;
 
 // A height moved by half a value: down where the value is odd, up where it is even (004, steps 24 to 26).
 fn moved(height: u32, value: u32) -> u32
@@ -87,7 +82,7 @@ fn begin_heights(values: &[u16], heights: &mut [u32])
 {
     let mut i: usize = 0;
     while i < values.len() {
-        heights[i] = 65536 + wide(values[i]);
+        heights[i] = 65536 + u32_from_u16(values[i]);
         i = i + 1;
     }
 }
@@ -105,21 +100,24 @@ fn begin_flags(flags: &mut [u8])
 // The height at place i on the line between its neighbours (004, step 9).
 fn predict(x: &[u16], heights: &[u32], low: usize, high: usize, i: usize) -> u32
     requires { ⌜ Bounded (now heights) × (length (now heights) ≡ length (now x)) × (low < length (now x)) × (high < length (now x)) × (i < length (now x)) ⌝ }
-    ensures { λ r. ⌜ (r ≡ lineHeight (xAt (now (x .entry)) low) (getD (now (heights .entry)) low 0) (xAt (now (x .entry)) high) (getD (now (heights .entry)) high 0) (xAt (now (x .entry)) i)) × (r < 131072) ⌝ }
+    ensures { λ r. ⌜ (r ≡ lineHeight (xAt (now (x .entry)) low) (getD (now (heights .entry)) low 0) (xAt (now (x .entry)) high)
+        (getD (now (heights .entry)) high 0) (xAt (now (x .entry)) i)) × (r < 131072) ⌝ }
 {
     line_height(
-        wide(x[low]),
+        u32_from_u16(x[low]),
         heights[low],
-        wide(x[high]),
+        u32_from_u16(x[high]),
         heights[high],
-        wide(x[i]),
+        u32_from_u16(x[i]),
     )
 }
 
 // Place i (004, steps 7 to 28).
 fn step(x: &[u16], values: &[u16], range: u32, i: usize, heights: &mut [u32], flags: &mut [u8])
     requires { ⌜ Ready (now x) (now values) range (now heights) (now flags) × Bounded (now heights) × (1 < i) × (i < length (now x)) ⌝ }
-    ensures { λ _. ⌜ (pointsOf (now (heights .exit)) (now (flags .exit)) ≡ final.step range (now (x .entry)) (now (values .entry)) i (pointsOf (now (heights .entry)) (now (flags .entry)))) × Bounded (now (heights .exit)) ⌝ }
+    ensures { λ _. ⌜ (pointsOf (now (heights .exit)) (now (flags .exit))
+        ≡ final.step range (now (x .entry)) (now (values .entry)) i (pointsOf (now (heights .entry)) (now (flags .entry))))
+        × Bounded (now (heights .exit)) ⌝ }
 {
     let low = low_neighbour(x, i);
     let high = high_neighbour(x, i);
@@ -132,7 +130,9 @@ fn step(x: &[u16], values: &[u16], range: u32, i: usize, heights: &mut [u32], fl
 // Every place after the first two (004, step 6).
 fn steps(x: &[u16], values: &[u16], range: u32, heights: &mut [u32], flags: &mut [u8])
     requires { ⌜ Ready (now x) (now values) range (now heights) (now flags) × Bounded (now heights) ⌝ }
-    ensures { λ _. ⌜ pointsOf (now (heights .exit)) (now (flags .exit)) ≡ final.steps range (now (x .entry)) (now (values .entry)) 2 (length (now (x .entry)) - 2) (pointsOf (now (heights .entry)) (now (flags .entry))) ⌝ }
+    ensures { λ _. ⌜ pointsOf (now (heights .exit)) (now (flags .exit))
+        ≡ final.steps range (now (x .entry)) (now (values .entry)) 2 (length (now (x .entry)) - 2)
+        (pointsOf (now (heights .entry)) (now (flags .entry))) ⌝ }
 {
     let mut i: usize = 2;
     while i < x.len() {
@@ -163,7 +163,8 @@ pub fn final_points(
     flags: &mut [u8],
 )
     requires { ⌜ Ready (now x) (now values) range (now heights) (now flags) × (length (now y) ≡ length (now x)) ⌝ }
-    ensures { λ _. ⌜ (now (y .exit) ≡ map (clamped range) (points range (now (x .entry)) (now (values .entry)) .ys)) × (now (flags .exit) ≡ points range (now (x .entry)) (now (values .entry)) .flags) ⌝ }
+    ensures { λ _. ⌜ (now (y .exit) ≡ map (clamped range) (points range (now (x .entry)) (now (values .entry)) .ys))
+        × (now (flags .exit) ≡ points range (now (x .entry)) (now (values .entry)) .flags) ⌝ }
 {
     begin_heights(values, heights);
     begin_flags(flags);

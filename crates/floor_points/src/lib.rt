@@ -52,7 +52,8 @@ fn fitting(x: usize, multiplier: u8, values: usize, y: usize, flags: usize) -> b
 }
 
 fn refuse(y: &mut [u8], flags: &mut [u8]) -> bool
-    ensures { λ r. ⌜ left r (now (y .exit)) (now (flags .exit)) ≡ left false (replicate (length (now (y .entry))) 0) (replicate (length (now (flags .entry))) 0) ⌝ }
+    ensures { λ r. ⌜ left r (now (y .exit)) (now (flags .exit))
+        ≡ left false (replicate (length (now (y .entry))) 0) (replicate (length (now (flags .entry))) 0) ⌝ }
 {
     clear_u8(y);
     clear_u8(flags);
@@ -62,7 +63,9 @@ fn refuse(y: &mut [u8], flags: &mut [u8]) -> bool
 // Final Y and flags of the X list of a floor and the values read for it. True where the lists fit each other: 2 to 65 X, one value and one place of
 // `y` and of `flags` for each, and a multiplier of 1 to 4. Otherwise false, and `y` and `flags` are all zero. Each `y` times the multiplier is a byte.
 pub fn final_y(x: &[u16], values: &[u16], multiplier: u8, y: &mut [u8], flags: &mut [u8]) -> bool
-    ensures { λ r. ⌜ (left r (now (y .exit)) (now (flags .exit)) ≡ finalYs (now (x .entry)) (now (values .entry)) multiplier (length (now (y .entry))) (length (now (flags .entry)))) × Multiplies multiplier (now (y .exit)) ⌝ }
+    ensures { λ r. ⌜ (left r (now (y .exit)) (now (flags .exit))
+        ≡ finalYs (now (x .entry)) (now (values .entry)) multiplier (length (now (y .entry))) (length (now (flags .entry))))
+        × Multiplies multiplier (now (y .exit)) ⌝ }
 {
     if fitting(x.len(), multiplier, values.len(), y.len(), flags.len()) {
         let n = x.len();

@@ -3,6 +3,7 @@ use bits::Cursor;
 use bits::Field;
 use bits::Step;
 use floor_partition::partition;
+use reading::widths::wide_u16;
 ghost use mathlib.Core.Path.{_≡_};
 ghost use Prim.Native.Nat.{_<_};
 ghost use lib.Seq.{sets};
@@ -37,7 +38,9 @@ fn read_first_two(
     values: &mut [u16],
 ) -> Step
     requires { ⌜ FloorStored (now floors) (now books) (now lengths) (now codewords) floor ⌝ }
-    ensures { λ r. ⌜ Wrote (into (putRow cell) (many (field (firstBits (floorIn (now (floors .entry)) floor .multiplier))) 2 (now (packet .entry)) (position from)) (table (now (values .entry)) 0)) r (table (now (values .exit)) 2) ⌝ }
+    ensures { λ r. ⌜ Wrote (into (putRow cell)
+        (many (field (firstBits (floorIn (now (floors .entry)) floor .multiplier))) 2 (now (packet .entry)) (position from))
+        (table (now (values .entry)) 0)) r (table (now (values .exit)) 2) ⌝ }
 {
     let range = floor_points::range_of(byte(floor_row::multiplier(floors, floor)));
     let width = bits::ilog::ilog(range - 1);
@@ -56,14 +59,16 @@ fn read_partitions(
     values: &mut [u16],
 ) -> Step
     requires { ⌜ FloorStored (now floors) (now books) (now lengths) (now codewords) floor ⌝ }
-    ensures { λ r. ⌜ Wrote (mapped (λ l. sets (now (values .entry)) 2 (rows whole l)) (each (partitionOf (lengthsIn (now (books .entry)) (now (lengths .entry))) (floorIn (now (floors .entry)) floor)) (floorIn (now (floors .entry)) floor .partitions) (now (packet .entry)) (position from))) r (now (values .exit)) ⌝ }
+    ensures { λ r. ⌜ Wrote (mapped (λ l. sets (now (values .entry)) 2 (rows whole l))
+        (each (partitionOf (lengthsIn (now (books .entry)) (now (lengths .entry))) (floorIn (now (floors .entry)) floor))
+        (floorIn (now (floors .entry)) floor .partitions) (now (packet .entry)) (position from))) r (now (values .exit)) ⌝ }
 {
-    let count = partition::wide(floor_row::partition_count(floors, floor));
+    let count = wide_u16(floor_row::partition_count(floors, floor));
     let mut next = from;
     let mut at: usize = 2;
     let mut i: usize = 0;
     while i < count {
-        let class = partition::wide(floor_row::partition_class(floors, floor, i));
+        let class = wide_u16(floor_row::partition_class(floors, floor, i));
         match partition::read_partition(
             packet,
             next,
@@ -83,7 +88,7 @@ fn read_partitions(
                 next = after;
             }
         }
-        at = at + partition::wide(floor_row::class_dimensions(floors, floor, class));
+        at = at + wide_u16(floor_row::class_dimensions(floors, floor, class));
         i = i + 1;
     }
     Step::Next(next)
@@ -101,7 +106,9 @@ fn read_used(
     values: &mut [u16],
 ) -> Step
     requires { ⌜ FloorStored (now floors) (now books) (now lengths) (now codewords) floor ⌝ }
-    ensures { λ r. ⌜ Wrote (mapped (sets (now (values .entry)) 0) (usedValues (lengthsIn (now (books .entry)) (now (lengths .entry))) (floorIn (now (floors .entry)) floor) (now (packet .entry)) (position from))) r (now (values .exit)) ⌝ }
+    ensures { λ r. ⌜ Wrote (mapped (sets (now (values .entry)) 0)
+        (usedValues (lengthsIn (now (books .entry)) (now (lengths .entry))) (floorIn (now (floors .entry)) floor)
+        (now (packet .entry)) (position from))) r (now (values .exit)) ⌝ }
 {
     match read_first_two(
         packet,
@@ -145,7 +152,9 @@ pub fn read_values(
     values: &mut [u16],
 ) -> ValuesRead
     requires { ⌜ FloorStored (now floors) (now books) (now lengths) (now codewords) floor ⌝ }
-    ensures { λ r. ⌜ Wrote (mapped (answeredValues (now (values .entry))) (floorValues (lengthsIn (now (books .entry)) (now (lengths .entry))) (floorIn (now (floors .entry)) floor) (now (packet .entry)) (position from))) (r .step) (r .used, now (values .exit)) ⌝ }
+    ensures { λ r. ⌜ Wrote (mapped (answeredValues (now (values .entry)))
+        (floorValues (lengthsIn (now (books .entry)) (now (lengths .entry))) (floorIn (now (floors .entry)) floor)
+        (now (packet .entry)) (position from))) (r .step) (r .used, now (values .exit)) ⌝ }
     ensures { λ _. ⌜ FloorValues (lengthsIn (now (books .entry)) (now (lengths .entry))) (floorIn (now (floors .entry)) floor) ⌝ }
 {
     match from.bit(packet) {

@@ -3,17 +3,13 @@ use bits::Refusal;
 use bits::Step;
 use limits::Limits;
 use reading::buffers;
+use reading::widths::wide_u32;
 ghost use mathlib.Core.Path.{_≡_};
-ghost use Rattle.setup.specs.Layout.{hasRoom, cleared, tables};
+ghost use Rattle.setup.specs.Layout.{hasRoom, cleared};
+ghost use Rattle.setup.specs.Handed.{handed, leftIn};
 ghost use Rattle.setup.specs.Call.{left};
-ghost use Rattle.setup_buffers.specs.inner.Blank.{Blank};
+ghost use Rattle.setup_buffers.specs.inner.Blank.{leftBlank};
 ghost use Rattle.setup_buffers.specs.inner.Settled.{settled};
-
-fn wide(x: u32) -> usize
-    ensures { λ r. ⌜ r ≡ x ⌝ }
-{
-    x as usize
-}
 
 // Whether each table has its fixed need (docs/TABLES.md).
 pub fn have_room(
@@ -29,7 +25,7 @@ pub fn have_room(
     mappings: &[u8],
     modes: &[u8],
 ) -> bool
-    ensures { λ r. ⌜ r ≡ hasRoom limits (tables (now (counts .entry)) (now (books .entry)) (now (lengths .entry)) (now (codewords .entry)) (now (multiplicands .entry)) (now (floors .entry)) (now (residues .entry)) (now (plans .entry)) (now (mappings .entry)) (now (modes .entry))) ⌝ }
+    ensures { λ r. ⌜ r ≡ hasRoom limits (handed counts books lengths codewords multiplicands floors residues plans mappings modes) ⌝ }
 {
     if counts.len() < 5 {
         return false;
@@ -37,13 +33,13 @@ pub fn have_room(
     if books.len() < book::NEED {
         return false;
     }
-    if lengths.len() < wide(limits.entries) {
+    if lengths.len() < wide_u32(limits.entries) {
         return false;
     }
-    if codewords.len() < wide(limits.entries) {
+    if codewords.len() < wide_u32(limits.entries) {
         return false;
     }
-    if multiplicands.len() < wide(limits.multiplicands) {
+    if multiplicands.len() < wide_u32(limits.multiplicands) {
         return false;
     }
     if floors.len() < 17728 {
@@ -71,7 +67,7 @@ pub fn clear_books(
     codewords: &mut [u32],
     multiplicands: &mut [u16],
 )
-    ensures { λ _. ⌜ Blank (now (books .entry)) (now (books .exit)) × Blank (now (lengths .entry)) (now (lengths .exit)) × Blank (now (codewords .entry)) (now (codewords .exit)) × Blank (now (multiplicands .entry)) (now (multiplicands .exit)) ⌝ }
+    ensures { λ _. ⌜ leftBlank books × leftBlank lengths × leftBlank codewords × leftBlank multiplicands ⌝ }
 {
     buffers::clear_u32(books);
     buffers::clear_u8(lengths);
@@ -87,7 +83,7 @@ pub fn clear_after(
     mappings: &mut [u8],
     modes: &mut [u8],
 )
-    ensures { λ _. ⌜ Blank (now (floors .entry)) (now (floors .exit)) × Blank (now (residues .entry)) (now (residues .exit)) × Blank (now (plans .entry)) (now (plans .exit)) × Blank (now (mappings .entry)) (now (mappings .exit)) × Blank (now (modes .entry)) (now (modes .exit)) ⌝ }
+    ensures { λ _. ⌜ leftBlank floors × leftBlank residues × leftBlank plans × leftBlank mappings × leftBlank modes ⌝ }
 {
     buffers::clear_u16(floors);
     buffers::clear_u32(residues);
@@ -109,7 +105,8 @@ pub fn clear(
     mappings: &mut [u8],
     modes: &mut [u8],
 )
-    ensures { λ _. ⌜ tables (now (counts .exit)) (now (books .exit)) (now (lengths .exit)) (now (codewords .exit)) (now (multiplicands .exit)) (now (floors .exit)) (now (residues .exit)) (now (plans .exit)) (now (mappings .exit)) (now (modes .exit)) ≡ cleared (tables (now (counts .entry)) (now (books .entry)) (now (lengths .entry)) (now (codewords .entry)) (now (multiplicands .entry)) (now (floors .entry)) (now (residues .entry)) (now (plans .entry)) (now (mappings .entry)) (now (modes .entry))) ⌝ }
+    ensures { λ _. ⌜ leftIn counts books lengths codewords multiplicands floors residues plans mappings modes
+        ≡ cleared (handed counts books lengths codewords multiplicands floors residues plans mappings modes) ⌝ }
 {
     buffers::clear_u32(counts);
     clear_books(books, lengths, codewords, multiplicands);
@@ -136,7 +133,8 @@ pub fn settle(
     mappings: &mut [u8],
     modes: &mut [u8],
 ) -> u32
-    ensures { λ r. ⌜ left r (tables (now (counts .exit)) (now (books .exit)) (now (lengths .exit)) (now (codewords .exit)) (now (multiplicands .exit)) (now (floors .exit)) (now (residues .exit)) (now (plans .exit)) (now (mappings .exit)) (now (modes .exit))) ≡ settled answer (tables (now (counts .entry)) (now (books .entry)) (now (lengths .entry)) (now (codewords .entry)) (now (multiplicands .entry)) (now (floors .entry)) (now (residues .entry)) (now (plans .entry)) (now (mappings .entry)) (now (modes .entry))) ⌝ }
+    ensures { λ r. ⌜ left r (leftIn counts books lengths codewords multiplicands floors residues plans mappings modes)
+        ≡ settled answer (handed counts books lengths codewords multiplicands floors residues plans mappings modes) ⌝ }
 {
     match answer {
         Step::Next(_) => 0,

@@ -38,7 +38,9 @@ unfolding cleared
 same-cleared e = rw (e .counts, e .books, e .lengths, e .codewords, e .multiplicands, e .floors, e .residues, e .plans, e .mappings, e .modes) refl
 
 module _ {c b l w m f r p a o c′ b′ l′ w′ m′ f′ r′ p′ a′ o′ : List ℕ} where
-  pub lengths-same : length c′ ≡ length c → length b′ ≡ length b → length l′ ≡ length l → length w′ ≡ length w → length m′ ≡ length m → length f′ ≡ length f → length r′ ≡ length r → length p′ ≡ length p → length a′ ≡ length a → length o′ ≡ length o → SameLengths (tables c′ b′ l′ w′ m′ f′ r′ p′ a′ o′) (tables c b l w m f r p a o)
+  pub lengths-same : length c′ ≡ length c → length b′ ≡ length b → length l′ ≡ length l → length w′ ≡ length w → length m′ ≡ length m
+      → length f′ ≡ length f → length r′ ≡ length r → length p′ ≡ length p → length a′ ≡ length a → length o′ ≡ length o
+      → SameLengths (tables c′ b′ l′ w′ m′ f′ r′ p′ a′ o′) (tables c b l w m f r p a o)
   lengths-same e0 e1 e2 e3 e4 e5 e6 e7 e8 e9 = record { counts = e0; books = e1; lengths = e2; codewords = e3; multiplicands = e4; floors = e5; residues = e6; plans = e7; mappings = e8; modes = e9 }
 
 -- what a call comes to

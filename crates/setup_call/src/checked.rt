@@ -12,7 +12,7 @@ use setup_content::read_content;
 ghost use mathlib.Core.Path.{_≡_};
 ghost use Rattle.reading.specs.Outcome.{refusal, bad};
 ghost use Rattle.bits.specs.inner.Cursors.{stepped};
-ghost use Rattle.setup.specs.Layout.{tables};
+ghost use Rattle.setup.specs.Handed.{handed, leftIn};
 ghost use Rattle.setup.specs.inner.Parts.{ReadInto, Small, WrittenOut, checkedPart};
 ghost use Rattle.setup_call.specs.inner.Begun.{begun};
 
@@ -61,7 +61,10 @@ pub fn read_checked(
     modes: &mut [u8],
 ) -> Step
     requires { ⌜ Small limits ⌝ }
-    ensures { λ r. ⌜ ReadInto (checkedPart limits identity (now (packet .entry)) (tables (now (counts .entry)) (now (books .entry)) (now (lengths .entry)) (now (codewords .entry)) (now (multiplicands .entry)) (now (floors .entry)) (now (residues .entry)) (now (plans .entry)) (now (mappings .entry)) (now (modes .entry)))) r (WrittenOut (tables (now (counts .entry)) (now (books .entry)) (now (lengths .entry)) (now (codewords .entry)) (now (multiplicands .entry)) (now (floors .entry)) (now (residues .entry)) (now (plans .entry)) (now (mappings .entry)) (now (modes .entry))) (tables (now (counts .exit)) (now (books .exit)) (now (lengths .exit)) (now (codewords .exit)) (now (multiplicands .exit)) (now (floors .exit)) (now (residues .exit)) (now (plans .exit)) (now (mappings .exit)) (now (modes .exit)))) ⌝ }
+    ensures { λ r. ⌜ ReadInto (checkedPart limits identity (now (packet .entry))
+        (handed counts books lengths codewords multiplicands floors residues plans mappings modes)) r
+        (WrittenOut (handed counts books lengths codewords multiplicands floors residues plans mappings modes)
+        (leftIn counts books lengths codewords multiplicands floors residues plans mappings modes)) ⌝ }
 {
     let room = have_room(
         limits,

@@ -14,7 +14,9 @@ ghost use Prim.Native.Nat.{_≤_};
 ghost use Rattle.bits.specs.inner.Cursors.{position};
 ghost use Rattle.book_reading.specs.inner.BookBuffers.{BookBuffers};
 ghost use Rattle.setup.specs.Layout.{hasRoom, tables};
-ghost use Rattle.setup.specs.inner.Parts.{ReadInto, BooksStored, Small, WrittenOut, bookPart, afterHeader};
+ghost use Rattle.setup.specs.Handed.{handed, leftIn};
+ghost use Rattle.setup.specs.inner.Parts.{ReadInto, Small, WrittenOut, bookPart, afterHeader};
+ghost use Rattle.setup_sections.specs.inner.Stored.{booksStoredIn};
 
 // The books, and behind them the time values.
 fn read_books(
@@ -27,7 +29,8 @@ fn read_books(
     multiplicands: &mut [u16],
 ) -> Section
     requires { ⌜ BookBuffers limits (now books) (now lengths) (now codewords) (now multiplicands) ⌝ }
-    ensures { λ r. ⌜ ReadInto (bookPart limits (now (packet .entry)) (position from)) (r .step) (BooksStored (r .count) (now (books .entry)) (now (books .exit)) (now (lengths .entry)) (now (lengths .exit)) (now (codewords .entry)) (now (codewords .exit)) (now (multiplicands .entry)) (now (multiplicands .exit))) ⌝ }
+    ensures { λ r. ⌜ ReadInto (bookPart limits (now (packet .entry)) (position from)) (r .step)
+        (booksStoredIn (r .count) books lengths codewords multiplicands) ⌝ }
     ensures { λ r. ⌜ r .count ≤ 256 ⌝ }
 {
     clear_books(books, lengths, codewords, multiplicands);
@@ -59,8 +62,11 @@ pub fn read_content(
     mappings: &mut [u8],
     modes: &mut [u8],
 ) -> Step
-    requires { ⌜ (hasRoom limits (tables (now counts) (now books) (now lengths) (now codewords) (now multiplicands) (now floors) (now residues) (now plans) (now mappings) (now modes)) ≡ true) × Small limits × (1 ≤ channels) × (channels ≤ 255) ⌝ }
-    ensures { λ r. ⌜ ReadInto (afterHeader limits channels (now (packet .entry)) (position from)) r (WrittenOut (tables (now (counts .entry)) (now (books .entry)) (now (lengths .entry)) (now (codewords .entry)) (now (multiplicands .entry)) (now (floors .entry)) (now (residues .entry)) (now (plans .entry)) (now (mappings .entry)) (now (modes .entry))) (tables (now (counts .exit)) (now (books .exit)) (now (lengths .exit)) (now (codewords .exit)) (now (multiplicands .exit)) (now (floors .exit)) (now (residues .exit)) (now (plans .exit)) (now (mappings .exit)) (now (modes .exit)))) ⌝ }
+    requires { ⌜ (hasRoom limits (tables (now counts) (now books) (now lengths) (now codewords) (now multiplicands) (now floors) (now residues)
+        (now plans) (now mappings) (now modes)) ≡ true) × Small limits × (1 ≤ channels) × (channels ≤ 255) ⌝ }
+    ensures { λ r. ⌜ ReadInto (afterHeader limits channels (now (packet .entry)) (position from)) r
+        (WrittenOut (handed counts books lengths codewords multiplicands floors residues plans mappings modes)
+        (leftIn counts books lengths codewords multiplicands floors residues plans mappings modes)) ⌝ }
 {
     let first = read_books(
         packet,
@@ -71,7 +77,7 @@ pub fn read_content(
         codewords,
         multiplicands,
     );
-    let count = first.count;
+    let book_count = first.count;
     let step = first.step;
     match step {
         Step::Refused(z) => Step::Refused(z),
@@ -79,7 +85,7 @@ pub fn read_content(
             packet,
             next,
             channels,
-            count,
+            book_count,
             books,
             counts,
             floors,

@@ -16,30 +16,38 @@ ghost use Rattle.reading.specs.Pad.{pad};
 ghost use Rattle.bits.specs.inner.Cursors.{position, stepped};
 ghost use Rattle.header.specs.Header.{framing};
 ghost use Rattle.residue.specs.inner.FromTable.{booksOf};
-ghost use Rattle.setup.specs.inner.Parts.{ReadInto, AfterBooksStored, RestStored, afterBooks, restPart};
+ghost use Rattle.setup.specs.inner.Parts.{ReadInto, afterBooks, restPart};
+ghost use Rattle.setup_sections.specs.inner.Stored.{afterBooksStoredIn, restStoredIn};
 
 // How many there are of each, from the front of the table of counts.
 fn write_counts(
     counts: &mut [u32],
-    books: u32,
-    floors: u32,
-    residues: u32,
-    mappings: u32,
-    modes: u32,
+    book_count: u32,
+    floor_count: u32,
+    residue_count: u32,
+    mapping_count: u32,
+    mode_count: u32,
 )
-    ensures { λ _. ⌜ now (counts .exit) ≡ pad (length (now (counts .entry))) (books ∷ floors ∷ residues ∷ mappings ∷ modes ∷ []) ⌝ }
+    ensures { λ _. ⌜ now (counts .exit) ≡ pad (length (now (counts .entry)))
+        («book_count» ∷ «floor_count» ∷ «residue_count» ∷ «mapping_count» ∷ «mode_count» ∷ []) ⌝ }
 {
     clear_u32(counts);
-    let row = [books, floors, residues, mappings, modes];
+    let row = [
+        book_count,
+        floor_count,
+        residue_count,
+        mapping_count,
+        mode_count,
+    ];
     write_u32(counts, 0, &row);
 }
 
-// Floors, residues, mappings and modes, behind `count` codebooks.
+// Floors, residues, mappings and modes, behind `book_count` codebooks.
 fn read_after(
     packet: &[u8],
     from: Cursor,
     channels: u32,
-    count: u32,
+    book_count: u32,
     books: &[u32],
     floors: &mut [u16],
     residues: &mut [u32],
@@ -47,15 +55,16 @@ fn read_after(
     mappings: &mut [u8],
     modes: &mut [u8],
 ) -> After
-    requires { ⌜ (1 ≤ channels) × (channels ≤ 255) × (count ≤ 256) ⌝ }
-    ensures { λ r. ⌜ ReadInto (afterBooks channels (booksOf count (now (books .entry))) (now (packet .entry)) (position from)) (r .step) (AfterBooksStored (r .floors) (r .residues) (r .mappings) (r .modes) (now (floors .entry)) (now (floors .exit)) (now (residues .entry)) (now (residues .exit)) (now (plans .entry)) (now (plans .exit)) (now (mappings .entry)) (now (mappings .exit)) (now (modes .entry)) (now (modes .exit))) ⌝ }
+    requires { ⌜ (1 ≤ channels) × (channels ≤ 255) × («book_count» ≤ 256) ⌝ }
+    ensures { λ r. ⌜ ReadInto (afterBooks channels (booksOf «book_count» (now (books .entry))) (now (packet .entry)) (position from)) (r .step)
+        (afterBooksStoredIn (r .floors) (r .residues) (r .mappings) (r .modes) floors residues plans mappings modes) ⌝ }
 {
     clear_after(floors, residues, plans, mappings, modes);
     read_after_books(
         packet,
         from,
         channels,
-        count,
+        book_count,
         books,
         floors,
         residues,
@@ -79,7 +88,7 @@ pub fn read_rest(
     packet: &[u8],
     from: Cursor,
     channels: u32,
-    count: u32,
+    book_count: u32,
     books: &[u32],
     counts: &mut [u32],
     floors: &mut [u16],
@@ -88,14 +97,15 @@ pub fn read_rest(
     mappings: &mut [u8],
     modes: &mut [u8],
 ) -> Step
-    requires { ⌜ (1 ≤ channels) × (channels ≤ 255) × (count ≤ 256) ⌝ }
-    ensures { λ r. ⌜ ReadInto (restPart channels (booksOf count (now (books .entry))) (now (packet .entry)) (position from)) r (RestStored count (now (counts .entry)) (now (counts .exit)) (now (floors .entry)) (now (floors .exit)) (now (residues .entry)) (now (residues .exit)) (now (plans .entry)) (now (plans .exit)) (now (mappings .entry)) (now (mappings .exit)) (now (modes .entry)) (now (modes .exit))) ⌝ }
+    requires { ⌜ (1 ≤ channels) × (channels ≤ 255) × («book_count» ≤ 256) ⌝ }
+    ensures { λ r. ⌜ ReadInto (restPart channels (booksOf «book_count» (now (books .entry))) (now (packet .entry)) (position from)) r
+        (restStoredIn «book_count» counts floors residues plans mappings modes) ⌝ }
 {
     let after = read_after(
         packet,
         from,
         channels,
-        count,
+        book_count,
         books,
         floors,
         residues,
@@ -105,7 +115,7 @@ pub fn read_rest(
     );
     write_counts(
         counts,
-        count,
+        book_count,
         after.floors,
         after.residues,
         after.mappings,

@@ -7,6 +7,7 @@ use bits::Refusal;
 use bits::Step;
 use limits::Limits;
 use mapping::Known;
+use reading::widths::wide_u32;
 ghost use mathlib.Core.Path.{_≡_};
 ghost use Prim.Native.Nat.{_≤_};
 ghost use Rattle.reading.specs.Outcome.{ok, then};
@@ -22,18 +23,13 @@ ghost use Rattle.mapping.specs.Reading.{mapping};
 ghost use Rattle.mode.specs.Layout.{modeRow};
 ghost use Rattle.mode.specs.Reading.{mode};
 ghost use Rattle.setup.specs.Reading.{bookSection, section, timeValue};
-ghost use Rattle.setup.specs.inner.Parts.{ReadInto, RowsStored, BooksStored, ResiduesStored, ClearedBookBuffers};
+ghost use Rattle.setup.specs.inner.Parts.{ReadInto, ClearedBookBuffers};
+ghost use Rattle.setup_sections.specs.inner.Stored.{rowsStoredIn, booksStoredIn, residuesStoredIn};
 
 // How many items a section has, and where reading goes on, or the refusal.
 pub struct Section {
     pub count: u32,
     pub step: Step,
-}
-
-fn wide(x: u32) -> usize
-    ensures { λ r. ⌜ r ≡ x ⌝ }
-{
-    x as usize
 }
 
 pub fn read_book_section(
@@ -46,7 +42,8 @@ pub fn read_book_section(
     multiplicands: &mut [u16],
 ) -> Section
     requires { ⌜ ClearedBookBuffers limits (now books) (now lengths) (now codewords) (now multiplicands) ⌝ }
-    ensures { λ r. ⌜ ReadInto (bookSection limits (now (packet .entry)) (position from)) (r .step) (BooksStored (r .count) (now (books .entry)) (now (books .exit)) (now (lengths .entry)) (now (lengths .exit)) (now (codewords .entry)) (now (codewords .exit)) (now (multiplicands .entry)) (now (multiplicands .exit))) ⌝ }
+    ensures { λ r. ⌜ ReadInto (bookSection limits (now (packet .entry)) (position from)) (r .step)
+        (booksStoredIn (r .count) books lengths codewords multiplicands) ⌝ }
     ensures { λ r. ⌜ r .count ≤ 256 ⌝ }
 {
     match from.field(packet, 8) {
@@ -119,10 +116,15 @@ pub fn read_time_section(packet: &[u8], from: Cursor) -> Step
     }
 }
 
-// `books` is how many codebooks are set up.
-pub fn read_floor_section(packet: &[u8], from: Cursor, books: u32, floors: &mut [u16]) -> Section
-    requires { ⌜ (books ≤ 256) × Zeros (now floors) ⌝ }
-    ensures { λ r. ⌜ ReadInto (section (floor books) (now (packet .entry)) (position from)) (r .step) (RowsStored floorRow (r .count) (now (floors .entry)) (now (floors .exit))) ⌝ }
+// A floor is judged against how many codebooks are set up.
+pub fn read_floor_section(
+    packet: &[u8],
+    from: Cursor,
+    book_count: u32,
+    floors: &mut [u16],
+) -> Section
+    requires { ⌜ («book_count» ≤ 256) × Zeros (now floors) ⌝ }
+    ensures { λ r. ⌜ ReadInto (section (floor «book_count») (now (packet .entry)) (position from)) (r .step) (rowsStoredIn floorRow (r .count) floors) ⌝ }
     ensures { λ r. ⌜ r .count ≤ 64 ⌝ }
 {
     match from.field(packet, 6) {
@@ -132,23 +134,24 @@ pub fn read_floor_section(packet: &[u8], from: Cursor, books: u32, floors: &mut 
         },
         Field::Value(less_one, next) => {
             let count = less_one + 1;
-            let step = floor::floor::read_floors(packet, next, wide(count), books, floors);
+            let step = floor::floor::read_floors(packet, next, wide_u32(count), book_count, floors);
             Section { count, step }
         }
     }
 }
 
-// A residue is judged against the rows of the `count` codebooks.
+// A residue is judged against the rows of the `book_count` codebooks.
 pub fn read_residue_section(
     packet: &[u8],
     from: Cursor,
-    count: u32,
+    book_count: u32,
     books: &[u32],
     residues: &mut [u32],
     plans: &mut [u16],
 ) -> Section
     requires { ⌜ Zeros (now residues) × Zeros (now plans) ⌝ }
-    ensures { λ r. ⌜ ReadInto (section (residue (booksOf count (now (books .entry)))) (now (packet .entry)) (position from)) (r .step) (ResiduesStored (r .count) (now (residues .entry)) (now (residues .exit)) (now (plans .entry)) (now (plans .exit))) ⌝ }
+    ensures { λ r. ⌜ ReadInto (section (residue (booksOf «book_count» (now (books .entry)))) (now (packet .entry)) (position from)) (r .step)
+        (residuesStoredIn (r .count) residues plans) ⌝ }
     ensures { λ r. ⌜ r .count ≤ 64 ⌝ }
 {
     match from.field(packet, 6) {
@@ -157,20 +160,17 @@ pub fn read_residue_section(
             step: Step::Refused(z),
         },
         Field::Value(less_one, next) => {
-            let number = less_one + 1;
+            let count = less_one + 1;
             let step = residue_reading::read_residues(
                 packet,
                 next,
-                count,
+                book_count,
                 books,
                 residues,
                 plans,
-                wide(number),
+                wide_u32(count),
             );
-            Section {
-                count: number,
-                step,
-            }
+            Section { count, step }
         }
     }
 }
@@ -182,7 +182,7 @@ pub fn read_mapping_section(
     mappings: &mut [u8],
 ) -> Section
     requires { ⌜ (1 ≤ known .channels) × (known .channels ≤ 255) × Zeros (now mappings) ⌝ }
-    ensures { λ r. ⌜ ReadInto (section (mapping known) (now (packet .entry)) (position from)) (r .step) (RowsStored mappingRow (r .count) (now (mappings .entry)) (now (mappings .exit))) ⌝ }
+    ensures { λ r. ⌜ ReadInto (section (mapping known) (now (packet .entry)) (position from)) (r .step) (rowsStoredIn mappingRow (r .count) mappings) ⌝ }
     ensures { λ r. ⌜ r .count ≤ 64 ⌝ }
 {
     match from.field(packet, 6) {
@@ -192,16 +192,27 @@ pub fn read_mapping_section(
         },
         Field::Value(less_one, next) => {
             let count = less_one + 1;
-            let step = mapping_reading::read_mappings(packet, next, wide(count), known, mappings);
+            let step = mapping_reading::read_mappings(
+                packet,
+                next,
+                wide_u32(count),
+                known,
+                mappings,
+            );
             Section { count, step }
         }
     }
 }
 
-// `mappings` is how many mappings are set up.
-pub fn read_mode_section(packet: &[u8], from: Cursor, mappings: u32, modes: &mut [u8]) -> Section
+// A mode is judged against how many mappings are set up.
+pub fn read_mode_section(
+    packet: &[u8],
+    from: Cursor,
+    mapping_count: u32,
+    modes: &mut [u8],
+) -> Section
     requires { ⌜ Zeros (now modes) ⌝ }
-    ensures { λ r. ⌜ ReadInto (section (mode mappings) (now (packet .entry)) (position from)) (r .step) (RowsStored modeRow (r .count) (now (modes .entry)) (now (modes .exit))) ⌝ }
+    ensures { λ r. ⌜ ReadInto (section (mode «mapping_count») (now (packet .entry)) (position from)) (r .step) (rowsStoredIn modeRow (r .count) modes) ⌝ }
     ensures { λ r. ⌜ r .count ≤ 64 ⌝ }
 {
     match from.field(packet, 6) {
@@ -211,7 +222,7 @@ pub fn read_mode_section(packet: &[u8], from: Cursor, mappings: u32, modes: &mut
         },
         Field::Value(less_one, next) => {
             let count = less_one + 1;
-            let step = mode::read_modes(packet, next, wide(count), mappings, modes);
+            let step = mode::read_modes(packet, next, wide_u32(count), mapping_count, modes);
             Section { count, step }
         }
     }

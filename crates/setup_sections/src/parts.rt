@@ -15,7 +15,8 @@ ghost use Prim.Native.Nat.{_≤_};
 ghost use Rattle.reading.specs.Encoding.{Zeros};
 ghost use Rattle.bits.specs.inner.Cursors.{position};
 ghost use Rattle.residue.specs.inner.FromTable.{booksOf};
-ghost use Rattle.setup.specs.inner.Parts.{ReadInto, BooksStored, ClearedBookBuffers, FloorsStored, MappingsStored, AfterBooksStored, bookPart, floorPart, mappingPart, afterBooks};
+ghost use Rattle.setup.specs.inner.Parts.{ReadInto, ClearedBookBuffers, bookPart, floorPart, mappingPart, afterBooks};
+ghost use Rattle.setup_sections.specs.inner.Stored.{booksStoredIn, floorsStoredIn, mappingsStoredIn, afterBooksStoredIn};
 
 // The books, and behind them the time values.
 pub fn read_book_part(
@@ -28,7 +29,8 @@ pub fn read_book_part(
     multiplicands: &mut [u16],
 ) -> Section
     requires { ⌜ ClearedBookBuffers limits (now books) (now lengths) (now codewords) (now multiplicands) ⌝ }
-    ensures { λ r. ⌜ ReadInto (bookPart limits (now (packet .entry)) (position from)) (r .step) (BooksStored (r .count) (now (books .entry)) (now (books .exit)) (now (lengths .entry)) (now (lengths .exit)) (now (codewords .entry)) (now (codewords .exit)) (now (multiplicands .entry)) (now (multiplicands .exit))) ⌝ }
+    ensures { λ r. ⌜ ReadInto (bookPart limits (now (packet .entry)) (position from)) (r .step)
+        (booksStoredIn (r .count) books lengths codewords multiplicands) ⌝ }
     ensures { λ r. ⌜ r .count ≤ 256 ⌝ }
 {
     let read = read_book_section(
@@ -61,33 +63,34 @@ pub struct FloorPart {
     pub step: Step,
 }
 
-// Floors and residues, behind `count` codebooks.
+// Floors and residues, behind `book_count` codebooks.
 pub fn read_floor_part(
     packet: &[u8],
     from: Cursor,
-    count: u32,
+    book_count: u32,
     books: &[u32],
     floors: &mut [u16],
     residues: &mut [u32],
     plans: &mut [u16],
 ) -> FloorPart
-    requires { ⌜ (count ≤ 256) × Zeros (now floors) × Zeros (now residues) × Zeros (now plans) ⌝ }
-    ensures { λ r. ⌜ ReadInto (floorPart (booksOf count (now (books .entry))) (now (packet .entry)) (position from)) (r .step) (FloorsStored (r .floors) (r .residues) (now (floors .entry)) (now (floors .exit)) (now (residues .entry)) (now (residues .exit)) (now (plans .entry)) (now (plans .exit))) ⌝ }
+    requires { ⌜ («book_count» ≤ 256) × Zeros (now floors) × Zeros (now residues) × Zeros (now plans) ⌝ }
+    ensures { λ r. ⌜ ReadInto (floorPart (booksOf «book_count» (now (books .entry))) (now (packet .entry)) (position from)) (r .step)
+        (floorsStoredIn (r .floors) (r .residues) floors residues plans) ⌝ }
 {
-    let read = read_floor_section(packet, from, count, floors);
-    let number = read.count;
+    let read = read_floor_section(packet, from, book_count, floors);
+    let floor_count = read.count;
     let step = read.step;
     match step {
         Step::Refused(z) => FloorPart {
-            floors: number,
+            floors: floor_count,
             residues: 0,
             step: Step::Refused(z),
         },
         Step::Next(next) => {
-            let section = read_residue_section(packet, next, count, books, residues, plans);
+            let section = read_residue_section(packet, next, book_count, books, residues, plans);
             let after = section.step;
             FloorPart {
-                floors: number,
+                floors: floor_count,
                 residues: section.count,
                 step: after,
             }
@@ -110,22 +113,22 @@ pub fn read_mapping_part(
     modes: &mut [u8],
 ) -> MappingPart
     requires { ⌜ (1 ≤ known .channels) × (known .channels ≤ 255) × Zeros (now mappings) × Zeros (now modes) ⌝ }
-    ensures { λ r. ⌜ ReadInto (mappingPart known (now (packet .entry)) (position from)) (r .step) (MappingsStored (r .mappings) (r .modes) (now (mappings .entry)) (now (mappings .exit)) (now (modes .entry)) (now (modes .exit))) ⌝ }
+    ensures { λ r. ⌜ ReadInto (mappingPart known (now (packet .entry)) (position from)) (r .step) (mappingsStoredIn (r .mappings) (r .modes) mappings modes) ⌝ }
 {
     let read = read_mapping_section(packet, from, known, mappings);
-    let number = read.count;
+    let mapping_count = read.count;
     let step = read.step;
     match step {
         Step::Refused(z) => MappingPart {
-            mappings: number,
+            mappings: mapping_count,
             modes: 0,
             step: Step::Refused(z),
         },
         Step::Next(next) => {
-            let section = read_mode_section(packet, next, number, modes);
+            let section = read_mode_section(packet, next, mapping_count, modes);
             let after = section.step;
             MappingPart {
-                mappings: number,
+                mappings: mapping_count,
                 modes: section.count,
                 step: after,
             }
@@ -142,12 +145,12 @@ pub struct After {
     pub step: Step,
 }
 
-// Floors, residues, mappings and modes, behind `count` codebooks.
+// Floors, residues, mappings and modes, behind `book_count` codebooks.
 pub fn read_after_books(
     packet: &[u8],
     from: Cursor,
     channels: u32,
-    count: u32,
+    book_count: u32,
     books: &[u32],
     floors: &mut [u16],
     residues: &mut [u32],
@@ -155,10 +158,12 @@ pub fn read_after_books(
     mappings: &mut [u8],
     modes: &mut [u8],
 ) -> After
-    requires { ⌜ (1 ≤ channels) × (channels ≤ 255) × (count ≤ 256) × Zeros (now floors) × Zeros (now residues) × Zeros (now plans) × Zeros (now mappings) × Zeros (now modes) ⌝ }
-    ensures { λ r. ⌜ ReadInto (afterBooks channels (booksOf count (now (books .entry))) (now (packet .entry)) (position from)) (r .step) (AfterBooksStored (r .floors) (r .residues) (r .mappings) (r .modes) (now (floors .entry)) (now (floors .exit)) (now (residues .entry)) (now (residues .exit)) (now (plans .entry)) (now (plans .exit)) (now (mappings .entry)) (now (mappings .exit)) (now (modes .entry)) (now (modes .exit))) ⌝ }
+    requires { ⌜ (1 ≤ channels) × (channels ≤ 255) × («book_count» ≤ 256) × Zeros (now floors) × Zeros (now residues) × Zeros (now plans)
+        × Zeros (now mappings) × Zeros (now modes) ⌝ }
+    ensures { λ r. ⌜ ReadInto (afterBooks channels (booksOf «book_count» (now (books .entry))) (now (packet .entry)) (position from)) (r .step)
+        (afterBooksStoredIn (r .floors) (r .residues) (r .mappings) (r .modes) floors residues plans mappings modes) ⌝ }
 {
-    let first = read_floor_part(packet, from, count, books, floors, residues, plans);
+    let first = read_floor_part(packet, from, book_count, books, floors, residues, plans);
     let floor_count = first.floors;
     let residue_count = first.residues;
     let step = first.step;

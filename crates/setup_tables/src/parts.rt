@@ -1,8 +1,8 @@
 // The tables of a setup kind by kind: the counts, and with them books, floors, residues, mappings, modes.
-use book_tables::row::wide;
 use limits::Limits;
 use mapping::Known;
 use reading::buffers::get_u32;
+use reading::widths::wide_u32;
 ghost use mathlib.Core.Bool.{true};
 ghost use mathlib.Core.Logic.{_↔_};
 ghost use mathlib.Core.Path.{_≡_};
@@ -64,7 +64,8 @@ fn are_books(
     multiplicands: &[u16],
 ) -> bool
     requires { ⌜ Small limits × CountsRecognised (now counts) ⌝ }
-    ensures { λ r. ⌜ (r ≡ true) ↔ BooksRecognised limits (getD (now (counts .entry)) 0 0) (now (books .entry)) (now (lengths .entry)) (now (codewords .entry)) (now (multiplicands .entry)) ⌝ }
+    ensures { λ r. ⌜ (r ≡ true) ↔ BooksRecognised limits (getD (now (counts .entry)) 0 0) (now (books .entry)) (now (lengths .entry))
+        (now (codewords .entry)) (now (multiplicands .entry)) ⌝ }
 {
     book_tables::recognise::are_books(
         get_u32(counts, 0),
@@ -80,15 +81,16 @@ fn are_floors(counts: &[u32], floors: &[u16]) -> bool
     requires { ⌜ CountsRecognised (now counts) ⌝ }
     ensures { λ r. ⌜ (r ≡ true) ↔ FloorsRecognised (getD (now (counts .entry)) 0 0) (getD (now (counts .entry)) 1 0) (now (floors .entry)) ⌝ }
 {
-    floor_tables::recognise::are_floors(floors, wide(get_u32(counts, 1)), get_u32(counts, 0))
+    floor_tables::recognise::are_floors(floors, wide_u32(get_u32(counts, 1)), get_u32(counts, 0))
 }
 
 fn are_residues(counts: &[u32], books: &[u32], residues: &[u32], plans: &[u16]) -> bool
     requires { ⌜ CountsRecognised (now counts) ⌝ }
-    ensures { λ r. ⌜ (r ≡ true) ↔ ResiduesRecognised (booksOf (getD (now (counts .entry)) 0 0) (now (books .entry))) (getD (now (counts .entry)) 2 0) (now (residues .entry)) (now (plans .entry)) ⌝ }
+    ensures { λ r. ⌜ (r ≡ true) ↔ ResiduesRecognised (booksOf (getD (now (counts .entry)) 0 0) (now (books .entry)))
+        (getD (now (counts .entry)) 2 0) (now (residues .entry)) (now (plans .entry)) ⌝ }
 {
-    let set_up = get_u32(counts, 0);
-    residue_tables::recognise::are_residues(residues, plans, get_u32(counts, 2), set_up, books)
+    let book_count = get_u32(counts, 0);
+    residue_tables::recognise::are_residues(residues, plans, get_u32(counts, 2), book_count, books)
 }
 
 fn are_mappings(channels: u32, counts: &[u32], mappings: &[u8]) -> bool
@@ -100,14 +102,14 @@ fn are_mappings(channels: u32, counts: &[u32], mappings: &[u8]) -> bool
         floors: get_u32(counts, 1),
         residues: get_u32(counts, 2),
     };
-    mapping_tables::recognise::are_mappings(mappings, wide(get_u32(counts, 3)), known)
+    mapping_tables::recognise::are_mappings(mappings, wide_u32(get_u32(counts, 3)), known)
 }
 
 fn are_modes(counts: &[u32], modes: &[u8]) -> bool
     requires { ⌜ CountsRecognised (now counts) ⌝ }
     ensures { λ r. ⌜ (r ≡ true) ↔ ModesRecognised (getD (now (counts .entry)) 3 0) (getD (now (counts .entry)) 4 0) (now (modes .entry)) ⌝ }
 {
-    mode::recognise::are_modes(modes, wide(get_u32(counts, 4)), get_u32(counts, 3))
+    mode::recognise::are_modes(modes, wide_u32(get_u32(counts, 4)), get_u32(counts, 3))
 }
 
 // Books and floors.
@@ -121,7 +123,8 @@ pub fn are_front(
     floors: &[u16],
 ) -> bool
     requires { ⌜ Small limits × CountsRecognised (now counts) ⌝ }
-    ensures { λ r. ⌜ (r ≡ true) ↔ FrontRecognised limits (now (counts .entry)) (now (books .entry)) (now (lengths .entry)) (now (codewords .entry)) (now (multiplicands .entry)) (now (floors .entry)) ⌝ }
+    ensures { λ r. ⌜ (r ≡ true) ↔ FrontRecognised limits (now (counts .entry)) (now (books .entry)) (now (lengths .entry))
+        (now (codewords .entry)) (now (multiplicands .entry)) (now (floors .entry)) ⌝ }
 {
     if !are_books(limits, counts, books, lengths, codewords, multiplicands) {
         return false;
@@ -140,7 +143,8 @@ pub fn are_back(
     modes: &[u8],
 ) -> bool
     requires { ⌜ CountsRecognised (now counts) × (channels ≤ 255) ⌝ }
-    ensures { λ r. ⌜ (r ≡ true) ↔ BackRecognised channels (now (counts .entry)) (now (books .entry)) (now (residues .entry)) (now (plans .entry)) (now (mappings .entry)) (now (modes .entry)) ⌝ }
+    ensures { λ r. ⌜ (r ≡ true) ↔ BackRecognised channels (now (counts .entry)) (now (books .entry)) (now (residues .entry)) (now (plans .entry))
+        (now (mappings .entry)) (now (modes .entry)) ⌝ }
 {
     if !are_residues(counts, books, residues, plans) {
         return false;

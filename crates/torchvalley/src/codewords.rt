@@ -23,7 +23,9 @@ pub extern "C" fn torchvalley_enter_lengths(lengths: &[u8], answers: &mut [u64])
 #[no_mangle]
 pub extern "C" fn torchvalley_codewords(lengths: &[u8], codewords: &mut [u32]) -> u32
     ensures { λ r. ⌜ r ≡ refusal (assigned (now (lengths .entry)) (length (now (codewords .entry)))) ⌝ }
-    ensures { λ _. ⌜ now (codewords .exit) ≡ written (assigned (now (lengths .entry)) (length (now (codewords .entry)))) (now (lengths .entry)) (length (now (codewords .entry))) ⌝ }
+    ensures { λ _. ⌜ now (codewords .exit)
+        ≡ written (assigned (now (lengths .entry)) (length (now (codewords .entry)))) (now (lengths .entry))
+        (length (now (codewords .entry))) ⌝ }
 {
     number_of(codeword_assignment::book::assign_codewords(lengths, codewords))
 }

@@ -17,7 +17,9 @@ pub extern "C" fn torchvalley_floor_points(
     y: &mut [u8],
     flags: &mut [u8],
 ) -> bool
-    ensures { λ r. ⌜ (final.left r (now (y .exit)) (now (flags .exit)) ≡ finalYs (now (x .entry)) (now (values .entry)) multiplier (length (now (y .entry))) (length (now (flags .entry)))) × Multiplies multiplier (now (y .exit)) ⌝ }
+    ensures { λ r. ⌜ (final.left r (now (y .exit)) (now (flags .exit))
+        ≡ finalYs (now (x .entry)) (now (values .entry)) multiplier (length (now (y .entry))) (length (now (flags .entry))))
+        × Multiplies multiplier (now (y .exit)) ⌝ }
     ensures { λ _. ⌜ Figures ⌝ }
 {
     floor_points::final_y(x, values, multiplier, y, flags)
@@ -32,7 +34,9 @@ pub extern "C" fn torchvalley_floor_curve(
     multiplier: u8,
     out: &mut [u8],
 ) -> bool
-    ensures { λ r. ⌜ (drawing.left r (now (out .exit)) ≡ drawing.curve (now (x .entry)) (now (y .entry)) (now (flags .entry)) multiplier (length (now (out .entry)))) × Bytes (curveAt (now (x .entry)) (now (y .entry)) (now (flags .entry)) multiplier) ⌝ }
+    ensures { λ r. ⌜ (drawing.left r (now (out .exit))
+        ≡ drawing.curve (now (x .entry)) (now (y .entry)) (now (flags .entry)) multiplier (length (now (out .entry))))
+        × Bytes (curveAt (now (x .entry)) (now (y .entry)) (now (flags .entry)) multiplier) ⌝ }
 {
     floor_curve::curve(x, y, flags, multiplier, out)
 }

@@ -3,6 +3,7 @@ use bits::Cursor;
 use bits::Field;
 use identification::Identity;
 use limits::Limits;
+use reading::widths::wide_u8;
 ghost use mathlib.Core.Path.{_≡_};
 ghost use Prim.Native.Nat.{_+_, _*_, _/_, _%_, _≤_};
 ghost use Rattle.setup.specs.Handed.{handed, leftIn};
@@ -100,18 +101,12 @@ pub struct CodewordAnswer {
     pub bit: u8,
 }
 
-fn wide(x: u8) -> usize
-    ensures { λ r. ⌜ r ≡ x ⌝ }
-{
-    x as usize
-}
-
 // The byte that a place lies in: a bit above 7 counts on into the next ones.
 fn byte_of(place: Cursor) -> usize
     requires { ⌜ position place ≤ 8 * 18446744073709551615 ⌝ }
     ensures { λ r. ⌜ r ≡ position place / 8 ⌝ }
 {
-    place.byte + wide(place.bit / 8)
+    place.byte + wide_u8(place.bit / 8)
 }
 
 // And its bit there.

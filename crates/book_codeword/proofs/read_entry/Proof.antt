@@ -7,14 +7,14 @@ use Rattle.book_codeword.proofs.read_entry.Tie as tie
 first-entry-requires : tie.Need-first-entry-requires
 first-entry-requires c κs = search needs
 
-wide-requires : tie.Need-wide-requires
-wide-requires c κs = search needs
+wide-u32-requires : tie.Need-wide-u32-requires
+wide-u32-requires c κs = search needs
 
 entries-requires : tie.Need-entries-requires
 entries-requires c κs = search needs
 
-wide-requires-2 : tie.Need-wide-requires-2
-wide-requires-2 c κs = search needs
+wide-u32-requires-2 : tie.Need-wide-u32-requires-2
+wide-u32-requires-2 c κs = search needs
 
 add-end : tie.Need-add-end
 add-end c = search needs
@@ -46,21 +46,21 @@ part-read-codeword-end-2 c = search needs
 read-codeword-requires : tie.Need-read-codeword-requires
 read-codeword-requires c κs =
     let e = c .before .before in
-    asked (e .before .before .before .before .before .before .before .before .before .pre) (e .before .before .before .wide .ensures) (e .before .before .before .before .first-entry .ensures) (e .before .wide2 .ensures) (e .before .before .entries .ensures) (e .lone .ensures)
+    asked (e .before .before .before .before .before .before .before .before .before .pre) (e .before .before .before .wide-u32 .ensures) (e .before .before .before .before .first-entry .ensures) (e .before .wide-u322 .ensures) (e .before .before .entries .ensures) (e .lone .ensures)
 
 returns : tie.Need-returns
 returns c =
     let e = c .before .before .before in
-    read (e .before .before .before .before .before .before .before .before .before .pre) (e .before .before .before .wide .ensures) (e .before .before .before .before .first-entry .ensures) (e .before .wide2 .ensures) (e .before .before .entries .ensures) (e .lone .ensures) _ _ _ (c .read-codeword .ensures)
+    read (e .before .before .before .before .before .before .before .before .before .pre) (e .before .before .before .wide-u32 .ensures) (e .before .before .before .before .first-entry .ensures) (e .before .wide-u322 .ensures) (e .before .before .entries .ensures) (e .lone .ensures) _ _ _ (c .read-codeword .ensures)
 
 pub read-entry-spec : {M : Type 1} → statement M
 read-entry-spec =
     tie.close
     (tie.spec
     first-entry-requires
-    wide-requires
+    wide-u32-requires
     entries-requires
-    wide-requires-2
+    wide-u32-requires-2
     add-end
     lone-requires
     sub-read-codeword

@@ -4,8 +4,8 @@ use Rattle.codeword.proofs.Bits.{bit-after}
 use Rattle.codeword.proofs.bit.Statement.{statement}
 use Rattle.codeword.proofs.bit.Tie as tie
 
-wide-requires : tie.Need-wide-requires
-wide-requires c κs = search needs
+wide-u8-requires : tie.Need-wide-u8-requires
+wide-u8-requires c κs = search needs
 
 add-bit : tie.Need-add-bit
 add-bit c = search needs
@@ -26,13 +26,13 @@ cast-result-2 : tie.Need-cast-result-2
 cast-result-2 c = search needs
 
 returns : tie.Need-returns
-returns c = bit-after _ _ _ _ _ (c .before .before .wide .ensures)
+returns c = bit-after _ _ _ _ _ (c .before .before .wide-u8 .ensures)
 
 pub bit-spec : {M : Type 1} → statement M
 bit-spec =
     tie.close
     (tie.spec
-    wide-requires
+    wide-u8-requires
     add-bit
     add-byte
     shared-slice-read-result

@@ -7,8 +7,8 @@ use Rattle.codeword.proofs.has_bit.Tie as tie
 returns : tie.Need-returns
 returns c = bit-past _ _ _ _ (c .if1 .taken)
 
-wide-requires : tie.Need-wide-requires
-wide-requires c κs = search needs
+wide-u8-requires : tie.Need-wide-u8-requires
+wide-u8-requires c κs = search needs
 
 add-result : tie.Need-add-result
 add-result c = search needs
@@ -17,7 +17,7 @@ sub-result : tie.Need-sub-result
 sub-result c = search needs
 
 returns-2 : tie.Need-returns-2
-returns-2 c = bit-there _ _ _ _ _ (c .wide .ensures) (c .before .if1 .left)
+returns-2 c = bit-there _ _ _ _ _ (c .wide-u8 .ensures) (c .before .if1 .left)
 
 pub has-bit-spec : {M : Type 1} → statement M
-has-bit-spec = tie.close (tie.spec returns wide-requires add-result sub-result returns-2)
+has-bit-spec = tie.close (tie.spec returns wide-u8-requires add-result sub-result returns-2)

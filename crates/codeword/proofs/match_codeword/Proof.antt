@@ -51,11 +51,11 @@ entry-holds c = taken-one _ _ _ _ _ _ _ (c .before .before .before .before .word
 cut-requires-3 : tie.Need-cut-requires-3 Inv-entry μ-entry Inv-word μ-word
 cut-requires-3 c κs = search needs
 
-shared-slice-read-wide : tie.Need-shared-slice-read-wide Inv-entry μ-entry Inv-word μ-word
-shared-slice-read-wide c = search needs
+shared-slice-read-wide-u8 : tie.Need-shared-slice-read-wide-u8 Inv-entry μ-entry Inv-word μ-word
+shared-slice-read-wide-u8 c = search needs
 
-wide-requires : tie.Need-wide-requires Inv-entry μ-entry Inv-word μ-word
-wide-requires c κs = search needs
+wide-u8-requires : tie.Need-wide-u8-requires Inv-entry μ-entry Inv-word μ-word
+wide-u8-requires c κs = search needs
 
 mul-if5 : tie.Need-mul-if5 Inv-entry μ-entry Inv-word μ-word
 mul-if5 c = search needs
@@ -64,10 +64,10 @@ shared-slice-read-if5 : tie.Need-shared-slice-read-if5 Inv-entry μ-entry Inv-wo
 shared-slice-read-if5 c = search loop-laws
 
 cast-if5 : tie.Need-cast-if5 Inv-entry μ-entry Inv-word μ-word
-cast-if5 c = let h = length-within _ _ (c .before .before .before .before .before .before .before .before .before .before .before .before .before .before .pre) _ _ _ _ _ (c .before .before .before .before .before .entry .inv) (c .before .before .before .before .if3 .left) _ (c .before .before .wide .ensures) (c .before .if4 .taken) in omega arith
+cast-if5 c = let h = length-within _ _ (c .before .before .before .before .before .before .before .before .before .before .before .before .before .before .pre) _ _ _ _ _ (c .before .before .before .before .before .entry .inv) (c .before .before .before .before .if3 .left) _ (c .before .before .wide-u8 .ensures) (c .before .if4 .taken) in omega arith
 
 shr-if5 : tie.Need-shr-if5 Inv-entry μ-entry Inv-word μ-word
-shr-if5 c = let h = length-within _ _ (c .before .before .before .before .before .before .before .before .before .before .before .before .before .before .pre) _ _ _ _ _ (c .before .before .before .before .before .entry .inv) (c .before .before .before .before .if3 .left) _ (c .before .before .wide .ensures) (c .before .if4 .taken) in omega arith
+shr-if5 c = let h = length-within _ _ (c .before .before .before .before .before .before .before .before .before .before .before .before .before .before .pre) _ _ _ _ _ (c .before .before .before .before .before .entry .inv) (c .before .before .before .before .if3 .left) _ (c .before .before .wide-u8 .ensures) (c .before .if4 .taken) in omega arith
 
 cast-t26 : tie.Need-cast-t26 Inv-entry μ-entry Inv-word μ-word
 cast-t26 c = search needs
@@ -90,8 +90,8 @@ entry-less c = search needs
 entry-again : tie.Need-entry-again Inv-entry μ-entry Inv-word μ-word
 entry-again c =
     ⊎-elim
-    (λ w. other-word _ _ (c .before .before .before .before .before .before .before .before .before .before .before .before .before .pre) _ _ _ _ _ (c .before .before .before .before .entry .inv) (c .before .before .before .if3 .left) _ (c .before .wide .ensures) (w .0 .taken) (w .2 .left))
-    (λ w. length-short _ _ (c .before .before .before .before .before .before .before .before .before .before .before .before .before .pre) _ _ _ _ _ (c .before .before .before .before .entry .inv) (c .before .before .before .if3 .left) _ (c .before .wide .ensures) (w .left))
+    (λ w. other-word _ _ (c .before .before .before .before .before .before .before .before .before .before .before .before .before .pre) _ _ _ _ _ (c .before .before .before .before .entry .inv) (c .before .before .before .if3 .left) _ (c .before .wide-u8 .ensures) (w .0 .taken) (w .2 .left))
+    (λ w. length-short _ _ (c .before .before .before .before .before .before .before .before .before .before .before .before .before .pre) _ _ _ _ _ (c .before .before .before .before .entry .inv) (c .before .before .before .if3 .left) _ (c .before .wide-u8 .ensures) (w .left))
     (c .if4 .came)
 
 returns : tie.Need-returns Inv-entry μ-entry Inv-word μ-word
@@ -124,8 +124,8 @@ match-codeword-spec =
     add-taken
     entry-holds
     cut-requires-3
-    shared-slice-read-wide
-    wide-requires
+    shared-slice-read-wide-u8
+    wide-u8-requires
     mul-if5
     shared-slice-read-if5
     cast-if5

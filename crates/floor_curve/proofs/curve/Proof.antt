@@ -14,7 +14,14 @@ same-length : tie.Need-same-length
 same-length c = search needs
 
 returns : tie.Need-returns
-returns c = (all-left (c .before .before .before .before .before .before .before .before .before .before .args .x .now) (c .before .before .before .before .before .before .before .before .before .before .args .y .now) (c .before .before .before .before .before .before .before .before .before .before .args .flags .now) _ _ _ _ (c .before .before .before .before .before .fitting .ensures) (c .before .before .before .before .if1 .taken) (c .before .before .draw-points .ensures), curve-bytes _ _ _ _)
+returns c =
+    let at-if1 = c .before .before .before .before in
+    let at-fitting = at-if1 .before in
+    let at-args = at-fitting .before .before .before .before .before in (
+      all-left (at-args .args .x .now) (at-args .args .y .now) (at-args .args .flags .now) _ _ _ _ (at-fitting .fitting .ensures) (at-if1 .if1 .taken)
+          (c .before .before .draw-points .ensures),
+      curve-bytes _ _ _ _,
+    )
 
 draw-flat-requires : tie.Need-draw-flat-requires
 draw-flat-requires c κs = search needs
@@ -23,7 +30,14 @@ same-length-2 : tie.Need-same-length-2
 same-length-2 c = search needs
 
 returns-2 : tie.Need-returns-2
-returns-2 c = (none-left (c .before .before .before .before .before .before .before .before .before .before .args .x .now) (c .before .before .before .before .before .before .before .before .before .before .args .y .now) (c .before .before .before .before .before .before .before .before .before .before .args .flags .now) (c .before .before .before .before .before .before .before .before .before .before .args .multiplier) _ _ _ (c .before .before .before .before .before .fitting .ensures) (c .before .before .before .before .if1 .left) (flat-zeros _ _ (c .before .before .draw-flat .ensures)), curve-bytes _ _ _ _)
+returns-2 c =
+    let at-if1 = c .before .before .before .before in
+    let at-fitting = at-if1 .before in
+    let at-args = at-fitting .before .before .before .before .before in (
+      none-left (at-args .args .x .now) (at-args .args .y .now) (at-args .args .flags .now) (at-args .args .multiplier) _ _ _
+          (at-fitting .fitting .ensures) (at-if1 .if1 .left) (flat-zeros _ _ (c .before .before .draw-flat .ensures)),
+      curve-bytes _ _ _ _,
+    )
 
 pub curve-spec : {M : Type 1} → statement M
 curve-spec =

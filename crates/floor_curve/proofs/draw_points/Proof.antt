@@ -33,7 +33,17 @@ same-length : tie.Need-same-length Inv-loop μ-loop
 same-length c = omega arith
 
 returns : tie.Need-returns Inv-loop μ-loop
-returns c = up-to-flat (c .before .before .before .before .before .before .before .before .before .before .before .before .before .before .args .x .now) (c .before .before .before .before .before .before .before .before .before .before .before .before .before .before .args .y .now) (c .before .before .before .before .before .before .before .before .before .before .before .before .before .before .args .flags .now) (c .before .before .before .before .before .before .before .before .before .before .before .before .before .before .args .multiplier) _ _ _ _ _ _ _ (λ k. omega (arith, c .before .before .before .before .before .before .before .before .before .before .before .before .before .shared-slice-known .given k)) (c .before .before .before .before .before .before .before .before .before .loop .inv) (c .before .before .before .before .before .before .before .last-at .ensures .0) (c .before .before .before .before .before .before .next-after .ensures .0) (c .before .before .before .before .before .if1 .taken) (c .before .before .before .height-at .ensures) (c .before .before .draw-flat .ensures)
+returns c =
+    let at-height-at = c .before .before .before in
+    let at-if1 = at-height-at .before .before in
+    let at-next-after = at-if1 .before in
+    let at-last-at = at-next-after .before in
+    let at-loop = at-last-at .before .before in
+    let at-shared-slice-known = at-loop .before .before .before .before in
+    let at-args = at-shared-slice-known .before in
+    up-to-flat (at-args .args .x .now) (at-args .args .y .now) (at-args .args .flags .now) (at-args .args .multiplier) _ _ _ _ _ _ _
+    (λ k. omega (arith, at-shared-slice-known .shared-slice-known .given k)) (at-loop .loop .inv) (at-last-at .last-at .ensures .0)
+    (at-next-after .next-after .ensures .0) (at-if1 .if1 .taken) (at-height-at .height-at .ensures) (c .before .before .draw-flat .ensures)
 
 mul-draw-line : tie.Need-mul-draw-line Inv-loop μ-loop
 mul-draw-line c = search needs
@@ -56,20 +66,35 @@ height-at-requires-3 c κs = search needs
 draw-line-requires : tie.Need-draw-line-requires Inv-loop μ-loop
 draw-line-requires c κs = search needs
 
-mul-wide : tie.Need-mul-wide Inv-loop μ-loop
-mul-wide c = search needs
+mul-wide-u16 : tie.Need-mul-wide-u16 Inv-loop μ-loop
+mul-wide-u16 c = search needs
 
-shared-slice-read-wide : tie.Need-shared-slice-read-wide Inv-loop μ-loop
-shared-slice-read-wide c = search needs
+shared-slice-read-wide-u16 : tie.Need-shared-slice-read-wide-u16 Inv-loop μ-loop
+shared-slice-read-wide-u16 c = search needs
 
-wide-requires : tie.Need-wide-requires Inv-loop μ-loop
-wide-requires c κs = search needs
+wide-u16-requires : tie.Need-wide-u16-requires Inv-loop μ-loop
+wide-u16-requires c κs = search needs
 
 loop-less : tie.Need-loop-less Inv-loop μ-loop
-loop-less c = let h = next-right (c .before .before .before .before .before .before .before .before .before .before .before .before .before .before .before .before .before .before .before .args .x .now) (c .before .before .before .before .before .before .before .before .before .before .before .before .before .before .before .before .before .before .before .args .flags .now) (c .before .before .before .before .before .before .before .before .before .before .before .before .before .before .loop .at) (c .before .before .before .before .before .before .before .before .before .before .before .next-after .result) (c .wide .result) (c .before .before .before .before .before .before .before .before .before .before .before .next-after .ensures .0) (omega arith) (c .wide .ensures) in omega arith
+loop-less c =
+    let h = next-right (c .before .before .before .before .before .before .before .before .before .before .before .before .before .before .before .before .before .before .before .args .x .now)
+    (c .before .before .before .before .before .before .before .before .before .before .before .before .before .before .before .before .before .before .before .args .flags .now)
+    (c .before .before .before .before .before .before .before .before .before .before .before .before .before .before .loop .at)
+    (c .before .before .before .before .before .before .before .before .before .before .before .next-after .result) (c .wide-u16 .result)
+    (c .before .before .before .before .before .before .before .before .before .before .before .next-after .ensures .0) (omega arith) (c .wide-u16 .ensures) in omega arith
 
 loop-again : tie.Need-loop-again Inv-loop μ-loop
-loop-again c = up-to-line (c .before .before .before .before .before .before .before .before .before .before .before .before .before .before .before .before .before .before .before .args .x .now) (c .before .before .before .before .before .before .before .before .before .before .before .before .before .before .before .before .before .before .before .args .y .now) (c .before .before .before .before .before .before .before .before .before .before .before .before .before .before .before .before .before .before .before .args .flags .now) (c .before .before .before .before .before .before .before .before .before .before .before .before .before .before .before .before .before .before .before .args .multiplier) _ _ _ _ _ _ _ _ _ _ _ (c .before .before .before .before .before .before .before .before .before .before .before .before .before .before .before .before .before .before .before .pre) (c .before .before .before .before .before .before .before .before .before .before .before .before .before .before .loop .inv) (c .before .before .before .before .before .before .before .before .before .before .before .before .last-at .ensures .0) (c .before .before .before .before .before .before .before .before .before .before .before .next-after .ensures .0) (omega arith) refl (c .before .before .before .before .before .before .before .height-at2 .ensures) refl (c .before .before .before .before .before .height-at3 .ensures) (c .before .before .before .before .draw-line .ensures) (c .wide .ensures)
+loop-again c =
+    up-to-line (c .before .before .before .before .before .before .before .before .before .before .before .before .before .before .before .before .before .before .before .args .x .now)
+    (c .before .before .before .before .before .before .before .before .before .before .before .before .before .before .before .before .before .before .before .args .y .now)
+    (c .before .before .before .before .before .before .before .before .before .before .before .before .before .before .before .before .before .before .before .args .flags .now)
+    (c .before .before .before .before .before .before .before .before .before .before .before .before .before .before .before .before .before .before .before .args .multiplier) _ _ _ _ _ _ _ _ _ _ _
+    (c .before .before .before .before .before .before .before .before .before .before .before .before .before .before .before .before .before .before .before .pre)
+    (c .before .before .before .before .before .before .before .before .before .before .before .before .before .before .loop .inv)
+    (c .before .before .before .before .before .before .before .before .before .before .before .before .last-at .ensures .0)
+    (c .before .before .before .before .before .before .before .before .before .before .before .next-after .ensures .0) (omega arith) refl
+    (c .before .before .before .before .before .before .before .height-at2 .ensures) refl (c .before .before .before .before .before .height-at3 .ensures)
+    (c .before .before .before .before .draw-line .ensures) (c .wide-u16 .ensures)
 
 same-length-2 : tie.Need-same-length-2 Inv-loop μ-loop
 same-length-2 c = omega arith
@@ -97,9 +122,9 @@ draw-points-spec =
     shared-slice-read-draw-line-2
     height-at-requires-3
     draw-line-requires
-    mul-wide
-    shared-slice-read-wide
-    wide-requires
+    mul-wide-u16
+    shared-slice-read-wide-u16
+    wide-u16-requires
     loop-less
     loop-again
     same-length-2

@@ -19,7 +19,16 @@ slice-aggregate-final-points : tie.Need-slice-aggregate-final-points
 slice-aggregate-final-points c = let w = fit _ _ _ _ _ (sym (c .before .before .before .fitting .ensures) ∙ c .before .before .if1 .taken) in prefix-length _ (omega (arith, w .few))
 
 final-points-requires : tie.Need-final-points-requires
-final-points-requires c κs = let w = fit _ _ _ _ _ (sym (c .before .before .before .before .before .fitting .ensures) ∙ c .before .before .before .before .if1 .taken) in (ready (c .before .before .before .before .before .before .before .before .before .before .args .x .now) (c .before .before .before .before .before .before .before .before .before .before .args .values .now) (c .before .before .before .before .before .before .before .before .before .before .args .y .now) (c .before .before .before .before .before .before .before .before .before .before .args .flags .now) (c .before .before .before .before .before .before .before .before .before .before .args .multiplier) _ w (c .before .before .before .range-of .ensures .0) (c .before .before .before .range-of .ensures .1), w .ys)
+final-points-requires c κs =
+    let at-range-of = c .before .before .before in
+    let at-if1 = at-range-of .before in
+    let at-fitting = at-if1 .before in
+    let at-args = at-fitting .before .before .before .before .before in
+    let w = fit _ _ _ _ _ (sym (at-fitting .fitting .ensures) ∙ at-if1 .if1 .taken) in (
+      ready (at-args .args .x .now) (at-args .args .values .now) (at-args .args .y .now) (at-args .args .flags .now) (at-args .args .multiplier) _ w
+          (at-range-of .range-of .ensures .0) (at-range-of .range-of .ensures .1),
+      w .ys,
+    )
 
 same-length : tie.Need-same-length
 same-length c = search needs
@@ -28,7 +37,15 @@ same-length-2 : tie.Need-same-length-2
 same-length-2 c = search needs
 
 returns : tie.Need-returns
-returns c = let e = all-left (c .before .before .before .before .before .before .before .before .before .before .before .before .before .before .before .before .args .x .now) (c .before .before .before .before .before .before .before .before .before .before .before .before .before .before .before .before .args .values .now) (c .before .before .before .before .before .before .before .before .before .before .before .before .before .before .before .before .args .y .now) (c .before .before .before .before .before .before .before .before .before .before .before .before .before .before .before .before .args .flags .now) (c .before .before .before .before .before .before .before .before .before .before .before .before .before .before .before .before .args .multiplier) _ _ _ _ (c .before .before .before .before .before .before .before .before .before .before .before .fitting .ensures) (c .before .before .before .before .before .before .before .before .before .before .if1 .taken) (c .before .before .before .before .before .before .before .before .before .range-of .ensures .0) (c .before .before .before .before .before .final-points .ensures .0) (c .before .before .before .before .before .final-points .ensures .1) in (e, left-times _ _ _ _ _ _ _ _ e)
+returns c =
+    let at-final-points = c .before .before .before .before .before in
+    let at-range-of = at-final-points .before .before .before .before in
+    let at-if1 = at-range-of .before in
+    let at-fitting = at-if1 .before in
+    let at-args = at-fitting .before .before .before .before .before in
+    let e = all-left (at-args .args .x .now) (at-args .args .values .now) (at-args .args .y .now) (at-args .args .flags .now)
+    (at-args .args .multiplier) _ _ _ _ (at-fitting .fitting .ensures) (at-if1 .if1 .taken) (at-range-of .range-of .ensures .0)
+    (at-final-points .final-points .ensures .0) (at-final-points .final-points .ensures .1) in (e, left-times _ _ _ _ _ _ _ _ e)
 
 refuse-requires : tie.Need-refuse-requires
 refuse-requires c κs = search needs
@@ -40,7 +57,14 @@ same-length-4 : tie.Need-same-length-4
 same-length-4 c = search needs
 
 returns-2 : tie.Need-returns-2
-returns-2 c = let e = none-left (c .before .before .before .before .before .before .before .before .before .before .before .before .before .args .x .now) (c .before .before .before .before .before .before .before .before .before .before .before .before .before .args .values .now) (c .before .before .before .before .before .before .before .before .before .before .before .before .before .args .y .now) (c .before .before .before .before .before .before .before .before .before .before .before .before .before .args .flags .now) (c .before .before .before .before .before .before .before .before .before .before .before .before .before .args .multiplier) 0 _ _ _ _ (c .before .before .before .before .before .before .before .before .fitting .ensures) (c .before .before .before .before .before .before .before .if1 .left) (c .before .before .before .before .refuse .ensures) in (e, left-times _ _ _ _ _ _ _ _ e)
+returns-2 c =
+    let at-refuse = c .before .before .before .before in
+    let at-if1 = at-refuse .before .before .before in
+    let at-fitting = at-if1 .before in
+    let at-args = at-fitting .before .before .before .before .before in
+    let e = none-left (at-args .args .x .now) (at-args .args .values .now) (at-args .args .y .now) (at-args .args .flags .now)
+    (at-args .args .multiplier) 0 _ _ _ _ (at-fitting .fitting .ensures) (at-if1 .if1 .left) (at-refuse .refuse .ensures) in
+    (e, left-times _ _ _ _ _ _ _ _ e)
 
 pub final-y-spec : {M : Type 1} → statement M
 final-y-spec =

@@ -44,7 +44,14 @@ same-length-10 : tie.Need-same-length-10
 same-length-10 c = c .before .modes .given
 
 returns : tie.Need-returns
-returns c = all-cleared _ _ _ _ _ _ _ _ _ _ (c .before .before .before .before .before .before .before .before .before .before .before .before .before .before .before .before .before .before .before .before .before .before .before .before .before .before .before .before .before .before .before .clear-u32 .ensures) (c .before .before .before .before .before .before .before .before .before .before .before .before .before .before .before .before .before .before .before .before .before .before .before .before .clear-books .ensures .0 .zeros) (c .before .before .before .before .before .before .before .before .before .before .before .before .before .before .before .before .before .before .before .before .before .before .before .before .clear-books .ensures .1 .zeros) (c .before .before .before .before .before .before .before .before .before .before .before .before .before .before .before .before .before .before .before .before .before .before .before .before .clear-books .ensures .2 .zeros) (c .before .before .before .before .before .before .before .before .before .before .before .before .before .before .before .before .before .before .before .before .before .before .before .before .clear-books .ensures .3 .zeros) (c .before .before .before .before .before .before .before .before .before .before .clear-after .ensures .0 .zeros) (c .before .before .before .before .before .before .before .before .before .before .clear-after .ensures .1 .zeros) (c .before .before .before .before .before .before .before .before .before .before .clear-after .ensures .2 .zeros) (c .before .before .before .before .before .before .before .before .before .before .clear-after .ensures .3 .zeros) (c .before .before .before .before .before .before .before .before .before .before .clear-after .ensures .4 .zeros)
+returns c =
+    let at-clear-after = c .before .before .before .before .before .before .before .before .before .before in
+    let at-clear-books = at-clear-after .before .before .before .before .before .before .before .before .before .before .before .before .before .before in
+    let at-clear-u32 = at-clear-books .before .before .before .before .before .before .before in
+    all-cleared _ _ _ _ _ _ _ _ _ _ (at-clear-u32 .clear-u32 .ensures) (at-clear-books .clear-books .ensures .0 .zeros)
+    (at-clear-books .clear-books .ensures .1 .zeros) (at-clear-books .clear-books .ensures .2 .zeros) (at-clear-books .clear-books .ensures .3 .zeros)
+    (at-clear-after .clear-after .ensures .0 .zeros) (at-clear-after .clear-after .ensures .1 .zeros) (at-clear-after .clear-after .ensures .2 .zeros)
+    (at-clear-after .clear-after .ensures .3 .zeros) (at-clear-after .clear-after .ensures .4 .zeros)
 
 pub clear-spec : {M : Type 1} → statement M
 clear-spec =

@@ -10,20 +10,20 @@ returns c = search small0
 returns-2 : tie.Need-returns-2
 returns-2 c = search small1
 
-wide-requires : tie.Need-wide-requires
-wide-requires c κs = search needs
+wide-u32-requires : tie.Need-wide-u32-requires
+wide-u32-requires c κs = search needs
 
 returns-3 : tie.Need-returns-3
 returns-3 c = search small2
 
-wide-requires-2 : tie.Need-wide-requires-2
-wide-requires-2 c κs = search needs
+wide-u32-requires-2 : tie.Need-wide-u32-requires-2
+wide-u32-requires-2 c κs = search needs
 
 returns-4 : tie.Need-returns-4
 returns-4 c = search small3
 
-wide-requires-3 : tie.Need-wide-requires-3
-wide-requires-3 c κs = search needs
+wide-u32-requires-3 : tie.Need-wide-u32-requires-3
+wide-u32-requires-3 c κs = search needs
 
 returns-5 : tie.Need-returns-5
 returns-5 c = search small4
@@ -52,11 +52,11 @@ have-room-spec =
     (tie.spec
     returns
     returns-2
-    wide-requires
+    wide-u32-requires
     returns-3
-    wide-requires-2
+    wide-u32-requires-2
     returns-4
-    wide-requires-3
+    wide-u32-requires-3
     returns-5
     returns-6
     returns-7

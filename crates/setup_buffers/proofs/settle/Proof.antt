@@ -50,7 +50,11 @@ same-length-10 : tie.Need-same-length-10
 same-length-10 c = c .before .modes .given
 
 returns-2 : tie.Need-returns-2
-returns-2 c = settled-refused _ _ (c .before .before .before .before .before .before .before .before .before .before .before .before .before .before .before .before .before .before .before .before .before .before .before .before .before .before .before .before .before .before .before .before .before .answer .given .1) (c .before .before .before .before .before .before .before .before .before .before .before .before .before .before .before .before .before .before .before .before .before .before .before .before .before .before .before .before .before .before .before .number-of .ensures) (c .before .before .before .before .before .before .before .before .before .before .before .before .before .before .before .before .before .before .before .before .clear .ensures)
+returns-2 c =
+    let at-clear = c .before .before .before .before .before .before .before .before .before .before .before .before .before .before .before .before .before .before .before .before in
+    let at-number-of = at-clear .before .before .before .before .before .before .before .before .before .before .before in
+    let at-answer = at-number-of .before .before in
+    settled-refused _ _ (at-answer .answer .given .1) (at-number-of .number-of .ensures) (at-clear .clear .ensures)
 
 pub settle-spec : {M : Type 1} → statement M
 settle-spec =

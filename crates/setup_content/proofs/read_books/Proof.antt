@@ -9,7 +9,11 @@ clear-books-requires : tie.Need-clear-books-requires
 clear-books-requires c κs = search needs
 
 read-book-part-requires : tie.Need-read-book-part-requires
-read-book-part-requires c κs = books-ready _ (c .before .before .before .before .before .before .before .before .before .before .before .before .clear-books .ensures .0) (c .before .before .before .before .before .before .before .before .before .before .before .before .clear-books .ensures .1) (c .before .before .before .before .before .before .before .before .before .before .before .before .clear-books .ensures .2) (c .before .before .before .before .before .before .before .before .before .before .before .before .clear-books .ensures .3) (c .before .before .before .before .before .before .before .before .before .before .before .before .before .before .before .before .before .before .before .before .before .before .pre)
+read-book-part-requires c κs =
+    let at-clear-books = c .before .before .before .before .before .before .before .before .before .before .before .before in
+    let at-pre = at-clear-books .before .before .before .before .before .before .before .before .before .before in
+    books-ready _ (at-clear-books .clear-books .ensures .0) (at-clear-books .clear-books .ensures .1) (at-clear-books .clear-books .ensures .2)
+    (at-clear-books .clear-books .ensures .3) (at-pre .pre)
 
 same-length : tie.Need-same-length
 same-length c = c .before .before .before .before .before .before .before .books2 .given ∙ c .before .before .before .before .before .before .before .before .before .before .before .before .before .before .before .before .before .before .before .before .books .given
@@ -24,7 +28,13 @@ same-length-4 : tie.Need-same-length-4
 same-length-4 c = c .before .multiplicands2 .given ∙ c .before .before .before .before .before .before .before .before .before .before .before .before .before .before .multiplicands .given
 
 returns : tie.Need-returns
-returns c = (books-cleared _ (c .before .before .before .before .before .before .before .before .before .before .before .before .before .before .before .before .before .before .before .before .before .clear-books .ensures .0) (c .before .before .before .before .before .before .before .before .before .before .before .before .before .before .before .before .before .before .before .before .before .clear-books .ensures .1) (c .before .before .before .before .before .before .before .before .before .before .before .before .before .before .before .before .before .before .before .before .before .clear-books .ensures .2) (c .before .before .before .before .before .before .before .before .before .before .before .before .before .before .before .before .before .before .before .before .before .clear-books .ensures .3) _ _ (c .before .before .before .before .before .before .before .before .read-book-part .ensures .0), c .before .before .before .before .before .before .before .before .read-book-part .ensures .1)
+returns c =
+    let at-read-book-part = c .before .before .before .before .before .before .before .before in
+    let at-clear-books = at-read-book-part .before .before .before .before .before .before .before .before .before .before .before .before .before in (
+      books-cleared _ (at-clear-books .clear-books .ensures .0) (at-clear-books .clear-books .ensures .1) (at-clear-books .clear-books .ensures .2)
+          (at-clear-books .clear-books .ensures .3) _ _ (at-read-book-part .read-book-part .ensures .0),
+      at-read-book-part .read-book-part .ensures .1,
+    )
 
 pub read-books-spec : {M : Type 1} → statement M
 read-books-spec =

@@ -14,7 +14,10 @@ enum-known-step-2 : tie.Need-enum-known-step-2
 enum-known-step-2 c = search needs
 
 read-rest-requires : tie.Need-read-rest-requires
-read-rest-requires c κs = (c .before .before .before .before .before .before .before .before .before .before .before .before .before .before .before .before .before .before .before .before .before .before .before .before .before .before .before .before .before .before .before .before .before .before .pre .2, c .before .before .before .before .before .before .before .before .before .before .before .before .before .before .before .before .before .before .before .before .before .before .before .before .before .before .before .before .before .before .before .before .before .before .pre .3, c .before .before .before .before .before .before .before .before .before .before .before .before .before .before .before .before .before .before .read-books .ensures .1)
+read-rest-requires c κs =
+    let at-read-books = c .before .before .before .before .before .before .before .before .before .before .before .before .before .before .before .before .before .before in
+    let at-pre = at-read-books .before .before .before .before .before .before .before .before .before .before .before .before .before .before .before .before in
+    (at-pre .pre .2, at-pre .pre .3, at-read-books .read-books .ensures .1)
 
 same-length : tie.Need-same-length
 same-length c = c .before .before .before .before .before .before .before .before .before .before .books .given
@@ -62,7 +65,13 @@ same-length-14 : tie.Need-same-length-14
 same-length-14 c = c .before .modes .given
 
 returns-2 : tie.Need-returns-2
-returns-2 c = content-read _ _ _ _ (c .before .before .before .before .before .before .before .before .before .before .before .before .before .before .before .before .before .before .before .before .before .before .before .before .before .before .before .before .before .before .before .read-books .ensures .0) _ _ _ _ _ _ (c .before .before .before .before .before .before .before .before .before .before .before .before .before .before .before .before .before .before .before .before .before .before .before .before .before .before .before .before .before .before .before .before .before .before .before .before .before .before .before .before .before .before .before .before .before .before .before .pre .0) (c .before .before .before .before .before .before .before .before .before .before .before .before .before .before .before .before .before .before .before .before .before .before .before .before .before .before .before .before .before .before .before .read-books .ensures .1) (c .before .before .before .before .before .before .before .before .before .before .before .before .before .before .before .before .before .before .before .before .before .step2 .given .1) (c .before .before .before .before .before .before .before .before .before .before .before .before .read-rest .ensures)
+returns-2 c =
+    let at-read-rest = c .before .before .before .before .before .before .before .before .before .before .before .before in
+    let at-step2 = at-read-rest .before .before .before .before .before .before .before .before .before in
+    let at-read-books = at-step2 .before .before .before .before .before .before .before .before .before .before in
+    let at-pre = at-read-books .before .before .before .before .before .before .before .before .before .before .before .before .before .before .before .before in
+    content-read _ _ _ _ (at-read-books .read-books .ensures .0) _ _ _ _ _ _ (at-pre .pre .0) (at-read-books .read-books .ensures .1)
+    (at-step2 .step2 .given .1) (at-read-rest .read-rest .ensures)
 
 pub read-content-spec : {M : Type 1} → statement M
 read-content-spec =

@@ -16,8 +16,8 @@ enum-known-less-one c = search needs
 add-count : tie.Need-add-count
 add-count c = search section-laws
 
-wide-requires : tie.Need-wide-requires
-wide-requires c κs = search needs
+wide-u32-requires : tie.Need-wide-u32-requires
+wide-u32-requires c κs = search needs
 
 read-floors-requires : tie.Need-read-floors-requires
 read-floors-requires c κs = search section-laws
@@ -39,7 +39,7 @@ read-floor-section-spec =
     enum-known-z
     enum-known-less-one
     add-count
-    wide-requires
+    wide-u32-requires
     read-floors-requires
     returns
     same-length

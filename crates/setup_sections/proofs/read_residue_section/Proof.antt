@@ -13,11 +13,11 @@ enum-known-z c = search needs
 enum-known-less-one : tie.Need-enum-known-less-one
 enum-known-less-one c = search needs
 
-add-number : tie.Need-add-number
-add-number c = search residue-laws
+add-count : tie.Need-add-count
+add-count c = search residue-laws
 
-wide-requires : tie.Need-wide-requires
-wide-requires c κs = search needs
+wide-u32-requires : tie.Need-wide-u32-requires
+wide-u32-requires c κs = search needs
 
 read-residues-requires : tie.Need-read-residues-requires
 read-residues-requires c κs = search residue-laws
@@ -41,8 +41,8 @@ read-residue-section-spec =
     field-requires
     enum-known-z
     enum-known-less-one
-    add-number
-    wide-requires
+    add-count
+    wide-u32-requires
     read-residues-requires
     returns
     same-length

@@ -11,14 +11,14 @@ shared-slice-read-if1 c = search needs
 returns : tie.Need-returns
 returns c = right-unset _ _ _ _ _ (omega arith)
 
-mul-wide : tie.Need-mul-wide
-mul-wide c = search needs
+mul-wide-u16 : tie.Need-mul-wide-u16
+mul-wide-u16 c = search needs
 
-shared-slice-read-wide : tie.Need-shared-slice-read-wide
-shared-slice-read-wide c = search needs
+shared-slice-read-wide-u16 : tie.Need-shared-slice-read-wide-u16
+shared-slice-read-wide-u16 c = search needs
 
-wide-requires : tie.Need-wide-requires
-wide-requires c κs = search needs
+wide-u16-requires : tie.Need-wide-u16-requires
+wide-u16-requires c κs = search needs
 
 returns-2 : tie.Need-returns-2
 returns-2 c = right-left _ _ _ _ _ (omega arith) (omega arith) (omega arith)
@@ -26,14 +26,14 @@ returns-2 c = right-left _ _ _ _ _ (omega arith) (omega arith) (omega arith)
 x-or-requires : tie.Need-x-or-requires
 x-or-requires c κs = search needs
 
-mul-wide-2 : tie.Need-mul-wide-2
-mul-wide-2 c = search needs
+mul-wide-u16-2 : tie.Need-mul-wide-u16-2
+mul-wide-u16-2 c = search needs
 
-shared-slice-read-wide-2 : tie.Need-shared-slice-read-wide-2
-shared-slice-read-wide-2 c = search needs
+shared-slice-read-wide-u16-2 : tie.Need-shared-slice-read-wide-u16-2
+shared-slice-read-wide-u16-2 c = search needs
 
-wide-requires-2 : tie.Need-wide-requires-2
-wide-requires-2 c κs = search needs
+wide-u16-requires-2 : tie.Need-wide-u16-requires-2
+wide-u16-requires-2 c κs = search needs
 
 returns-3 : tie.Need-returns-3
 returns-3 c = right-best _ _ _ _ _ (omega arith) (omega arith) (omega arith) (omega arith)
@@ -47,13 +47,13 @@ earlier-spec =
     (tie.spec
     shared-slice-read-if1
     returns
-    mul-wide
-    shared-slice-read-wide
-    wide-requires
+    mul-wide-u16
+    shared-slice-read-wide-u16
+    wide-u16-requires
     returns-2
     x-or-requires
-    mul-wide-2
-    shared-slice-read-wide-2
-    wide-requires-2
+    mul-wide-u16-2
+    shared-slice-read-wide-u16-2
+    wide-u16-requires-2
     returns-3
     returns-4)

@@ -11,14 +11,14 @@ shared-slice-read-if1 c = search needs
 returns : tie.Need-returns
 returns c = left-unset _ _ _ _ _ (omega arith)
 
-mul-wide : tie.Need-mul-wide
-mul-wide c = search needs
+mul-wide-u16 : tie.Need-mul-wide-u16
+mul-wide-u16 c = search needs
 
-shared-slice-read-wide : tie.Need-shared-slice-read-wide
-shared-slice-read-wide c = search needs
+shared-slice-read-wide-u16 : tie.Need-shared-slice-read-wide-u16
+shared-slice-read-wide-u16 c = search needs
 
-wide-requires : tie.Need-wide-requires
-wide-requires c κs = search needs
+wide-u16-requires : tie.Need-wide-u16-requires
+wide-u16-requires c κs = search needs
 
 returns-2 : tie.Need-returns-2
 returns-2 c = left-right _ _ _ _ _ (omega arith) (omega arith)
@@ -47,9 +47,9 @@ later-spec =
     (tie.spec
     shared-slice-read-if1
     returns
-    mul-wide
-    shared-slice-read-wide
-    wide-requires
+    mul-wide-u16
+    shared-slice-read-wide-u16
+    wide-u16-requires
     returns-2
     mul-if3
     shared-slice-read-if3

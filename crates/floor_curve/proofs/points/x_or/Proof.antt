@@ -5,20 +5,20 @@ use borrow.Author.Needs.{needs}
 use Rattle.floor_curve.proofs.points.x_or.Statement.{statement}
 use Rattle.floor_curve.proofs.points.x_or.Tie as tie
 
-mul-wide : tie.Need-mul-wide
-mul-wide c = search needs
+mul-wide-u16 : tie.Need-mul-wide-u16
+mul-wide-u16 c = search needs
 
-shared-slice-read-wide : tie.Need-shared-slice-read-wide
-shared-slice-read-wide c = search needs
+shared-slice-read-wide-u16 : tie.Need-shared-slice-read-wide-u16
+shared-slice-read-wide-u16 c = search needs
 
-wide-requires : tie.Need-wide-requires
-wide-requires c κs = search needs
+wide-u16-requires : tie.Need-wide-u16-requires
+wide-u16-requires c κs = search needs
 
 returns : tie.Need-returns
-returns c = x-within (c .before .before .before .before .args .x .now) (c .before .before .before .before .args .j) _ (omega arith) (c .wide .ensures)
+returns c = x-within (c .before .before .before .before .args .x .now) (c .before .before .before .before .args .j) _ (omega arith) (c .wide-u16 .ensures)
 
 returns-2 : tie.Need-returns-2
 returns-2 c = x-past (c .before .before .args .x .now) (c .before .before .args .j) (omega arith)
 
 pub x-or-spec : {M : Type 1} → statement M
-x-or-spec = tie.close (tie.spec mul-wide shared-slice-read-wide wide-requires returns returns-2)
+x-or-spec = tie.close (tie.spec mul-wide-u16 shared-slice-read-wide-u16 wide-u16-requires returns returns-2)

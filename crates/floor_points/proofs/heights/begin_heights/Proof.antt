@@ -19,14 +19,14 @@ abbrev μ-loop : tie.MeasureT-loop
 loop-holds : tie.Need-loop-holds Inv-loop μ-loop
 loop-holds c = fill-begin _ _ _ (c .before .before .pre)
 
-mul-wide : tie.Need-mul-wide Inv-loop μ-loop
-mul-wide c = search needs
+mul-u32-from-u16 : tie.Need-mul-u32-from-u16 Inv-loop μ-loop
+mul-u32-from-u16 c = search needs
 
-shared-slice-read-wide : tie.Need-shared-slice-read-wide Inv-loop μ-loop
-shared-slice-read-wide c = search needs
+shared-slice-read-u32-from-u16 : tie.Need-shared-slice-read-u32-from-u16 Inv-loop μ-loop
+shared-slice-read-u32-from-u16 c = search needs
 
-wide-requires : tie.Need-wide-requires Inv-loop μ-loop
-wide-requires c κs = search needs
+u32-from-u16-requires : tie.Need-u32-from-u16-requires Inv-loop μ-loop
+u32-from-u16-requires c κs = search needs
 
 add-heights : tie.Need-add-heights Inv-loop μ-loop
 add-heights c = omega (arith, c .before .before .before .before .before .shared-slice-known .given (c .before .before .before .loop .i))
@@ -44,7 +44,7 @@ loop-less : tie.Need-loop-less Inv-loop μ-loop
 loop-less c = search needs
 
 loop-again : tie.Need-loop-again Inv-loop μ-loop
-loop-again c = fill-turn _ _ _ _ _ (c .before .before .before .loop .inv) (omega arith) (ap (λ (v : ℕ). 65536 + v) (c .wide .ensures))
+loop-again c = fill-turn _ _ _ _ _ (c .before .before .before .loop .inv) (omega arith) (ap (λ (v : ℕ). 65536 + v) (c .u32-from-u16 .ensures))
 
 same-length : tie.Need-same-length Inv-loop μ-loop
 same-length c = omega arith
@@ -59,9 +59,9 @@ begin-heights-spec =
     Inv-loop
     μ-loop
     loop-holds
-    mul-wide
-    shared-slice-read-wide
-    wide-requires
+    mul-u32-from-u16
+    shared-slice-read-u32-from-u16
+    u32-from-u16-requires
     add-heights
     mul-heights
     slice-write-heights

@@ -28,8 +28,18 @@ same-length-3 c = search needs
 
 returns : tie.Need-returns
 returns c =
-    let e = made-points (c .before .before .before .before .before .before .before .before .before .before .before .before .before .before .before .before .before .before .before .before .before .before .before .before .before .args .range) (c .before .before .before .before .before .before .before .before .before .before .before .before .before .before .before .before .before .before .before .before .before .before .before .before .before .args .x .now) (c .before .before .before .before .before .before .before .before .before .before .before .before .before .before .before .before .before .before .before .before .before .before .before .before .before .args .values .now) (c .before .before .before .before .before .before .before .before .before .before .before .before .before .before .before .before .before .before .before .before .before .before .before .before .before .args .heights .now) (c .before .before .before .before .before .before .before .before .before .before .before .before .before .before .before .before .before .before .before .before .before .before .before .before .before .args .flags .now) _ _ (c .before .before .before .before .before .before .before .before .before .steps .last .1 .1 .1 .0) _ (c .before .before .before .before .before .before .before .before .before .before .before .before .before .before .before .before .before .before .before .before .before .before .before .before .before .pre .0) (c .before .before .before .before .before .before .before .before .before .before .before .before .before .before .before .before .before .before .begin-heights .ensures .0) (c .before .before .before .before .before .before .before .before .before .before .before .before .before .before .begin-flags .ensures) (c .before .before .before .before .before .before .before .before .before .steps .ensures) in
-    (made-y (c .before .before .before .before .before .before .before .before .before .before .before .before .before .before .before .before .before .before .before .before .before .before .before .before .before .args .range) (c .before .before .before .before .before .before .before .before .before .before .before .before .before .before .before .before .before .before .before .before .before .before .before .before .before .args .x .now) (c .before .before .before .before .before .before .before .before .before .before .before .before .before .before .before .before .before .before .before .before .before .before .before .before .before .args .values .now) (c .before .before .before .before .before .before .before .before .before .steps .last .1 .1 .1 .0) _ _ e (c .before .before .clamp-all .ensures), made-flags (c .before .before .before .before .before .before .before .before .before .before .before .before .before .before .before .before .before .before .before .before .before .before .before .before .before .args .range) (c .before .before .before .before .before .before .before .before .before .before .before .before .before .before .before .before .before .before .before .before .before .before .before .before .before .args .x .now) (c .before .before .before .before .before .before .before .before .before .before .before .before .before .before .before .before .before .before .before .before .before .before .before .before .before .args .values .now) (c .before .before .before .before .before .before .before .before .before .steps .last .1 .1 .1 .0) _ e)
+    let at-steps = c .before .before .before .before .before .before .before .before .before in
+    let at-begin-flags = at-steps .before .before .before .before .before in
+    let at-begin-heights = at-begin-flags .before .before .before .before in
+    let at-args = at-begin-heights .before .before .before .before .before .before .before in
+    let e = made-points (at-args .args .range) (at-args .args .x .now) (at-args .args .values .now) (at-args .args .heights .now)
+    (at-args .args .flags .now) _ _ (at-steps .steps .last .1 .1 .1 .0) _ (at-args .pre .0) (at-begin-heights .begin-heights .ensures .0)
+    (at-begin-flags .begin-flags .ensures) (at-steps .steps .ensures) in (
+      made-y (at-args .args .range) (at-args .args .x .now) (at-args .args .values .now) (at-steps .steps .last .1 .1 .1 .0) _ _ e
+          (c .before .before .clamp-all .ensures),
+      made-flags (at-args .args .range) (at-args .args .x .now) (at-args .args .values .now)
+          (at-steps .steps .last .1 .1 .1 .0) _ e,
+    )
 
 pub final-points-spec : {M : Type 1} → statement M
 final-points-spec =

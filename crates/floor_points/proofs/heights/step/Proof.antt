@@ -40,13 +40,20 @@ same-length-2 : tie.Need-same-length-2
 same-length-2 c = search needs
 
 returns : tie.Need-returns
-returns c = (
-  step-made (c .before .before .before .before .before .before .before .before .before .before .before .before .before .before .args .range) (c .before .before .before .before .before .before .before .before .before .before .before .before .before .before .args .x .now) (c .before .before .before .before .before .before .before .before .before .before .before .before .before .before .args .values .now) (c .before .before .before .before .before .before .before .before .before .before .before .before .before .before .args .heights .now) (c .before .before .before .before .before .before .before .before .before .before .before .before .before .before .args .flags .now) _ (c .before .before .before .before .before .before .before .before .before .before .before .before .before .before .args .i) (c .before .before .before .before .before .before .before .before .before .low-neighbour .result) (c .before .before .before .before .before .before .before .before .high-neighbour .result) (c .before .before .before .before .before .before .predict .result) (c .before .before .before .before .unwrap .result)
-      (c .before .before .before .before .before .before .before .before .before .low-neighbour .ensures .0) (c .before .before .before .before .before .before .before .before .high-neighbour .ensures .0) (omega arith) (omega arith)
-      (c .before .before .before .before .before .before .predict .ensures .0)
-      (c .before .before .before .before .unwrap .ensures .0) (c .before .before .flag .ensures),
-  set-bounded _ _ _ (c .before .before .before .before .before .before .before .before .before .before .before .before .before .before .pre .1) (c .before .before .before .before .unwrap .ensures .1),
-)
+returns c =
+    let at-unwrap = c .before .before .before .before in
+    let at-predict = at-unwrap .before .before in
+    let at-high-neighbour = at-predict .before .before in
+    let at-low-neighbour = at-high-neighbour .before in
+    let at-args = at-low-neighbour .before .before .before .before .before in (
+      step-made (at-args .args .range) (at-args .args .x .now) (at-args .args .values .now) (at-args .args .heights .now) (at-args .args .flags .now) _
+          (at-args .args .i) (at-low-neighbour .low-neighbour .result) (at-high-neighbour .high-neighbour .result) (at-predict .predict .result)
+          (at-unwrap .unwrap .result)
+          (at-low-neighbour .low-neighbour .ensures .0) (at-high-neighbour .high-neighbour .ensures .0) (omega arith) (omega arith)
+          (at-predict .predict .ensures .0)
+          (at-unwrap .unwrap .ensures .0) (c .before .before .flag .ensures),
+      set-bounded _ _ _ (at-args .pre .1) (at-unwrap .unwrap .ensures .1),
+    )
 
 pub step-spec : {M : Type 1} → statement M
 step-spec =

@@ -27,7 +27,14 @@ same-length : tie.Need-same-length
 same-length c = search needs
 
 returns : tie.Need-returns
-returns c = two-read (c .before .before .before .before .before .before .before .before .before .before .before .before .before .before .pre) (c .before .before .before .before .before .before .before .multiplier .ensures) (c .before .before .before .before .before .before .byte .ensures) (c .before .before .before .before .before .range-of .ensures .0) (c .before .before .before .before .ilog .ensures) _ _ _ (c .before .before .read-numbers .ensures)
+returns c =
+    let at-ilog = c .before .before .before .before in
+    let at-range-of = at-ilog .before in
+    let at-byte = at-range-of .before in
+    let at-multiplier = at-byte .before in
+    let at-pre = at-multiplier .before .before .before .before .before .before .before in
+    two-read (at-pre .pre) (at-multiplier .multiplier .ensures) (at-byte .byte .ensures) (at-range-of .range-of .ensures .0)
+    (at-ilog .ilog .ensures) _ _ _ (c .before .before .read-numbers .ensures)
 
 pub read-first-two-spec : {M : Type 1} → statement M
 read-first-two-spec =

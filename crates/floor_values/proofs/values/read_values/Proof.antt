@@ -27,7 +27,15 @@ same-length : tie.Need-same-length
 same-length c = search needs
 
 returns-3 : tie.Need-returns-3
-returns-3 c = (floor-used _ _ _ _ _ (c .before .before .before .before .before .before .before .before .bit .ensures) _ (c .before .before .before .before .before .before .nonzero .given .1) (c .before .before .before .before .if1 .left) (c .before .before .read-used .ensures), values-known (c .before .before .before .before .before .before .before .before .before .before .before .before .before .before .before .pre))
+returns-3 c =
+    let at-if1 = c .before .before .before .before in
+    let at-nonzero = at-if1 .before .before in
+    let at-bit = at-nonzero .before .before in
+    let at-pre = at-bit .before .before .before .before .before .before .before in (
+      floor-used _ _ _ _ _ (at-bit .bit .ensures) _ (at-nonzero .nonzero .given .1) (at-if1 .if1 .left)
+          (c .before .before .read-used .ensures),
+      values-known (at-pre .pre),
+    )
 
 pub read-values-spec : {M : Type 1} → statement M
 read-values-spec =

@@ -18,7 +18,12 @@ enum-known-from : tie.Need-enum-known-from
 enum-known-from c = search needs
 
 read-content-requires : tie.Need-read-content-requires
-read-content-requires c κs = content-ready _ _ _ _ (c .before .before .before .before .before .before .before .before .before .before .before .before .before .before .have-room .ensures) (c .before .before .before .before .before .before .before .before .before .before .before .before .before .begin .ensures) (c .before .before .before .before .before .before .before .before .before .before .before .before .before .before .before .before .before .before .before .before .before .before .before .before .before .before .before .before .before .before .before .before .before .before .before .before .pre) (c .before .before .before .before .before .before .before .before .before .before .before .from .given .1)
+read-content-requires c κs =
+    let at-from = c .before .before .before .before .before .before .before .before .before .before .before in
+    let at-begin = at-from .before .before in
+    let at-have-room = at-begin .before in
+    let at-pre = at-have-room .before .before .before .before .before .before .before .before .before .before .before .before .before .before .before .before .before .before .before .before .before .before in
+    content-ready _ _ _ _ (at-have-room .have-room .ensures) (at-begin .begin .ensures) (at-pre .pre) (at-from .from .given .1)
 
 same-length : tie.Need-same-length
 same-length c = refl
@@ -84,7 +89,12 @@ same-length-20 : tie.Need-same-length-20
 same-length-20 c = c .before .modes .given
 
 returns-2 : tie.Need-returns-2
-returns-2 c = checked-read _ _ _ _ (c .before .before .before .before .before .before .before .before .before .before .before .before .before .before .before .before .before .before .before .before .before .before .before .before .before .before .before .before .before .before .before .before .before .before .before .have-room .ensures) (c .before .before .before .before .before .before .before .before .before .before .before .before .before .before .before .before .before .before .before .before .before .before .before .before .before .before .before .before .before .before .before .before .before .before .begin .ensures) (c .before .before .before .before .before .before .before .before .before .before .before .before .before .before .before .before .before .before .before .before .before .before .before .before .before .before .before .before .before .before .before .before .from .given .1) (c .before .before .before .before .before .before .before .before .before .before .before .before .before .before .before .before .before .before .before .before .read-content .ensures)
+returns-2 c =
+    let at-read-content = c .before .before .before .before .before .before .before .before .before .before .before .before .before .before .before .before .before .before .before .before in
+    let at-from = at-read-content .before .before .before .before .before .before .before .before .before .before .before .before in
+    let at-begin = at-from .before .before in
+    let at-have-room = at-begin .before in
+    checked-read _ _ _ _ (at-have-room .have-room .ensures) (at-begin .begin .ensures) (at-from .from .given .1) (at-read-content .read-content .ensures)
 
 pub read-checked-spec : {M : Type 1} → statement M
 read-checked-spec =

@@ -10,7 +10,20 @@ clear-after-requires : tie.Need-clear-after-requires
 clear-after-requires c κs = search needs
 
 read-after-books-requires : tie.Need-read-after-books-requires
-read-after-books-requires c κs = (c .before .before .before .before .before .before .before .before .before .before .before .before .before .before .before .before .before .before .before .before .before .before .before .before .before .before .before .before .pre .0, c .before .before .before .before .before .before .before .before .before .before .before .before .before .before .before .before .before .before .before .before .before .before .before .before .before .before .before .before .pre .1, c .before .before .before .before .before .before .before .before .before .before .before .before .before .before .before .before .before .before .before .before .before .before .before .before .before .before .before .before .pre .2, cleared-zeros (c .before .before .before .before .before .before .before .before .before .before .before .before .before .before .before .clear-after .ensures .0), cleared-zeros (c .before .before .before .before .before .before .before .before .before .before .before .before .before .before .before .clear-after .ensures .1), cleared-zeros (c .before .before .before .before .before .before .before .before .before .before .before .before .before .before .before .clear-after .ensures .2), cleared-zeros (c .before .before .before .before .before .before .before .before .before .before .before .before .before .before .before .clear-after .ensures .3), cleared-zeros (c .before .before .before .before .before .before .before .before .before .before .before .before .before .before .before .clear-after .ensures .4))
+read-after-books-requires c κs =
+    let at-clear-after = c .before .before .before .before .before .before .before .before .before .before .before .before .before .before .before in
+    let at-pre = at-clear-after .before .before .before .before .before .before .before .before .before .before .before .before .before in (
+      at-pre .pre .0,
+      at-pre .pre .1,
+      at-pre .pre .2,
+      cleared-zeros (at-clear-after .clear-after .ensures .0),
+      cleared-zeros
+          (at-clear-after .clear-after .ensures .1),
+      cleared-zeros (at-clear-after .clear-after .ensures .2),
+      cleared-zeros
+          (at-clear-after .clear-after .ensures .3),
+      cleared-zeros (at-clear-after .clear-after .ensures .4),
+    )
 
 same-length : tie.Need-same-length
 same-length c = c .before .before .before .before .before .before .before .before .before .floors2 .given ∙ c .before .before .before .before .before .before .before .before .before .before .before .before .before .before .before .before .before .before .before .before .before .before .before .before .before .floors .given
@@ -28,7 +41,11 @@ same-length-5 : tie.Need-same-length-5
 same-length-5 c = c .before .modes2 .given ∙ c .before .before .before .before .before .before .before .before .before .before .before .before .before .before .before .before .before .modes .given
 
 returns : tie.Need-returns
-returns c = after-cleared _ _ _ _ (c .before .before .before .before .before .before .before .before .before .before .before .before .before .before .before .before .before .before .before .before .before .before .before .before .before .before .clear-after .ensures .0) (c .before .before .before .before .before .before .before .before .before .before .before .before .before .before .before .before .before .before .before .before .before .before .before .before .before .before .clear-after .ensures .1) (c .before .before .before .before .before .before .before .before .before .before .before .before .before .before .before .before .before .before .before .before .before .before .before .before .before .before .clear-after .ensures .2) (c .before .before .before .before .before .before .before .before .before .before .before .before .before .before .before .before .before .before .before .before .before .before .before .before .before .before .clear-after .ensures .3) (c .before .before .before .before .before .before .before .before .before .before .before .before .before .before .before .before .before .before .before .before .before .before .before .before .before .before .clear-after .ensures .4) (c .before .before .before .before .before .before .before .before .before .before .read-after-books .ensures)
+returns c =
+    let at-read-after-books = c .before .before .before .before .before .before .before .before .before .before in
+    let at-clear-after = at-read-after-books .before .before .before .before .before .before .before .before .before .before .before .before .before .before .before .before in
+    after-cleared _ _ _ _ (at-clear-after .clear-after .ensures .0) (at-clear-after .clear-after .ensures .1) (at-clear-after .clear-after .ensures .2)
+    (at-clear-after .clear-after .ensures .3) (at-clear-after .clear-after .ensures .4) (at-read-after-books .read-after-books .ensures)
 
 pub read-after-spec : {M : Type 1} → statement M
 read-after-spec =

@@ -38,7 +38,18 @@ zeros-u32-requires : tie.Need-zeros-u32-requires
 zeros-u32-requires c κs = search needs
 
 returns-6 : tie.Need-returns-6
-returns-6 c = counts-end _ (c .before .before .before .before .before .before .before .before .before .before .is-count .ensures) (c .before .before .before .before .before .before .before .before .before .if1 .left) (c .before .before .before .before .before .before .before .before .is-count2 .ensures) (c .before .before .before .before .before .before .before .if2 .left) (c .before .before .before .before .before .before .is-count3 .ensures) (c .before .before .before .before .before .if3 .left) (c .before .before .before .before .is-count4 .ensures) (c .before .before .before .if4 .left) (c .before .before .is-count5 .ensures) (c .before .if5 .left) (c .zeros-u32 .ensures)
+returns-6 c =
+    let at-if4 = c .before .before .before in
+    let at-is-count4 = at-if4 .before in
+    let at-if3 = at-is-count4 .before in
+    let at-is-count3 = at-if3 .before in
+    let at-if2 = at-is-count3 .before in
+    let at-is-count2 = at-if2 .before in
+    let at-if1 = at-is-count2 .before in
+    let at-is-count = at-if1 .before in
+    counts-end _ (at-is-count .is-count .ensures) (at-if1 .if1 .left) (at-is-count2 .is-count2 .ensures) (at-if2 .if2 .left)
+    (at-is-count3 .is-count3 .ensures) (at-if3 .if3 .left) (at-is-count4 .is-count4 .ensures) (at-if4 .if4 .left) (c .before .before .is-count5 .ensures)
+    (c .before .if5 .left) (c .zeros-u32 .ensures)
 
 pub are-counts-spec : {M : Type 1} → statement M
 are-counts-spec = tie.close (tie.spec is-count-requires returns is-count-requires-2 returns-2 is-count-requires-3 returns-3 is-count-requires-4 returns-4 is-count-requires-5 returns-5 zeros-u32-requires returns-6)

@@ -41,7 +41,10 @@ same-length-10 : tie.Need-same-length-10
 same-length-10 c = c .before .modes .given
 
 returns : tie.Need-returns
-returns c = setup-standard (c .before .before .before .before .before .before .before .before .before .before .before .before .before .before .before .before .before .before .before .before .before .before .before .before .before .before .before .before .before .before .before .standard .ensures) (c .before .before .before .before .before .before .before .before .before .before .before .before .before .before .before .before .before .before .before .before .read-setup .ensures)
+returns c =
+    let at-read-setup = c .before .before .before .before .before .before .before .before .before .before .before .before .before .before .before .before .before .before .before .before in
+    let at-standard = at-read-setup .before .before .before .before .before .before .before .before .before .before .before in
+    setup-standard (at-standard .standard .ensures) (at-read-setup .read-setup .ensures)
 
 pub torchvalley-setup-spec : {M : Type 1} → statement M
 torchvalley-setup-spec =
