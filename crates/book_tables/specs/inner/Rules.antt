@@ -1,6 +1,6 @@
 -- The rules of a codebook as they are tested along the tables: what holds of a row and of the lengths, codewords and multiplicands from its own on
 -- where a book that meets every rule is written there (01, refusals 6, 7, 8 and 14; the width of each field). proofs/Written shows that these are
--- the same as the book's own rules and rows (`books`, Valid and Rows).
+-- the same as the book's own rules and rows (`book_reading`, inner/Valid and Rows).
 use Prim.Native.Nat.{ℕ, _+_, _^_, _≤_, _<_}
 use mathlib.Core.Bool.{true}
 use mathlib.Core.List.{List}
