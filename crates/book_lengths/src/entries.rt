@@ -17,7 +17,8 @@ ghost use Rattle.book_lengths.specs.inner.Parts.{entries, coded, stored}
 // Lengths entered into an empty space of their own. `place` is the book's first bit, `next` the one behind its lengths.
 fn enter_lengths(lengths: &[u8], codewords: &mut [u32], place: Cursor, next: Cursor) -> Step
     requires { ⌜ length (now lengths) ≡ length (now codewords) ⌝ }
-    ensures { λ r. ⌜ Wrote (mapped coded (entered (position place) (now (lengths .entry)) (ok (now (lengths .entry), position next)))) r (now (lengths .entry), now (codewords .exit)) ⌝ }
+    ensures { λ r. ⌜ Wrote (mapped coded (entered (position place) (now (lengths .entry)) (ok (now (lengths .entry), position next)))) r
+        (now (lengths .entry), now (codewords .exit)) ⌝ }
 {
     match assign_codewords(lengths, codewords) {
         Assigned::Accepted => Step::Next(next),
@@ -36,7 +37,8 @@ pub fn read_entries(
     codewords: &mut [u32],
 ) -> Step
     requires { ⌜ (length (now lengths) < 4294967296) × (length (now lengths) ≡ length (now codewords)) ⌝ }
-    ensures { λ r. ⌜ Wrote (mapped coded (entries (position place) (length (now (lengths .entry))) (now (packet .entry)) (position from))) r (now (lengths .exit), now (codewords .exit)) ⌝ }
+    ensures { λ r. ⌜ Wrote (mapped coded (entries (position place) (length (now (lengths .entry))) (now (packet .entry)) (position from))) r
+        (now (lengths .exit), now (codewords .exit)) ⌝ }
 {
     match read_lengths(packet, from, place, lengths) {
         Step::Refused(z) => Step::Refused(z),
@@ -44,21 +46,23 @@ pub fn read_entries(
     }
 }
 
-// The entries of a book, `count` of them, from place `first` of the tables of all entries on.
+// The entries of a book, `entry_count` of them, from place `first` of the tables of all entries on.
 pub fn read_entries_at(
     packet: &[u8],
     from: Cursor,
     place: Cursor,
     first: u32,
-    count: u32,
+    entry_count: u32,
     lengths: &mut [u8],
     codewords: &mut [u32],
 ) -> Step
-    requires { ⌜ (first + count ≤ length (now lengths)) × (first + count ≤ length (now codewords)) ⌝ }
-    ensures { λ r. ⌜ Wrote (mapped (stored (now (lengths .entry)) (now (codewords .entry)) first) (entries (position place) count (now (packet .entry)) (position from))) r (now (lengths .exit), now (codewords .exit)) ⌝ }
+    requires { ⌜ (first + «entry_count» ≤ length (now lengths)) × (first + «entry_count» ≤ length (now codewords)) ⌝ }
+    ensures { λ r. ⌜ Wrote (mapped (stored (now (lengths .entry)) (now (codewords .entry)) first)
+        (entries (position place) «entry_count» (now (packet .entry)) (position from))) r
+        (now (lengths .exit), now (codewords .exit)) ⌝ }
 {
     let start = first as usize;
-    let end = start + count as usize;
+    let end = start + entry_count as usize;
     read_entries(
         packet,
         from,

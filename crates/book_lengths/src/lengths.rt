@@ -94,7 +94,8 @@ fn fill_run(part: &mut [u8], at: usize, number: usize, value: u8)
 // Runs of one length each, from `first` + 1 on. `place` is the book's first bit, where a length above 32 has its refusal.
 fn read_runs(packet: &[u8], from: Cursor, place: Cursor, first: u32, part: &mut [u8]) -> Step
     requires { ⌜ (first < 32) × (length (now part) < 4294967296) ⌝ }
-    ensures { λ r. ⌜ Wrote (runs (position place) 33 (first + 1) (length (now (part .entry))) (now (packet .entry)) (position from)) r (now (part .exit)) ⌝ }
+    ensures { λ r. ⌜ Wrote (runs (position place) 33 (first + 1) (length (now (part .entry))) (now (packet .entry)) (position from)) r
+        (now (part .exit)) ⌝ }
 {
     let mut at = from;
     let mut bits = first + 1;

@@ -123,7 +123,9 @@ fn read_values(
     multiplicands: &mut [u16],
 ) -> LookupRead
     requires { ⌜ (first ≤ most) × (most ≤ length (now multiplicands)) ⌝ }
-    ensures { λ r. ⌜ Wrote (mapped (stored (now (multiplicands .entry)) first) (values (position place) lookup count most first (now (packet .entry)) (position from))) (r .step) (numbersOf r, now (multiplicands .exit)) ⌝ }
+    ensures { λ r. ⌜ Wrote (mapped (stored (now (multiplicands .entry)) first)
+        (values (position place) lookup count most first (now (packet .entry)) (position from))) (r .step)
+        (numbersOf r, now (multiplicands .exit)) ⌝ }
     ensures { λ r. ⌜ first + r .count ≤ most ⌝ }
 {
     match read_parameters(packet, from) {
@@ -161,7 +163,9 @@ pub fn read_lookup(
     multiplicands: &mut [u16],
 ) -> LookupRead
     requires { ⌜ (first ≤ most) × (most ≤ length (now multiplicands)) ⌝ }
-    ensures { λ r. ⌜ Wrote (mapped (stored (now (multiplicands .entry)) first) (lookup (position place) entries dimensions most first (now (packet .entry)) (position from))) (r .step) (numbersOf r, now (multiplicands .exit)) ⌝ }
+    ensures { λ r. ⌜ Wrote (mapped (stored (now (multiplicands .entry)) first)
+        (lookup (position place) entries dimensions most first (now (packet .entry)) (position from))) (r .step)
+        (numbersOf r, now (multiplicands .exit)) ⌝ }
     ensures { λ r. ⌜ first + r .count ≤ most ⌝ }
 {
     match from.field(packet, 4) {

@@ -29,7 +29,8 @@ pub enum Assigned {
 
 // Assigns each used entry its codeword, and 0 to the unused ones; places behind them are 0. On any refusal the lent list is all zeros.
 pub fn assign_codewords(lengths: &[u8], codewords: &mut [u32]) -> Assigned
-    ensures { λ r. ⌜ (r ≡ assigned (now (lengths .entry)) (length (now (codewords .entry)))) × (now (codewords .exit) ≡ written r (now (lengths .entry)) (length (now (codewords .entry)))) ⌝ }
+    ensures { λ r. ⌜ (r ≡ assigned (now (lengths .entry)) (length (now (codewords .entry))))
+        × (now (codewords .exit) ≡ written r (now (lengths .entry)) (length (now (codewords .entry)))) ⌝ }
     ensures { λ r. ⌜ (r ≡ Assigned.Accepted → Decodable (now (lengths .entry)) (take (length (now (lengths .entry))) (now (codewords .exit)))) ⌝ }
 {
     clear_u32(codewords);
@@ -56,7 +57,8 @@ fn refuse(buffers: &mut [u32], answer: Assigned) -> Assigned
 // The verdict, and the codewords where it accepts, in a cleared list that has a place for each entry.
 fn hand_out(lengths: &[u8], codewords: &mut [u32]) -> Assigned
     requires { ⌜ (length (now lengths) ≤ length (now codewords)) × (now codewords ≡ replicate (length (now codewords)) 0) ⌝ }
-    ensures { λ r. ⌜ (r ≡ verdict (now (lengths .entry))) × (r ≡ Assigned.Accepted → now (codewords .exit) ≡ pad (length (now (codewords .entry))) (ledgerCodewords (now (lengths .entry)))) ⌝ }
+    ensures { λ r. ⌜ (r ≡ verdict (now (lengths .entry)))
+        × (r ≡ Assigned.Accepted → now (codewords .exit) ≡ pad (length (now (codewords .entry))) (ledgerCodewords (now (lengths .entry)))) ⌝ }
 {
     let mut blocks = empty_space();
     let mut entry = 0;
@@ -111,7 +113,8 @@ fn wide(x: u32) -> u64
 // What an entry's place holds: 0 for an unused entry, which takes nothing; else the codeword taken, or VACANT.
 fn entry_codeword(blocks: &mut [u64; 33], length: u8) -> u64
     requires { ⌜ lib.ListN.length (now blocks) ≡ 33 ⌝ }
-    ensures { λ r. ⌜ (r ≡ cond (eqb length 0) 0 (number (enterAnswer (now (blocks .entry)) length))) × (now (blocks .exit) ≡ enterBlocks (now (blocks .entry)) length) ⌝ }
+    ensures { λ r. ⌜ (r ≡ cond (eqb length 0) 0 (number (enterAnswer (now (blocks .entry)) length)))
+        × (now (blocks .exit) ≡ enterBlocks (now (blocks .entry)) length) ⌝ }
 {
     if length == 0 {
         return 0;

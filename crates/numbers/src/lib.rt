@@ -38,7 +38,8 @@ pub fn read_number(
     at: usize,
 ) -> Step
     requires { ⌜ width ≤ 16 ⌝ }
-    ensures { λ r. ⌜ Wrote (into1 (putRow cell) (field width (now (packet .entry)) (position from)) (table (now (numbers .entry)) at)) r (table (now (numbers .exit)) (at + 1)) ⌝ }
+    ensures { λ r. ⌜ Wrote (into1 (putRow cell) (field width (now (packet .entry)) (position from)) (table (now (numbers .entry)) at)) r
+        (table (now (numbers .exit)) (at + 1)) ⌝ }
 {
     match from.field(packet, width) {
         Field::Refused(z) => Step::Refused(z),
@@ -59,7 +60,8 @@ pub fn read_numbers(
     at: usize,
 ) -> Step
     requires { ⌜ (width ≤ 16) × (count ≤ 63) × (at ≤ 2) ⌝ }
-    ensures { λ r. ⌜ Wrote (into (putRow cell) (many (field width) count (now (packet .entry)) (position from)) (table (now (numbers .entry)) at)) r (table (now (numbers .exit)) (at + count)) ⌝ }
+    ensures { λ r. ⌜ Wrote (into (putRow cell) (many (field width) count (now (packet .entry)) (position from))
+        (table (now (numbers .entry)) at)) r (table (now (numbers .exit)) (at + count)) ⌝ }
 {
     let mut next = from;
     let mut i: usize = 0;

@@ -63,10 +63,30 @@ returns-4 : tie.Need-returns-4
 returns-4 c = and-sound _ _ _ (search packet-laws)
 
 returns-5 : tie.Need-returns-5
-returns-5 c = and-sound _ _ _ (framing-refused _ _ (c .before .before .before .before .before .before .before .before .before .before .before .before .before .before .before .before .before .before .before .common-header .ensures) (c .before .before .before .before .before .before .before .before .before .before .before .before .before .before .before .before .before .at-stream .given .1) (c .before .before .before .before .before .before .before .before .before .before .before .before .before .before .before .read-stream .ensures) (c .before .before .before .before .before .before .before .before .before .before .before .before .before .stream .given .1) (c .before .before .before .before .before .before .before .before .before .before .before .read-bitrates .ensures) (c .before .before .before .before .before .before .before .before .before .bitrates .given .1) (c .before .before .before .before .before .before .before .read-block-sizes .ensures) (c .before .before .before .before .before .sizes .given .1) (c .before .before .before .framing .ensures) (c .before .z5 .given .1))
+returns-5 c =
+    let at-framing = c .before .before .before in
+    let at-sizes = at-framing .before .before in
+    let at-read-block-sizes = at-sizes .before .before in
+    let at-bitrates = at-read-block-sizes .before .before in
+    let at-read-bitrates = at-bitrates .before .before in
+    let at-stream = at-read-bitrates .before .before in
+    let at-read-stream = at-stream .before .before in
+    let at-at-stream = at-read-stream .before .before in
+    let at-common-header = at-at-stream .before .before in
+    and-sound _ _ _ (framing-refused _ _ (at-common-header .common-header .ensures) (at-at-stream .at-stream .given .1)
+    (at-read-stream .read-stream .ensures) (at-stream .stream .given .1) (at-read-bitrates .read-bitrates .ensures) (at-bitrates .bitrates .given .1)
+    (at-read-block-sizes .read-block-sizes .ensures) (at-sizes .sizes .given .1) (at-framing .framing .ensures) (c .before .z5 .given .1))
 
 returns-6 : tie.Need-returns-6
-returns-6 c = and-sound _ _ _ (accepted _ _ (c .before .before .before .before .before .before .before .before .before .before .before .before .before .before .before .before .before .before .before .common-header .ensures) (c .before .before .before .before .before .before .before .before .before .before .before .before .before .before .before .before .before .at-stream .given .1) (c .before .before .before .before .before .before .before .before .before .before .before .before .before .before .before .read-stream .ensures) (c .before .before .before .before .before .before .before .before .before .before .before .before .before .stream .given .1) (c .before .before .before .before .before .before .before .before .before .before .before .read-bitrates .ensures) (c .before .before .before .before .before .before .before .before .before .bitrates .given .1) (c .before .before .before .before .before .before .before .read-block-sizes .ensures) (c .before .before .before .before .before .sizes .given .1) (c .before .before .before .framing .ensures) (c .before .enum-told .given .1) (search needs) (search needs) (search needs))
+returns-6 c =
+    and-sound _ _ _ (accepted _ _
+    (c .before .before .before .before .before .before .before .before .before .before .before .before .before .before .before .before .before .before .before .common-header .ensures)
+    (c .before .before .before .before .before .before .before .before .before .before .before .before .before .before .before .before .before .at-stream .given .1)
+    (c .before .before .before .before .before .before .before .before .before .before .before .before .before .before .before .read-stream .ensures)
+    (c .before .before .before .before .before .before .before .before .before .before .before .before .before .stream .given .1)
+    (c .before .before .before .before .before .before .before .before .before .before .before .read-bitrates .ensures)
+    (c .before .before .before .before .before .before .before .before .before .bitrates .given .1) (c .before .before .before .before .before .before .before .read-block-sizes .ensures)
+    (c .before .before .before .before .before .sizes .given .1) (c .before .before .before .framing .ensures) (c .before .enum-told .given .1) (search needs) (search needs) (search needs))
 
 pub read-spec : {M : Type 1} → statement M
 read-spec =

@@ -41,7 +41,16 @@ same-length : tie.Need-same-length
 same-length c = search needs
 
 returns-4 : tie.Need-returns-4
-returns-4 c = (type-some _ _ _ _ _ _ _ _ (c .before .before .before .before .before .before .before .before .before .before .field .ensures) (c .before .before .before .before .before .before .before .before .lookup .given .1) (c .before .before .before .before .before .before .if1 .left) (c .before .before .before .before .before .if2 .left) (c .before .before .before .before .value-count .ensures) (c .before .before .read-values .ensures .0), c .before .before .read-values .ensures .1)
+returns-4 c =
+    let at-value-count = c .before .before .before .before in
+    let at-if2 = at-value-count .before in
+    let at-if1 = at-if2 .before in
+    let at-lookup = at-if1 .before .before in
+    let at-field = at-lookup .before .before in (
+      type-some _ _ _ _ _ _ _ _ (at-field .field .ensures) (at-lookup .lookup .given .1) (at-if1 .if1 .left) (at-if2 .if2 .left)
+          (at-value-count .value-count .ensures) (c .before .before .read-values .ensures .0),
+      c .before .before .read-values .ensures .1,
+    )
 
 pub read-lookup-spec : {M : Type 1} → statement M
 read-lookup-spec =
