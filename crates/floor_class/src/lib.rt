@@ -1,4 +1,4 @@
-// The partition classes of a floor (004, "header decode", steps 7 to 12). `books` is how many codebooks are set up.
+// The partition classes of a floor (004, "header decode", steps 7 to 12). `book_count` is how many codebooks are set up.
 use bits::Cursor;
 use bits::Field;
 use bits::Refusal;
@@ -19,9 +19,9 @@ ghost use Rattle.floor_class.specs.inner.Pieces.{classRowOf};
 pub const CLASS_WIDTH: usize = 11;
 
 // The master book's number plus one, read only where there are subclass bits.
-pub fn read_master_book(packet: &[u8], from: Cursor, books: u32, subclasses: u32) -> Field
-    requires { ⌜ books ≤ 256 ⌝ }
-    ensures { λ r. ⌜ outcome r ≡ masterBook books subclasses (now (packet .entry)) (position from) ⌝ }
+pub fn read_master_book(packet: &[u8], from: Cursor, book_count: u32, subclasses: u32) -> Field
+    requires { ⌜ «book_count» ≤ 256 ⌝ }
+    ensures { λ r. ⌜ outcome r ≡ masterBook «book_count» subclasses (now (packet .entry)) (position from) ⌝ }
 {
     if subclasses == 0 {
         return Field::Value(0, from);
@@ -29,7 +29,7 @@ pub fn read_master_book(packet: &[u8], from: Cursor, books: u32, subclasses: u32
     match from.field(packet, 8) {
         Field::Refused(z) => Field::Refused(z),
         Field::Value(v, next) => {
-            if books <= v {
+            if book_count <= v {
                 return Field::Refused(Refusal {
                     number: 11,
                     place: from,
@@ -44,16 +44,17 @@ pub fn read_master_book(packet: &[u8], from: Cursor, books: u32, subclasses: u32
 pub fn read_subclass_book(
     packet: &[u8],
     from: Cursor,
-    books: u32,
+    book_count: u32,
     list: &mut [u16],
     at: usize,
 ) -> Step
-    ensures { λ r. ⌜ Wrote (into1 (putRow cell) (subclassBook books (now (packet .entry)) (position from)) (table (now (list .entry)) at)) r (table (now (list .exit)) (at + 1)) ⌝ }
+    ensures { λ r. ⌜ Wrote (into1 (putRow cell) (subclassBook «book_count» (now (packet .entry)) (position from)) (table (now (list .entry)) at))
+        r (table (now (list .exit)) (at + 1)) ⌝ }
 {
     match from.field(packet, 8) {
         Field::Refused(z) => Step::Refused(z),
         Field::Value(v, next) => {
-            if books < v {
+            if book_count < v {
                 return Step::Refused(Refusal {
                     number: 11,
                     place: from,
@@ -69,17 +70,18 @@ pub fn read_subclass_book(
 pub fn read_subclass_books(
     packet: &[u8],
     from: Cursor,
-    books: u32,
+    book_count: u32,
     count: usize,
     list: &mut [u16],
 ) -> Step
     requires { ⌜ count ≤ 8 ⌝ }
-    ensures { λ r. ⌜ Wrote (into (putRow cell) (many (subclassBook books) count (now (packet .entry)) (position from)) (table (now (list .entry)) 0)) r (table (now (list .exit)) count) ⌝ }
+    ensures { λ r. ⌜ Wrote (into (putRow cell) (many (subclassBook «book_count») count (now (packet .entry)) (position from)) (table (now (list .entry)) 0))
+        r (table (now (list .exit)) count) ⌝ }
 {
     let mut next = from;
     let mut i: usize = 0;
     while i < count {
-        match read_subclass_book(packet, next, books, list, i) {
+        match read_subclass_book(packet, next, book_count, list, i) {
             Step::Refused(z) => {
                 return Step::Refused(z);
             }
@@ -96,7 +98,7 @@ pub fn read_subclass_books(
 pub fn read_class_row(
     packet: &[u8],
     from: Cursor,
-    books: u32,
+    book_count: u32,
     dimensions: u32,
     subclasses: u32,
     master: u32,
@@ -104,11 +106,13 @@ pub fn read_class_row(
     at: usize,
 ) -> Step
     requires { ⌜ (dimensions ≤ 8) × (subclasses ≤ 3) × (master ≤ 256) × (at ≤ 165) ⌝ }
-    ensures { λ r. ⌜ Wrote (into1 (putRow (classRowOf dimensions subclasses master)) (many (subclassBook books) (2 ^ subclasses) (now (packet .entry)) (position from)) (table (now (classes .entry)) at)) r (table (now (classes .exit)) (at + classWidth)) ⌝ }
+    ensures { λ r. ⌜ Wrote (into1 (putRow (classRowOf dimensions subclasses master))
+        (many (subclassBook «book_count») (2 ^ subclasses) (now (packet .entry)) (position from)) (table (now (classes .entry)) at))
+        r (table (now (classes .exit)) (at + classWidth)) ⌝ }
 {
     let mut list = [0u16; 8];
     let count = wide_u16(numbers::power(subclasses));
-    match read_subclass_books(packet, from, books, count, &mut list) {
+    match read_subclass_books(packet, from, book_count, count, &mut list) {
         Step::Refused(z) => Step::Refused(z),
         Step::Next(next) => {
             let head = [
@@ -123,9 +127,16 @@ pub fn read_class_row(
 }
 
 // A class, its row from place `at` on.
-pub fn read_class(packet: &[u8], from: Cursor, books: u32, classes: &mut [u16], at: usize) -> Step
-    requires { ⌜ (books ≤ 256) × (at ≤ 165) ⌝ }
-    ensures { λ r. ⌜ Wrote (into1 (putRow classRow) (class books (now (packet .entry)) (position from)) (table (now (classes .entry)) at)) r (table (now (classes .exit)) (at + classWidth)) ⌝ }
+pub fn read_class(
+    packet: &[u8],
+    from: Cursor,
+    book_count: u32,
+    classes: &mut [u16],
+    at: usize,
+) -> Step
+    requires { ⌜ («book_count» ≤ 256) × (at ≤ 165) ⌝ }
+    ensures { λ r. ⌜ Wrote (into1 (putRow classRow) (class «book_count» (now (packet .entry)) (position from)) (table (now (classes .entry)) at))
+        r (table (now (classes .exit)) (at + classWidth)) ⌝ }
 {
     match from.field(packet, 3) {
         Field::Refused(z) => Step::Refused(z),
@@ -134,7 +145,7 @@ pub fn read_class(packet: &[u8], from: Cursor, books: u32, classes: &mut [u16], 
             Field::Value(subclasses, at_master) => match read_master_book(
                 packet,
                 at_master,
-                books,
+                book_count,
                 subclasses,
             ) {
                 Field::Refused(z) => Step::Refused(z),
@@ -142,7 +153,7 @@ pub fn read_class(packet: &[u8], from: Cursor, books: u32, classes: &mut [u16], 
                     read_class_row(
                         packet,
                         at_books,
-                        books,
+                        book_count,
                         dimensions + 1,
                         subclasses,
                         master,
@@ -159,17 +170,18 @@ pub fn read_class(packet: &[u8], from: Cursor, books: u32, classes: &mut [u16], 
 pub fn read_classes(
     packet: &[u8],
     from: Cursor,
-    books: u32,
+    book_count: u32,
     count: usize,
     classes: &mut [u16],
 ) -> Step
-    requires { ⌜ (books ≤ 256) × (count ≤ 16) ⌝ }
-    ensures { λ r. ⌜ Wrote (into (putRow classRow) (many (class books) count (now (packet .entry)) (position from)) (table (now (classes .entry)) 0)) r (table (now (classes .exit)) (classWidth * count)) ⌝ }
+    requires { ⌜ («book_count» ≤ 256) × (count ≤ 16) ⌝ }
+    ensures { λ r. ⌜ Wrote (into (putRow classRow) (many (class «book_count») count (now (packet .entry)) (position from)) (table (now (classes .entry)) 0))
+        r (table (now (classes .exit)) (classWidth * count)) ⌝ }
 {
     let mut next = from;
     let mut i: usize = 0;
     while i < count {
-        match read_class(packet, next, books, classes, CLASS_WIDTH * i) {
+        match read_class(packet, next, book_count, classes, CLASS_WIDTH * i) {
             Step::Refused(z) => {
                 return Step::Refused(z);
             }
