@@ -30,7 +30,8 @@ pub fn read_x_values(
     list: &mut [u16],
 ) -> Step
     requires { ⌜ rangebits ≤ 15 ⌝ }
-    ensures { λ r. ⌜ Wrote (into (putRow cell) (xValues (position place) rangebits count (now (packet .entry)) (position from)) (table (now (list .entry)) 2)) r (table (now (list .exit)) (2 + count)) ⌝ }
+    ensures { λ r. ⌜ Wrote (into (putRow cell) (xValues (position place) rangebits count (now (packet .entry)) (position from)) (table (now (list .entry)) 2))
+        r (table (now (list .exit)) (2 + count)) ⌝ }
 {
     if count <= 63 {
         return numbers::read_numbers(packet, from, rangebits, count, list, 2);
@@ -59,7 +60,8 @@ pub fn read_x_list(
     list: &mut [u16],
 ) -> Ends
     requires { ⌜ (rangebits ≤ 15) × (now list ≡ replicate xListRoom 0) ⌝ }
-    ensures { λ r. ⌜ Wrote (mapped endsInBuffer (endsFrom (position place) count multiplier rangebits (now (packet .entry)) (position from))) (r .step) (endsRead (r .multiplier) (r .rangebits) (now (list .exit))) ⌝ }
+    ensures { λ r. ⌜ Wrote (mapped endsInBuffer (endsFrom (position place) count multiplier rangebits (now (packet .entry)) (position from)))
+        (r .step) (endsRead (r .multiplier) (r .rangebits) (now (list .exit))) ⌝ }
 {
     buffers::put_u16(list, 1, numbers::power(rangebits));
     match read_x_values(packet, from, place, wide_u32(rangebits), count, list) {
@@ -88,7 +90,8 @@ pub fn read_x_list(
 // Multiplier, range bits, X list.
 pub fn read_ends(packet: &[u8], from: Cursor, place: Cursor, count: usize, list: &mut [u16]) -> Ends
     requires { ⌜ now list ≡ replicate xListRoom 0 ⌝ }
-    ensures { λ r. ⌜ Wrote (mapped endsInBuffer (ends (position place) count (now (packet .entry)) (position from))) (r .step) (endsRead (r .multiplier) (r .rangebits) (now (list .exit))) ⌝ }
+    ensures { λ r. ⌜ Wrote (mapped endsInBuffer (ends (position place) count (now (packet .entry)) (position from)))
+        (r .step) (endsRead (r .multiplier) (r .rangebits) (now (list .exit))) ⌝ }
 {
     match from.field(packet, 2) {
         Field::Refused(z) => Ends {

@@ -24,10 +24,16 @@ enum-known-next : tie.Need-enum-known-next
 enum-known-next c = search needs
 
 add-are-distinct : tie.Need-add-are-distinct
-add-are-distinct c = omega (arith, list-few _ _ 0 _ _ _ _ (c .before .before .before .before .before .before .before .before .before .before .before .before .before .before .before .before .pre .1) (c .before .before .before .before .before .before .before .before .before .before .before .before .power .ensures) _ (c .before .before .before .before .before .before .before .before .before .before .before .put-u16 .ensures) (c .before .before .before .before .before .before .before .before .wide-u32 .ensures) (c .before .before .before .before .before .before .read-x-values .ensures) (c .before .before .next .given .1))
+add-are-distinct c =
+    let read = c .before .before .before .before .before .before in
+    let first = read .before .before .before .before .before .before in
+    omega (arith, list-few _ _ 0 _ _ _ _ (first .before .before .before .before .pre .1) (first .power .ensures) _ (read .before .before .before .before .before .put-u16 .ensures) (read .before .before .wide-u32 .ensures) (read .read-x-values .ensures) (c .before .before .next .given .1))
 
 are-distinct-requires : tie.Need-are-distinct-requires
-are-distinct-requires c κs = list-room _ _ 0 _ _ _ _ (c .before .before .before .before .before .before .before .before .before .before .before .before .before .before .before .before .pre .1) (c .before .before .before .before .before .before .before .before .before .before .before .before .power .ensures) _ (c .before .before .before .before .before .before .before .before .before .before .before .put-u16 .ensures) (c .before .before .before .before .before .before .before .before .wide-u32 .ensures) (c .before .before .before .before .before .before .read-x-values .ensures) (c .before .before .next .given .1)
+are-distinct-requires c κs =
+    let read = c .before .before .before .before .before .before in
+    let first = read .before .before .before .before .before .before in
+    list-room _ _ 0 _ _ _ _ (first .before .before .before .before .pre .1) (first .power .ensures) _ (read .before .before .before .before .before .put-u16 .ensures) (read .before .before .wide-u32 .ensures) (read .read-x-values .ensures) (c .before .before .next .given .1)
 
 same-length : tie.Need-same-length
 same-length c = search needs
