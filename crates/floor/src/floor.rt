@@ -96,7 +96,8 @@ pub fn write_row(
     list: &[u16],
 )
     requires { ⌜ (at ≤ 17728) × (length (now head) ≡ 5) × (length (now partitions) ≡ partitionsRoom) × (length (now classes) ≡ classesRoom) ⌝ }
-    ensures { λ _. ⌜ now (floors .exit) ≡ sets (now (floors .entry)) at ((now (head .entry) ++ now (partitions .entry)) ++ (now (classes .entry) ++ now (list .entry))) ⌝ }
+    ensures { λ _. ⌜ now (floors .exit) ≡ sets (now (floors .entry)) at
+        ((now (head .entry) ++ now (partitions .entry)) ++ (now (classes .entry) ++ now (list .entry))) ⌝ }
 {
     numbers::write_pair(floors, at, head, partitions);
     numbers::write_pair(floors, at + CLASSES_PLACE, classes, list);
@@ -115,7 +116,9 @@ pub fn read_after_classes(
     at: usize,
 ) -> Step
     requires { ⌜ (count ≤ 31) × (named ≤ 16) × (at ≤ 17728) × (length (now partitions) ≡ partitionsRoom) × (length (now classes) ≡ classesRoom) ⌝ }
-    ensures { λ r. ⌜ Wrote (into1 (putRow (rowOf count named (now (partitions .entry)) (now (classes .entry)))) (ends (position place) (valuesTo (now (classes .entry)) (now (partitions .entry)) count) (now (packet .entry)) (position from)) (table (now (floors .entry)) at)) r (table (now (floors .exit)) (at + floorWidth)) ⌝ }
+    ensures { λ r. ⌜ Wrote (into1 (putRow (rowOf count named (now (partitions .entry)) (now (classes .entry))))
+        (ends (position place) (valuesTo (now (classes .entry)) (now (partitions .entry)) count) (now (packet .entry)) (position from))
+        (table (now (floors .entry)) at)) r (table (now (floors .exit)) (at + floorWidth)) ⌝ }
 {
     let values = value_count(partitions, count, classes);
     let mut list = [0u16; X_LIST_ROOM];
@@ -142,18 +145,20 @@ pub fn read_after_partitions(
     packet: &[u8],
     from: Cursor,
     place: Cursor,
-    books: u32,
+    book_count: u32,
     partitions: &[u16],
     count: usize,
     floors: &mut [u16],
     at: usize,
 ) -> Step
-    requires { ⌜ (books ≤ 256) × (at ≤ 17728) × Partitions count (now partitions) ⌝ }
-    ensures { λ r. ⌜ Wrote (into1 (putRow floorRow) (floorFrom books (position place) (take count (now (partitions .entry))) (now (packet .entry)) (position from)) (table (now (floors .entry)) at)) r (table (now (floors .exit)) (at + floorWidth)) ⌝ }
+    requires { ⌜ («book_count» ≤ 256) × (at ≤ 17728) × Partitions count (now partitions) ⌝ }
+    ensures { λ r. ⌜ Wrote (into1 (putRow floorRow)
+        (floorFrom «book_count» (position place) (take count (now (partitions .entry))) (now (packet .entry)) (position from))
+        (table (now (floors .entry)) at)) r (table (now (floors .exit)) (at + floorWidth)) ⌝ }
 {
     let named = class_count(partitions, count);
     let mut classes = [0u16; CLASSES_ROOM];
-    match floor_class::read_classes(packet, from, books, named, &mut classes) {
+    match floor_class::read_classes(packet, from, book_count, named, &mut classes) {
         Step::Refused(z) => Step::Refused(z),
         Step::Next(next) => read_after_classes(
             packet,
@@ -174,12 +179,13 @@ pub fn read_floor1(
     packet: &[u8],
     from: Cursor,
     place: Cursor,
-    books: u32,
+    book_count: u32,
     floors: &mut [u16],
     at: usize,
 ) -> Step
-    requires { ⌜ (books ≤ 256) × (at ≤ 17728) ⌝ }
-    ensures { λ r. ⌜ Wrote (into1 (putRow floorRow) (floor1 books (position place) (now (packet .entry)) (position from)) (table (now (floors .entry)) at)) r (table (now (floors .exit)) (at + floorWidth)) ⌝ }
+    requires { ⌜ («book_count» ≤ 256) × (at ≤ 17728) ⌝ }
+    ensures { λ r. ⌜ Wrote (into1 (putRow floorRow) (floor1 «book_count» (position place) (now (packet .entry)) (position from))
+        (table (now (floors .entry)) at)) r (table (now (floors .exit)) (at + floorWidth)) ⌝ }
 {
     match from.field(packet, 5) {
         Field::Refused(z) => Step::Refused(z),
@@ -192,7 +198,7 @@ pub fn read_floor1(
                     packet,
                     after,
                     place,
-                    books,
+                    book_count,
                     &partitions,
                     count,
                     floors,
@@ -203,14 +209,21 @@ pub fn read_floor1(
     }
 }
 
-// A floor, its row from place `at` on. `books` is how many codebooks are set up.
-pub fn read_floor(packet: &[u8], from: Cursor, books: u32, floors: &mut [u16], at: usize) -> Step
-    requires { ⌜ (books ≤ 256) × (at ≤ 17728) ⌝ }
-    ensures { λ r. ⌜ Wrote (into1 (putRow floorRow) (floor books (now (packet .entry)) (position from)) (table (now (floors .entry)) at)) r (table (now (floors .exit)) (at + floorWidth)) ⌝ }
+// A floor, its row from place `at` on. `book_count` is how many codebooks are set up.
+pub fn read_floor(
+    packet: &[u8],
+    from: Cursor,
+    book_count: u32,
+    floors: &mut [u16],
+    at: usize,
+) -> Step
+    requires { ⌜ («book_count» ≤ 256) × (at ≤ 17728) ⌝ }
+    ensures { λ r. ⌜ Wrote (into1 (putRow floorRow) (floor «book_count» (now (packet .entry)) (position from)) (table (now (floors .entry)) at))
+        r (table (now (floors .exit)) (at + floorWidth)) ⌝ }
 {
     match read_type(packet, from) {
         Field::Refused(z) => Step::Refused(z),
-        Field::Value(_, next) => read_floor1(packet, next, from, books, floors, at),
+        Field::Value(_, next) => read_floor1(packet, next, from, book_count, floors, at),
     }
 }
 
@@ -219,16 +232,17 @@ pub fn read_floors(
     packet: &[u8],
     from: Cursor,
     count: usize,
-    books: u32,
+    book_count: u32,
     floors: &mut [u16],
 ) -> Step
-    requires { ⌜ (count ≤ 64) × (books ≤ 256) ⌝ }
-    ensures { λ r. ⌜ Wrote (into (putRow floorRow) (many (floor books) count (now (packet .entry)) (position from)) (table (now (floors .entry)) 0)) r (table (now (floors .exit)) (floorWidth * count)) ⌝ }
+    requires { ⌜ (count ≤ 64) × («book_count» ≤ 256) ⌝ }
+    ensures { λ r. ⌜ Wrote (into (putRow floorRow) (many (floor «book_count») count (now (packet .entry)) (position from)) (table (now (floors .entry)) 0))
+        r (table (now (floors .exit)) (floorWidth * count)) ⌝ }
 {
     let mut next = from;
     let mut i: usize = 0;
     while i < count {
-        match read_floor(packet, next, books, floors, FLOOR_WIDTH * i) {
+        match read_floor(packet, next, book_count, floors, FLOOR_WIDTH * i) {
             Step::Refused(z) => {
                 return Step::Refused(z);
             }

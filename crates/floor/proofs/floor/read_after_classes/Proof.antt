@@ -34,7 +34,9 @@ narrow-requires-2 : tie.Need-narrow-requires-2
 narrow-requires-2 c κs = search after-laws
 
 add-short : tie.Need-add-short
-add-short c = omega (arith, after-few _ (c .before .before .before .before .before .before .before .before .before .before .before .before .before .before .before .args .count) 0 _ _ _ _ [] 0 (c .before .before .before .before .before .before .before .before .before .before .value-count .ensures) (c .before .before .before .before .before .before .before .before .read-ends .ensures) (c .before .before .before .before .before .step2 .given .1))
+add-short c =
+    let read = c .before .before .before .before .before .before .before .before in
+    omega (arith, after-few _ (read .before .before .before .before .before .before .before .args .count) 0 _ _ _ _ [] 0 (read .before .before .value-count .ensures) (read .read-ends .ensures) (c .before .before .before .before .before .step2 .given .1))
 
 short-requires-3 : tie.Need-short-requires-3
 short-requires-3 c κs = search after-laws
