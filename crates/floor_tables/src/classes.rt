@@ -12,10 +12,10 @@ ghost use Rattle.floor_class.specs.inner.Valid.{MasterFits};
 ghost use Rattle.floor_tables.specs.inner.ClassRules.{BookRules, ClassRules, ClassesRules};
 
 // Whether there is a master book exactly where there are subclass bits, and it is set up.
-fn is_master(books: usize, subclasses: usize, master: usize) -> bool
-    ensures { λ r. ⌜ (r ≡ true) ↔ MasterFits books subclasses master ⌝ }
+fn is_master(book_count: usize, subclasses: usize, master: usize) -> bool
+    ensures { λ r. ⌜ (r ≡ true) ↔ MasterFits «book_count» subclasses master ⌝ }
 {
-    if books < master {
+    if book_count < master {
         return false;
     }
     if subclasses == 0 {
@@ -31,11 +31,11 @@ fn is_master(books: usize, subclasses: usize, master: usize) -> bool
 }
 
 // Whether the subclass books of a class lie from place `at` on, `count` of them, and zeros behind.
-fn are_books(floors: &[u16], at: usize, books: usize, count: usize) -> bool
-    requires { ⌜ (at ≤ 65535) × (books ≤ 256) × (count ≤ 8) ⌝ }
-    ensures { λ r. ⌜ (r ≡ true) ↔ BookRules books (now (floors .entry)) at count ⌝ }
+fn are_books(floors: &[u16], at: usize, book_count: usize, count: usize) -> bool
+    requires { ⌜ (at ≤ 65535) × («book_count» ≤ 256) × (count ≤ 8) ⌝ }
+    ensures { λ r. ⌜ (r ≡ true) ↔ BookRules «book_count» (now (floors .entry)) at count ⌝ }
 {
-    if !are_below(floors, at, at + count, books + 1) {
+    if !are_below(floors, at, at + count, book_count + 1) {
         return false;
     }
     if !are_below(floors, at, at + count, 256) {
@@ -45,9 +45,9 @@ fn are_books(floors: &[u16], at: usize, books: usize, count: usize) -> bool
 }
 
 // Whether the row of a class begins at place `at`.
-fn is_class(floors: &[u16], at: usize, books: usize) -> bool
-    requires { ⌜ (at ≤ 65524) × (books ≤ 256) ⌝ }
-    ensures { λ r. ⌜ (r ≡ true) ↔ ClassRules books (now (floors .entry)) at ⌝ }
+fn is_class(floors: &[u16], at: usize, book_count: usize) -> bool
+    requires { ⌜ (at ≤ 65524) × («book_count» ≤ 256) ⌝ }
+    ensures { λ r. ⌜ (r ≡ true) ↔ ClassRules «book_count» (now (floors .entry)) at ⌝ }
 {
     let dimensions = number(floors, at);
     if dimensions < 1 {
@@ -60,25 +60,25 @@ fn is_class(floors: &[u16], at: usize, books: usize) -> bool
     if 3 < subclasses {
         return false;
     }
-    if !is_master(books, wide_u16(subclasses), number(floors, at + 2)) {
+    if !is_master(book_count, wide_u16(subclasses), number(floors, at + 2)) {
         return false;
     }
     are_books(
         floors,
         at + 3,
-        books,
+        book_count,
         wide_u16(numbers::power(subclasses as u32)),
     )
 }
 
 // Whether the rows of `count` classes lie from place `at` on.
-pub fn are_classes(floors: &[u16], at: usize, count: usize, books: usize) -> bool
-    requires { ⌜ (at ≤ 20000) × (count ≤ 16) × (books ≤ 256) ⌝ }
-    ensures { λ r. ⌜ (r ≡ true) ↔ ClassesRules books (now (floors .entry)) at count ⌝ }
+pub fn are_classes(floors: &[u16], at: usize, count: usize, book_count: usize) -> bool
+    requires { ⌜ (at ≤ 20000) × (count ≤ 16) × («book_count» ≤ 256) ⌝ }
+    ensures { λ r. ⌜ (r ≡ true) ↔ ClassesRules «book_count» (now (floors .entry)) at count ⌝ }
 {
     let mut c: usize = 0;
     while c < count {
-        if !is_class(floors, at + CLASS_WIDTH * c, books) {
+        if !is_class(floors, at + CLASS_WIDTH * c, book_count) {
             return false;
         }
         c = c + 1;

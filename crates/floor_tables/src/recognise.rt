@@ -42,9 +42,9 @@ fn are_partitions(floors: &[u16], at: usize) -> bool
 }
 
 // Whether its classes stand.
-fn are_named(floors: &[u16], at: usize, books: usize) -> bool
-    requires { ⌜ (at ≤ 17451) × (books ≤ 256) × (at + floorWidth ≤ length (now floors)) ⌝ }
-    ensures { λ r. ⌜ (r ≡ true) ↔ NamedRules books (now (floors .entry)) at ⌝ }
+fn are_named(floors: &[u16], at: usize, book_count: usize) -> bool
+    requires { ⌜ (at ≤ 17451) × («book_count» ≤ 256) × (at + floorWidth ≤ length (now floors)) ⌝ }
+    ensures { λ r. ⌜ (r ≡ true) ↔ NamedRules «book_count» (now (floors .entry)) at ⌝ }
 {
     let count = number(floors, at + 1);
     if 16 < count {
@@ -58,7 +58,7 @@ fn are_named(floors: &[u16], at: usize, books: usize) -> bool
     {
         return false;
     }
-    if !are_classes(floors, at + CLASSES_PLACE, count, books) {
+    if !are_classes(floors, at + CLASSES_PLACE, count, book_count) {
         return false;
     }
     are_below(
@@ -130,14 +130,14 @@ fn is_list(floors: &[u16], at: usize) -> bool
 }
 
 // Whether the row of a floor begins at place `at`.
-fn is_floor(floors: &[u16], at: usize, books: usize) -> bool
-    requires { ⌜ (at ≤ 17451) × (books ≤ 256) × (at + floorWidth ≤ length (now floors)) ⌝ }
-    ensures { λ r. ⌜ (r ≡ true) ↔ FloorRules books (now (floors .entry)) at ⌝ }
+fn is_floor(floors: &[u16], at: usize, book_count: usize) -> bool
+    requires { ⌜ (at ≤ 17451) × («book_count» ≤ 256) × (at + floorWidth ≤ length (now floors)) ⌝ }
+    ensures { λ r. ⌜ (r ≡ true) ↔ FloorRules «book_count» (now (floors .entry)) at ⌝ }
 {
     if !are_partitions(floors, at) {
         return false;
     }
-    if !are_named(floors, at, books) {
+    if !are_named(floors, at, book_count) {
         return false;
     }
     if !is_head(floors, at) {
@@ -147,13 +147,13 @@ fn is_floor(floors: &[u16], at: usize, books: usize) -> bool
 }
 
 // Whether the rows of `count` floors lie from the front on.
-fn are_rows(floors: &[u16], count: usize, books: usize) -> bool
-    requires { ⌜ (count ≤ 64) × (books ≤ 256) × (17728 ≤ length (now floors)) ⌝ }
-    ensures { λ r. ⌜ (r ≡ true) ↔ FloorsRules books (now (floors .entry)) count ⌝ }
+fn are_rows(floors: &[u16], count: usize, book_count: usize) -> bool
+    requires { ⌜ (count ≤ 64) × («book_count» ≤ 256) × (17728 ≤ length (now floors)) ⌝ }
+    ensures { λ r. ⌜ (r ≡ true) ↔ FloorsRules «book_count» (now (floors .entry)) count ⌝ }
 {
     let mut f: usize = 0;
     while f < count {
-        if !is_floor(floors, FLOOR_WIDTH * f, books) {
+        if !is_floor(floors, FLOOR_WIDTH * f, book_count) {
             return false;
         }
         f = f + 1;
@@ -161,15 +161,15 @@ fn are_rows(floors: &[u16], count: usize, books: usize) -> bool
     true
 }
 
-// Whether the table is the writing-out of `count` floors that are right for `books` codebooks, with zeros behind them.
-pub fn are_floors(floors: &[u16], count: usize, books: u32) -> bool
-    requires { ⌜ (count ≤ 64) × (books ≤ 256) ⌝ }
-    ensures { λ r. ⌜ (r ≡ true) ↔ FloorsRecognised books count (now (floors .entry)) ⌝ }
+// Whether the table is the writing-out of `count` floors that are right for `book_count` codebooks, with zeros behind them.
+pub fn are_floors(floors: &[u16], count: usize, book_count: u32) -> bool
+    requires { ⌜ (count ≤ 64) × («book_count» ≤ 256) ⌝ }
+    ensures { λ r. ⌜ (r ≡ true) ↔ FloorsRecognised «book_count» count (now (floors .entry)) ⌝ }
 {
     if floors.len() < 17728 {
         return false;
     }
-    if !are_rows(floors, count, wide_u32(books)) {
+    if !are_rows(floors, count, wide_u32(book_count)) {
         return false;
     }
     reading::zeros::zeros_u16(floors, FLOOR_WIDTH * count)

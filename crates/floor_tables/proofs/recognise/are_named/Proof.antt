@@ -48,7 +48,10 @@ are-classes-requires : tie.Need-are-classes-requires
 are-classes-requires c κs = search needs
 
 returns-3 : tie.Need-returns-3
-returns-3 c = named-not _ (c .before .before .before .before .before .before .before .before .before .args .floors .now) (c .before .before .before .before .before .before .before .before .before .args .at) (c .before .before .before .before .before .before .before .number .ensures .0) (omega arith) (c .before .before .before .before .number2 .ensures .0) (c .before .before .before .class-count .ensures) (c .before .before .if2 .left) (c .before .are-classes .ensures) (c .if3 .taken)
+returns-3 c =
+    let counted = c .before .before .before in
+    let start = counted .before .before .before .before .before .before in
+    named-not _ (start .args .floors .now) (start .args .at) (counted .before .before .before .before .number .ensures .0) (omega arith) (counted .before .number2 .ensures .0) (counted .class-count .ensures) (c .before .before .if2 .left) (c .before .are-classes .ensures) (c .if3 .taken)
 
 add-are-below : tie.Need-add-are-below
 add-are-below c = search needs
@@ -66,7 +69,10 @@ are-below-requires : tie.Need-are-below-requires
 are-below-requires c κs = search needs
 
 returns-4 : tie.Need-returns-4
-returns-4 c = named-end _ (c .before .before .before .before .before .before .before .before .before .before .args .floors .now) (c .before .before .before .before .before .before .before .before .before .before .args .at) (c .before .before .before .before .before .before .before .before .number .ensures .0) (omega arith) (c .before .before .before .before .before .number2 .ensures .0) (c .before .before .before .before .class-count .ensures) (c .before .before .before .if2 .left) (c .before .before .are-classes .ensures) (c .before .if3 .left) (c .are-below .ensures)
+returns-4 c =
+    let counted = c .before .before .before .before in
+    let start = counted .before .before .before .before .before .before in
+    named-end _ (start .args .floors .now) (start .args .at) (counted .before .before .before .before .number .ensures .0) (omega arith) (counted .before .number2 .ensures .0) (counted .class-count .ensures) (c .before .before .before .if2 .left) (c .before .before .are-classes .ensures) (c .before .if3 .left) (c .are-below .ensures)
 
 pub are-named-spec : {M : Type 1} → statement M
 are-named-spec =
