@@ -18,7 +18,13 @@ ghost use Rattle.mode.specs.Layout.{modeWidth, modeRow};
 pub const MODE_WIDTH: usize = 2;
 
 // One mode, its row written at `at`. `mapping_count` is how many mappings are set up.
-pub fn read_mode(packet: &[u8], from: Cursor, mapping_count: u32, modes: &mut [u8], at: usize) -> Step
+pub fn read_mode(
+    packet: &[u8],
+    from: Cursor,
+    mapping_count: u32,
+    modes: &mut [u8],
+    at: usize,
+) -> Step
     requires { ⌜ at ≤ 128 ⌝ }
     ensures { λ r. ⌜ Wrote (into1 (putRow modeRow) (mode «mapping_count» (now (packet .entry)) (position from)) (table (now (modes .entry)) at))
         r (table (now (modes .exit)) (at + modeWidth)) ⌝ }

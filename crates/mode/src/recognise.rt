@@ -28,7 +28,11 @@ pub fn are_modes(modes: &[u8], count: usize, mapping_count: u32) -> bool
     }
     let mut i: usize = 0;
     while i < count {
-        if !is_mode(modes[MODE_WIDTH * i], modes[MODE_WIDTH * i + 1], mapping_count) {
+        if !is_mode(
+            modes[MODE_WIDTH * i],
+            modes[MODE_WIDTH * i + 1],
+            mapping_count,
+        ) {
             return false;
         }
         i = i + 1;

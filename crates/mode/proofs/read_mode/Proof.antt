@@ -91,9 +91,9 @@ returns-8 c =
     let at-blockflag = at-field .before .before in
     let at-bit = at-blockflag .before .before in
     mode-whole _ _ _ _ _ (at-bit .bit .ensures) (at-blockflag .blockflag .given .1) (at-field .field .ensures)
-        (at-window .window .given .1) (at-if1 .if1 .left) (at-field2 .field2 .ensures) (at-transform .transform .given .1)
-        (at-if2 .if2 .left) (at-field3 .field3 .ensures) (at-mapping .mapping .given .1) (at-if3 .if3 .left)
-        (at-write-u8 .write-u8 .ensures)
+    (at-window .window .given .1) (at-if1 .if1 .left) (at-field2 .field2 .ensures) (at-transform .transform .given .1)
+    (at-if2 .if2 .left) (at-field3 .field3 .ensures) (at-mapping .mapping .given .1) (at-if3 .if3 .left)
+    (at-write-u8 .write-u8 .ensures)
 
 pub read-mode-spec : {M : Type 1} → statement M
 read-mode-spec =

@@ -42,9 +42,9 @@ returns c =
     let at-wide-u32 = at-loop .before in
     let at-start = at-wide-u32 .before .before .before .before .before in
     planning-refused _ _ _ _ _ (at-start .pre .2) (at-start .pre .1) (at-loop .loop .inv)
-        (omega (arith, at-wide-u32 .wide-u32 .ensures)) (at-read-row .read-row .ensures) (at-start .args .books .now)
-        (position (at-start .args .place)) (headOf (at-start .args .head))
-        (tablesAt (at-start .args .residues .now) (at-start .args .plans .now) (at-start .args .index)) (search needs) _
+    (omega (arith, at-wide-u32 .wide-u32 .ensures)) (at-read-row .read-row .ensures) (at-start .args .books .now)
+    (position (at-start .args .place)) (headOf (at-start .args .head))
+    (tablesAt (at-start .args .residues .now) (at-start .args .plans .now) (at-start .args .index)) (search needs) _
 
 enum-known-step-2 : tie.Need-enum-known-step-2 Inv-loop μ-loop
 enum-known-step-2 c = search needs
@@ -68,7 +68,7 @@ loop-again c =
     let at-wide-u32 = at-loop .before in
     let at-start = at-wide-u32 .before .before .before .before .before in
     planning-next _ _ _ _ _ (at-start .pre .2) (at-start .pre .1) (at-loop .loop .inv) (omega (arith, at-wide-u32 .wide-u32 .ensures))
-        (at-read-row .read-row .ensures) (search needs)
+    (at-read-row .read-row .ensures) (search needs)
 
 head-fits-requires : tie.Need-head-fits-requires Inv-loop μ-loop
 head-fits-requires c κs = search needs
@@ -79,8 +79,8 @@ returns-2 c =
     let at-wide-u32 = at-loop .before in
     let at-start = at-wide-u32 .before .before .before .before .before in
     head-unfit _ _ _ _ _ (at-start .pre .2) (at-start .pre .1) (at-loop .loop .inv) (omega (arith, at-wide-u32 .wide-u32 .ensures))
-        (at-start .args .books .now) (at-start .args .place) (headOf (at-start .args .head)) (c .before .head-fits .ensures) (c .if1 .taken)
-        (tablesAt (at-start .args .residues .now) (at-start .args .plans .now) (at-start .args .index)) _
+    (at-start .args .books .now) (at-start .args .place) (headOf (at-start .args .head)) (c .before .head-fits .ensures) (c .if1 .taken)
+    (tablesAt (at-start .args .residues .now) (at-start .args .plans .now) (at-start .args .index)) _
 
 plan-fits-requires : tie.Need-plan-fits-requires Inv-loop μ-loop
 plan-fits-requires c κs = search needs
@@ -93,9 +93,9 @@ returns-3 c =
     let at-wide-u32 = at-loop .before in
     let at-start = at-wide-u32 .before .before .before .before .before in
     plan-unfit _ _ _ _ _ (at-start .pre .2) (at-start .pre .1) (at-loop .loop .inv) (omega (arith, at-wide-u32 .wide-u32 .ensures))
-        (at-start .args .books .now) (at-start .args .place) (headOf (at-start .args .head)) (at-head-fits .head-fits .ensures)
-        (at-if1 .if1 .left) (at-wide-u32 .wide-u32 .ensures) (c .before .plan-fits .ensures) (c .if2 .taken)
-        (tablesAt (at-start .args .residues .now) (at-start .args .plans .now) (at-start .args .index)) _
+    (at-start .args .books .now) (at-start .args .place) (headOf (at-start .args .head)) (at-head-fits .head-fits .ensures)
+    (at-if1 .if1 .left) (at-wide-u32 .wide-u32 .ensures) (c .before .plan-fits .ensures) (c .if2 .taken)
+    (tablesAt (at-start .args .residues .now) (at-start .args .plans .now) (at-start .args .index)) _
 
 mul-write-head : tie.Need-mul-write-head Inv-loop μ-loop
 mul-write-head c = search needs
@@ -127,10 +127,10 @@ returns-4 c =
     let at-wide-u32 = at-loop .before in
     let at-start = at-wide-u32 .before .before .before .before .before in
     residue-written _ _ _ _ _ (at-start .pre .2) (at-start .pre .1) (at-loop .loop .inv) (omega (arith, at-wide-u32 .wide-u32 .ensures))
-        (at-start .args .books .now) (at-start .args .place) (headOf (at-start .args .head)) (at-head-fits .head-fits .ensures)
-        (at-if1 .if1 .left) (at-wide-u32 .wide-u32 .ensures) (at-plan-fits .plan-fits .ensures) (at-if2 .if2 .left)
-        (at-start .args .residues .now) (at-start .args .plans .now) (at-start .args .index) (at-write-head .write-head .ensures)
-        (at-write-plan .write-plan .ensures)
+    (at-start .args .books .now) (at-start .args .place) (headOf (at-start .args .head)) (at-head-fits .head-fits .ensures)
+    (at-if1 .if1 .left) (at-wide-u32 .wide-u32 .ensures) (at-plan-fits .plan-fits .ensures) (at-if2 .if2 .left)
+    (at-start .args .residues .now) (at-start .args .plans .now) (at-start .args .index) (at-write-head .write-head .ensures)
+    (at-write-plan .write-plan .ensures)
 
 pub read-plan-spec : {M : Type 1} → statement M
 read-plan-spec =

@@ -16,16 +16,18 @@ abbrev μ-loop : tie.MeasureT-loop
 returns : tie.Need-returns Inv-loop μ-loop
 returns c =
     let at-start = c .before .before .before .before in
-    let books = booksOf (at-start .args .book-count) (at-start .args .books .now) in
-    (short books (at-start .args .n) (at-start .args .residues .now) (at-start .args .plans .now) (search needs),
-     one-content books (at-start .args .n) (at-start .args .residues .now) (at-start .args .plans .now) (at-start .pre))
+    let books = booksOf (at-start .args .book-count) (at-start .args .books .now) in (
+      short books (at-start .args .n) (at-start .args .residues .now) (at-start .args .plans .now) (search needs),
+      one-content books (at-start .args .n) (at-start .args .residues .now) (at-start .args .plans .now) (at-start .pre),
+    )
 
 returns-2 : tie.Need-returns-2 Inv-loop μ-loop
 returns-2 c =
     let at-start = c .before .before .before .before .before in
-    let books = booksOf (at-start .args .book-count) (at-start .args .books .now) in
-    (short-plans books (at-start .args .n) (at-start .args .residues .now) (at-start .args .plans .now) (search needs),
-     one-content books (at-start .args .n) (at-start .args .residues .now) (at-start .args .plans .now) (at-start .pre))
+    let books = booksOf (at-start .args .book-count) (at-start .args .books .now) in (
+      short-plans books (at-start .args .n) (at-start .args .residues .now) (at-start .args .plans .now) (search needs),
+      one-content books (at-start .args .n) (at-start .args .residues .now) (at-start .args .plans .now) (at-start .pre),
+    )
 
 loop-holds : tie.Need-loop-holds Inv-loop μ-loop
 loop-holds c = recognising-start _ _ _ _
@@ -37,10 +39,11 @@ returns-3 : tie.Need-returns-3 Inv-loop μ-loop
 returns-3 c =
     let at-loop = c .before .before .before in
     let at-start = at-loop .before .before .before .before .before .before in
-    let books = booksOf (at-start .args .book-count) (at-start .args .books .now) in
-    (recognised-iff books (at-start .args .n) (at-start .args .residues .now) (at-start .args .plans .now) (at-start .pre) (search needs)
-        (search needs) (recognising-failed _ _ _ _ (at-loop .loop .inv) (search needs) (c .before .is-residue .ensures) (c .if3 .taken)),
-     one-content books (at-start .args .n) (at-start .args .residues .now) (at-start .args .plans .now) (at-start .pre))
+    let books = booksOf (at-start .args .book-count) (at-start .args .books .now) in (
+      recognised-iff books (at-start .args .n) (at-start .args .residues .now) (at-start .args .plans .now) (at-start .pre) (search needs)
+          (search needs) (recognising-failed _ _ _ _ (at-loop .loop .inv) (search needs) (c .before .is-residue .ensures) (c .if3 .taken)),
+      one-content books (at-start .args .n) (at-start .args .residues .now) (at-start .args .plans .now) (at-start .pre),
+    )
 
 add-i : tie.Need-add-i Inv-loop μ-loop
 add-i c = search needs
@@ -65,11 +68,12 @@ returns-4 c =
     let at-wide-u32 = c .before .before in
     let at-loop = at-wide-u32 .before .before in
     let at-start = at-loop .before .before .before .before .before .before in
-    let books = booksOf (at-start .args .book-count) (at-start .args .books .now) in
-    (recognised-iff books (at-start .args .n) (at-start .args .residues .now) (at-start .args .plans .now) (at-start .pre) (search needs)
-        (search needs)
-        (tail-failed _ _ _ _ (at-loop .loop .inv) (search needs) (at-wide-u32 .wide-u32 .ensures) (c .before .zeros-u32 .ensures) (c .if4 .taken)),
-     one-content books (at-start .args .n) (at-start .args .residues .now) (at-start .args .plans .now) (at-start .pre))
+    let books = booksOf (at-start .args .book-count) (at-start .args .books .now) in (
+      recognised-iff books (at-start .args .n) (at-start .args .residues .now) (at-start .args .plans .now) (at-start .pre) (search needs)
+          (search needs)
+          (tail-failed _ _ _ _ (at-loop .loop .inv) (search needs) (at-wide-u32 .wide-u32 .ensures) (c .before .zeros-u32 .ensures) (c .if4 .taken)),
+      one-content books (at-start .args .n) (at-start .args .residues .now) (at-start .args .plans .now) (at-start .pre),
+    )
 
 wide-u32-requires-2 : tie.Need-wide-u32-requires-2 Inv-loop μ-loop
 wide-u32-requires-2 c κs = search needs
@@ -87,11 +91,12 @@ returns-5 c =
     let at-wide-u32 = at-zeros-u32 .before in
     let at-loop = at-wide-u32 .before .before in
     let at-start = at-loop .before .before .before .before .before .before in
-    let books = booksOf (at-start .args .book-count) (at-start .args .books .now) in
-    (recognised-iff books (at-start .args .n) (at-start .args .residues .now) (at-start .args .plans .now) (at-start .pre) (search needs)
-        (search needs)
-        (tail-judged _ _ _ _ (at-loop .loop .inv) (search needs) (at-wide-u32 .wide-u32 .ensures) (at-zeros-u32 .zeros-u32 .ensures) (at-if4 .if4 .left) (c .before .wide-u322 .ensures) (c .zeros-u16 .ensures)),
-     one-content books (at-start .args .n) (at-start .args .residues .now) (at-start .args .plans .now) (at-start .pre))
+    let books = booksOf (at-start .args .book-count) (at-start .args .books .now) in (
+      recognised-iff books (at-start .args .n) (at-start .args .residues .now) (at-start .args .plans .now) (at-start .pre) (search needs)
+          (search needs)
+          (tail-judged _ _ _ _ (at-loop .loop .inv) (search needs) (at-wide-u32 .wide-u32 .ensures) (at-zeros-u32 .zeros-u32 .ensures) (at-if4 .if4 .left) (c .before .wide-u322 .ensures) (c .zeros-u16 .ensures)),
+      one-content books (at-start .args .n) (at-start .args .residues .now) (at-start .args .plans .now) (at-start .pre),
+    )
 
 pub are-residues-spec : {M : Type 1} → statement M
 are-residues-spec =

@@ -16,7 +16,7 @@ returns c =
     let at-head = c .before .before in
     let at-start = at-head .before .before .before .before in
     head-fails (at-start .args .book-count) (at-start .args .books .now) (at-start .args .residues .now) (at-start .args .plans .now)
-        (at-start .args .index) (at-head .head .result) (at-head .head .ensures) refl refl (c .before .is-head .ensures) (c .if1 .taken)
+    (at-start .args .index) (at-head .head .result) (at-head .head .ensures) refl refl (c .before .is-head .ensures) (c .if1 .taken)
 
 wide-u32-requires : tie.Need-wide-u32-requires
 wide-u32-requires c κs = search needs
@@ -45,9 +45,9 @@ returns-2 c =
     let at-head = at-is-head .before in
     let at-start = at-head .before .before .before .before in
     set-up-fails (at-start .args .book-count) (at-start .args .books .now) (at-start .args .residues .now) (at-start .args .plans .now)
-        (at-start .args .index) (at-head .head .result) (at-head .head .ensures) (at-wide-u32 .wide-u32 .ensures)
-        (at-wide-u322 .wide-u322 .ensures) (at-is-head .is-head .ensures) (at-if1 .if1 .left) (c .before .places-set-up .ensures)
-        (c .if2 .taken)
+    (at-start .args .index) (at-head .head .result) (at-head .head .ensures) (at-wide-u32 .wide-u32 .ensures)
+    (at-wide-u322 .wide-u322 .ensures) (at-is-head .is-head .ensures) (at-if1 .if1 .left) (c .before .places-set-up .ensures)
+    (c .if2 .taken)
 
 places-fit-requires : tie.Need-places-fit-requires
 places-fit-requires c κs = search needs
@@ -63,9 +63,9 @@ returns-3 c =
     let at-head = at-is-head .before in
     let at-start = at-head .before .before .before .before in
     fits-fails (at-start .args .book-count) (at-start .args .books .now) (at-start .args .residues .now) (at-start .args .plans .now)
-        (at-start .args .index) (at-head .head .result) (at-head .head .ensures) (at-wide-u32 .wide-u32 .ensures)
-        (at-wide-u322 .wide-u322 .ensures) (at-is-head .is-head .ensures) (at-if1 .if1 .left) (at-places-set-up .places-set-up .ensures)
-        (at-if2 .if2 .left) (c .before .places-fit .ensures) (c .if3 .taken)
+    (at-start .args .index) (at-head .head .result) (at-head .head .ensures) (at-wide-u32 .wide-u32 .ensures)
+    (at-wide-u322 .wide-u322 .ensures) (at-is-head .is-head .ensures) (at-if1 .if1 .left) (at-places-set-up .places-set-up .ensures)
+    (at-if2 .if2 .left) (c .before .places-fit .ensures) (c .if3 .taken)
 
 add-zeros-u16 : tie.Need-add-zeros-u16
 add-zeros-u16 c = search needs
@@ -98,9 +98,9 @@ returns-4 c =
     let at-head = at-is-head .before in
     let at-start = at-head .before .before .before .before in
     residue-whole (at-start .args .book-count) (at-start .args .books .now) (at-start .args .residues .now) (at-start .args .plans .now)
-        (at-start .args .index) (at-head .head .result) (at-head .head .ensures) (at-wide-u32 .wide-u32 .ensures)
-        (at-wide-u322 .wide-u322 .ensures) (at-is-head .is-head .ensures) (at-if1 .if1 .left) (at-places-set-up .places-set-up .ensures)
-        (at-if2 .if2 .left) (at-places-fit .places-fit .ensures) (at-if3 .if3 .left) _ (c .zeros-u16 .ensures)
+    (at-start .args .index) (at-head .head .result) (at-head .head .ensures) (at-wide-u32 .wide-u32 .ensures)
+    (at-wide-u322 .wide-u322 .ensures) (at-is-head .is-head .ensures) (at-if1 .if1 .left) (at-places-set-up .places-set-up .ensures)
+    (at-if2 .if2 .left) (at-places-fit .places-fit .ensures) (at-if3 .if3 .left) _ (c .zeros-u16 .ensures)
 
 pub is-residue-spec : {M : Type 1} → statement M
 is-residue-spec =
