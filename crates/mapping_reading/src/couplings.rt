@@ -68,7 +68,8 @@ pub fn read_couplings(
     row: &mut [u8],
 ) -> Step
     requires { ⌜ (1 ≤ channels) × (channels ≤ 255) × (count ≤ 256) ⌝ }
-    ensures { λ r. ⌜ Wrote (mapped (λ l. sets (now (row .entry)) couplingsPlace (rows couplingRow l)) (many (coupling channels) count (now (packet .entry)) (position from)))
+    ensures { λ r. ⌜ Wrote (mapped (λ l. sets (now (row .entry)) couplingsPlace (rows couplingRow l))
+        (many (coupling channels) count (now (packet .entry)) (position from)))
         r (now (row .exit)) ⌝ }
 {
     let mut k = from;

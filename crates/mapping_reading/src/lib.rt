@@ -28,7 +28,8 @@ fn read_parts(
     row: &mut [u8],
 ) -> Step
     requires { ⌜ (1 ≤ known .channels) × (known .channels ≤ 255) × (submaps ≤ 16) × (steps ≤ 256) ⌝ }
-    ensures { λ r. ⌜ Wrote (mapped (partsInto (now (row .entry))) (parts known submaps steps (now (packet .entry)) (position from))) r (now (row .exit)) ⌝ }
+    ensures { λ r. ⌜ Wrote (mapped (partsInto (now (row .entry))) (parts known submaps steps (now (packet .entry)) (position from)))
+        r (now (row .exit)) ⌝ }
 {
     match crate::couplings::read_couplings(packet, from, steps, known.channels, row) {
         Step::Refused(z) => Step::Refused(z),

@@ -39,7 +39,8 @@ pub fn read_multiplex(packet: &[u8], from: Cursor, submaps: u32, row: &mut [u8],
 // Every channel's submap, into its part of the row.
 fn read_channels(packet: &[u8], from: Cursor, channels: u32, submaps: u32, row: &mut [u8]) -> Step
     requires { ⌜ channels ≤ 255 ⌝ }
-    ensures { λ r. ⌜ Wrote (mapped (λ l. sets (now (row .entry)) multiplexPlace (rows multiplexRow l)) (many (multiplex submaps) channels (now (packet .entry)) (position from)))
+    ensures { λ r. ⌜ Wrote (mapped (λ l. sets (now (row .entry)) multiplexPlace (rows multiplexRow l))
+        (many (multiplex submaps) channels (now (packet .entry)) (position from)))
         r (now (row .exit)) ⌝ }
 {
     let mut k = from;
@@ -69,7 +70,8 @@ pub fn read_multiplexes(
     row: &mut [u8],
 ) -> Step
     requires { ⌜ channels ≤ 255 ⌝ }
-    ensures { λ r. ⌜ Wrote (mapped (λ l. sets (now (row .entry)) multiplexPlace (rows multiplexRow l)) (multiplexes channels submaps (now (packet .entry)) (position from)))
+    ensures { λ r. ⌜ Wrote (mapped (λ l. sets (now (row .entry)) multiplexPlace (rows multiplexRow l))
+        (multiplexes channels submaps (now (packet .entry)) (position from)))
         r (now (row .exit)) ⌝ }
 {
     if submaps <= 1 {
@@ -117,7 +119,8 @@ pub fn read_submap(packet: &[u8], from: Cursor, known: Known, row: &mut [u8], at
 // `count` submaps, into their part of the row.
 pub fn read_submaps(packet: &[u8], from: Cursor, count: u32, known: Known, row: &mut [u8]) -> Step
     requires { ⌜ count ≤ 16 ⌝ }
-    ensures { λ r. ⌜ Wrote (mapped (λ l. sets (now (row .entry)) submapsPlace (rows submapRow l)) (many (submap known) count (now (packet .entry)) (position from)))
+    ensures { λ r. ⌜ Wrote (mapped (λ l. sets (now (row .entry)) submapsPlace (rows submapRow l))
+        (many (submap known) count (now (packet .entry)) (position from)))
         r (now (row .exit)) ⌝ }
 {
     let mut k = from;

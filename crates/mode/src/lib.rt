@@ -17,10 +17,16 @@ ghost use Rattle.mode.specs.Layout.{modeWidth, modeRow};
 // The width of a mode's row in the table (specs/Layout.antt).
 pub const MODE_WIDTH: usize = 2;
 
-// One mode, its row written at `at`. `mappings` is how many mappings are set up.
-pub fn read_mode(packet: &[u8], from: Cursor, mappings: u32, modes: &mut [u8], at: usize) -> Step
+// One mode, its row written at `at`. `mapping_count` is how many mappings are set up.
+pub fn read_mode(
+    packet: &[u8],
+    from: Cursor,
+    mapping_count: u32,
+    modes: &mut [u8],
+    at: usize,
+) -> Step
     requires { ⌜ at ≤ 128 ⌝ }
-    ensures { λ r. ⌜ Wrote (into1 (putRow modeRow) (mode mappings (now (packet .entry)) (position from)) (table (now (modes .entry)) at))
+    ensures { λ r. ⌜ Wrote (into1 (putRow modeRow) (mode «mapping_count» (now (packet .entry)) (position from)) (table (now (modes .entry)) at))
         r (table (now (modes .exit)) (at + modeWidth)) ⌝ }
 {
     match from.bit(packet) {
@@ -46,7 +52,7 @@ pub fn read_mode(packet: &[u8], from: Cursor, mappings: u32, modes: &mut [u8], a
                         match at_mapping.field(packet, 8) {
                             Field::Refused(z) => Step::Refused(z),
                             Field::Value(mapping, next) => {
-                                if mapping >= mappings {
+                                if mapping >= mapping_count {
                                     return Step::Refused(Refusal {
                                         number: 11,
                                         place: at_mapping,
@@ -69,17 +75,17 @@ pub fn read_modes(
     packet: &[u8],
     from: Cursor,
     count: usize,
-    mappings: u32,
+    mapping_count: u32,
     modes: &mut [u8],
 ) -> Step
     requires { ⌜ count ≤ 64 ⌝ }
-    ensures { λ r. ⌜ Wrote (into (putRow modeRow) (many (mode mappings) count (now (packet .entry)) (position from)) (table (now (modes .entry)) 0))
+    ensures { λ r. ⌜ Wrote (into (putRow modeRow) (many (mode «mapping_count») count (now (packet .entry)) (position from)) (table (now (modes .entry)) 0))
         r (table (now (modes .exit)) (modeWidth * count)) ⌝ }
 {
     let mut k = from;
     let mut i: usize = 0;
     while i < count {
-        match read_mode(packet, k, mappings, modes, MODE_WIDTH * i) {
+        match read_mode(packet, k, mapping_count, modes, MODE_WIDTH * i) {
             Step::Refused(z) => {
                 return Step::Refused(z);
             }

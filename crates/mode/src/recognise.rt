@@ -9,26 +9,30 @@ ghost use Rattle.mode.specs.inner.Decode.{modeOf};
 ghost use Rattle.mode.specs.inner.Valid.{ValidMode};
 
 // Whether the two numbers are those of a mode that meets every rule.
-fn is_mode(blockflag: u8, mapping: u8, mappings: u32) -> bool
-    ensures { λ r. ⌜ (r ≡ true) ↔ ValidMode mappings (modeOf blockflag mapping) ⌝ }
+fn is_mode(blockflag: u8, mapping: u8, mapping_count: u32) -> bool
+    ensures { λ r. ⌜ (r ≡ true) ↔ ValidMode «mapping_count» (modeOf blockflag mapping) ⌝ }
 {
     if blockflag > 1 {
         return false;
     }
-    (mapping as u32) < mappings
+    (mapping as u32) < mapping_count
 }
 
-// Whether the table is the writing-out of `count` modes where `mappings` mappings are set up, zeros behind them.
-pub fn are_modes(modes: &[u8], count: usize, mappings: u32) -> bool
+// Whether the table is the writing-out of `count` modes where `mapping_count` mappings are set up, zeros behind them.
+pub fn are_modes(modes: &[u8], count: usize, mapping_count: u32) -> bool
     requires { ⌜ count ≤ 64 ⌝ }
-    ensures { λ r. ⌜ (r ≡ true) ↔ ModesRecognised mappings count (now (modes .entry)) ⌝ }
+    ensures { λ r. ⌜ (r ≡ true) ↔ ModesRecognised «mapping_count» count (now (modes .entry)) ⌝ }
 {
     if modes.len() < MODE_WIDTH * count {
         return false;
     }
     let mut i: usize = 0;
     while i < count {
-        if !is_mode(modes[MODE_WIDTH * i], modes[MODE_WIDTH * i + 1], mappings) {
+        if !is_mode(
+            modes[MODE_WIDTH * i],
+            modes[MODE_WIDTH * i + 1],
+            mapping_count,
+        ) {
             return false;
         }
         i = i + 1;

@@ -22,8 +22,8 @@ pub enum HeadRead {
 }
 
 // Type, begin, end; then the rest.
-pub fn read_head(packet: &[u8], from: Cursor, count: u32) -> HeadRead
-    ensures { λ r. ⌜ headRead r ≡ head count (now (packet .entry)) (position from) ⌝ }
+pub fn read_head(packet: &[u8], from: Cursor, book_count: u32) -> HeadRead
+    ensures { λ r. ⌜ headRead r ≡ head «book_count» (now (packet .entry)) (position from) ⌝ }
 {
     match from.field(packet, 16) {
         Field::Refused(z) => HeadRead::Refused(z),
@@ -41,7 +41,7 @@ pub fn read_head(packet: &[u8], from: Cursor, count: u32) -> HeadRead
                     Field::Value(end, at_size) => read_head_from(
                         packet,
                         at_size,
-                        count,
+                        book_count,
                         kind,
                         begin,
                         end,
@@ -56,12 +56,12 @@ pub fn read_head(packet: &[u8], from: Cursor, count: u32) -> HeadRead
 fn read_head_from(
     packet: &[u8],
     from: Cursor,
-    count: u32,
+    book_count: u32,
     kind: u32,
     begin: u32,
     end: u32,
 ) -> HeadRead
-    ensures { λ r. ⌜ headRead r ≡ headFrom count kind begin end (now (packet .entry)) (position from) ⌝ }
+    ensures { λ r. ⌜ headRead r ≡ headFrom «book_count» kind begin end (now (packet .entry)) (position from) ⌝ }
 {
     match from.field(packet, 24) {
         Field::Refused(z) => HeadRead::Refused(z),
@@ -70,7 +70,7 @@ fn read_head_from(
             Field::Value(classes, at_book) => match at_book.field(packet, 8) {
                 Field::Refused(z) => HeadRead::Refused(z),
                 Field::Value(classbook, next) => {
-                    if count <= classbook {
+                    if book_count <= classbook {
                         return HeadRead::Refused(Refusal {
                             number: 11,
                             place: at_book,

@@ -1,4 +1,5 @@
-// Residues in a setup packet: what one is, its rules, its rows in the tables, the fields before its plan, rule 13 (001, "header decode"; 01, refusals 10, 11 and 13).
+// Residues in a setup packet: what one is, its rules, its rows in the tables, the fields before its plan, rule 13
+// (001, "header decode"; 01, refusals 10, 11 and 13).
 pub mod head; // the fields before the plan
 pub mod fits; // rule 13
 

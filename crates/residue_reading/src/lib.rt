@@ -41,7 +41,7 @@ fn write_head(residues: &mut [u32], at: usize, head: Head)
 fn read_plan(
     packet: &[u8],
     from: Cursor,
-    count: u32,
+    book_count: u32,
     head: Head,
     cascades: [u32; 64],
     place: Cursor,
@@ -51,7 +51,11 @@ fn read_plan(
     index: usize,
 ) -> Step
     requires { ⌜ (index ≤ 63) × (head .classifications ≤ 64) × (length cascades ≡ 64) ⌝ }
-    ensures { λ r. ⌜ Wrote (into1 putResidue (residueFrom (booksOf count (now (books .entry))) (position place) (headOf head) (take (head .classifications) cascades) (now (packet .entry)) (position from)) (tablesAt (now (residues .entry)) (now (plans .entry)) index)) r (tablesAt (now (residues .exit)) (now (plans .exit)) (index + 1)) ⌝ }
+    ensures { λ r. ⌜ Wrote (into1 putResidue
+        (residueFrom (booksOf «book_count» (now (books .entry))) (position place) (headOf head) (take (head .classifications) cascades)
+        (now (packet .entry)) (position from))
+        (tablesAt (now (residues .entry)) (now (plans .entry)) index))
+        r (tablesAt (now (residues .exit)) (now (plans .exit)) (index + 1)) ⌝ }
 {
     let classes = wide_u32(head.classifications);
     let empty = [0u16; 8];
@@ -59,7 +63,7 @@ fn read_plan(
     let mut at = from;
     let mut i: usize = 0;
     while i < classes {
-        let row = crate::plan::read_row(packet, at, count, cascades[i]);
+        let row = crate::plan::read_row(packet, at, book_count, cascades[i]);
         let step = row.step;
         match step {
             Step::Refused(z) => {
@@ -88,16 +92,18 @@ fn read_plan(
 pub fn read_residue(
     packet: &[u8],
     from: Cursor,
-    count: u32,
+    book_count: u32,
     books: &[u32],
     residues: &mut [u32],
     plans: &mut [u16],
     index: usize,
 ) -> Step
     requires { ⌜ index ≤ 63 ⌝ }
-    ensures { λ r. ⌜ Wrote (into1 putResidue (residue (booksOf count (now (books .entry))) (now (packet .entry)) (position from)) (tablesAt (now (residues .entry)) (now (plans .entry)) index)) r (tablesAt (now (residues .exit)) (now (plans .exit)) (index + 1)) ⌝ }
+    ensures { λ r. ⌜ Wrote (into1 putResidue (residue (booksOf «book_count» (now (books .entry))) (now (packet .entry)) (position from))
+        (tablesAt (now (residues .entry)) (now (plans .entry)) index))
+        r (tablesAt (now (residues .exit)) (now (plans .exit)) (index + 1)) ⌝ }
 {
-    match residue::head::read_head(packet, from, count) {
+    match residue::head::read_head(packet, from, book_count) {
         HeadRead::Refused(z) => Step::Refused(z),
         HeadRead::Value(head, at_cascades) => {
             let cascades = crate::cascade::read_cascades(
@@ -112,7 +118,7 @@ pub fn read_residue(
                 Step::Next(at_plan) => read_plan(
                     packet,
                     at_plan,
-                    count,
+                    book_count,
                     head,
                     numbers,
                     from,
@@ -130,20 +136,22 @@ pub fn read_residue(
 pub fn read_residues(
     packet: &[u8],
     from: Cursor,
-    count: u32,
+    book_count: u32,
     books: &[u32],
     residues: &mut [u32],
     plans: &mut [u16],
     n: usize,
 ) -> Step
     requires { ⌜ n ≤ 64 ⌝ }
-    ensures { λ r. ⌜ Wrote (into putResidue (many (residue (booksOf count (now (books .entry)))) n (now (packet .entry)) (position from)) (tablesAt (now (residues .entry)) (now (plans .entry)) 0)) r (tablesAt (now (residues .exit)) (now (plans .exit)) n) ⌝ }
-    ensures { λ _. ⌜ AcceptedValid (booksOf count (now (books .entry))) n (now (packet .entry)) (position from) ⌝ }
+    ensures { λ r. ⌜ Wrote (into putResidue (many (residue (booksOf «book_count» (now (books .entry)))) n (now (packet .entry)) (position from))
+        (tablesAt (now (residues .entry)) (now (plans .entry)) 0))
+        r (tablesAt (now (residues .exit)) (now (plans .exit)) n) ⌝ }
+    ensures { λ _. ⌜ AcceptedValid (booksOf «book_count» (now (books .entry))) n (now (packet .entry)) (position from) ⌝ }
 {
     let mut at = from;
     let mut i: usize = 0;
     while i < n {
-        match read_residue(packet, at, count, books, residues, plans, i) {
+        match read_residue(packet, at, book_count, books, residues, plans, i) {
             Step::Refused(z) => {
                 return Step::Refused(z);
             }

@@ -18,8 +18,8 @@ pub struct Row {
 }
 
 // A place of the plan: a book's number plus one where the pass's bit is set, else 0.
-pub fn read_place(packet: &[u8], from: Cursor, count: u32, bit: u32) -> Field
-    ensures { λ r. ⌜ outcome r ≡ planBook count bit (now (packet .entry)) (position from) ⌝ }
+pub fn read_place(packet: &[u8], from: Cursor, book_count: u32, bit: u32) -> Field
+    ensures { λ r. ⌜ outcome r ≡ planBook «book_count» bit (now (packet .entry)) (position from) ⌝ }
 {
     if bit == 0 {
         return Field::Value(0, from);
@@ -27,7 +27,7 @@ pub fn read_place(packet: &[u8], from: Cursor, count: u32, bit: u32) -> Field
     match from.field(packet, 8) {
         Field::Refused(z) => Field::Refused(z),
         Field::Value(book, next) => {
-            if count <= book {
+            if book_count <= book {
                 return Field::Refused(Refusal {
                     number: 11,
                     place: from,
@@ -38,14 +38,14 @@ pub fn read_place(packet: &[u8], from: Cursor, count: u32, bit: u32) -> Field
     }
 }
 
-pub fn read_row(packet: &[u8], from: Cursor, count: u32, cascade: u32) -> Row
-    ensures { λ r. ⌜ Wrote (planRow count cascade (now (packet .entry)) (position from)) (r .step) (r .books) ⌝ }
+pub fn read_row(packet: &[u8], from: Cursor, book_count: u32, cascade: u32) -> Row
+    ensures { λ r. ⌜ Wrote (planRow «book_count» cascade (now (packet .entry)) (position from)) (r .step) (r .books) ⌝ }
 {
     let mut books = [0u16; 8];
     let mut at = from;
     let mut j: usize = 0;
     while j < 8 {
-        match read_place(packet, at, count, (cascade >> j) % 2) {
+        match read_place(packet, at, book_count, (cascade >> j) % 2) {
             Field::Refused(z) => {
                 return Row {
                     books,

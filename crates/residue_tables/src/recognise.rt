@@ -17,8 +17,8 @@ ghost use Rattle.residue_tables.specs.inner.Recognised.{headTest, residu
 ghost use Rattle.residue.specs.Layout.{headWidth, planWidth};
 
 // The places from `from` up to `to` name books that are set up.
-fn places_set_up(places: &[u16], from: usize, to: usize, count: u32) -> bool
-    ensures { λ r. ⌜ r ≡ all (λ b. leb b count) (take (to - from) (drop from (now (places .entry)))) ⌝ }
+fn places_set_up(places: &[u16], from: usize, to: usize, book_count: u32) -> bool
+    ensures { λ r. ⌜ r ≡ all (λ b. leb b «book_count») (take (to - from) (drop from (now (places .entry)))) ⌝ }
 {
     let mut i = from;
     while i < to {
@@ -26,7 +26,7 @@ fn places_set_up(places: &[u16], from: usize, to: usize, count: u32) -> bool
             return true;
         }
         let place = u32_from_u16(places[i]);
-        let known = place <= count;
+        let known = place <= book_count;
         if !known {
             return false;
         }
@@ -36,8 +36,8 @@ fn places_set_up(places: &[u16], from: usize, to: usize, count: u32) -> bool
 }
 
 // The fields before the plan are within their widths and meet refusals 10, 11 and 13.
-fn is_head(head: Head, count: u32, books: &[u32]) -> bool
-    ensures { λ r. ⌜ r ≡ headTest (booksOf count (now (books .entry))) (headOf head) ⌝ }
+fn is_head(head: Head, book_count: u32, books: &[u32]) -> bool
+    ensures { λ r. ⌜ r ≡ headTest (booksOf «book_count» (now (books .entry))) (headOf head) ⌝ }
 {
     if 2 < head.kind {
         return false;
@@ -60,25 +60,26 @@ fn is_head(head: Head, count: u32, books: &[u32]) -> bool
     if 64 < head.classifications {
         return false;
     }
-    if count <= head.classbook {
+    if book_count <= head.classbook {
         return false;
     }
     residue::fits::head_fits(head, books)
 }
 
 // Residue `index` of the tables meets every rule.
-fn is_residue(residues: &[u32], plans: &[u16], index: u32, count: u32, books: &[u32]) -> bool
+fn is_residue(residues: &[u32], plans: &[u16], index: u32, book_count: u32, books: &[u32]) -> bool
     requires { ⌜ (index ≤ 63) × (32768 ≤ length (now plans)) ⌝ }
-    ensures { λ r. ⌜ r ≡ residueTest (booksOf count (now (books .entry))) (drop (headWidth * index) (now (residues .entry))) (drop (planWidth * index) (now (plans .entry))) ⌝ }
+    ensures { λ r. ⌜ r ≡ residueTest (booksOf «book_count» (now (books .entry))) (drop (headWidth * index) (now (residues .entry)))
+        (drop (planWidth * index) (now (plans .entry))) ⌝ }
 {
     let head = residue_row::head(residues, index);
-    if !is_head(head, count, books) {
+    if !is_head(head, book_count, books) {
         return false;
     }
     let first = PLAN_WIDTH * wide_u32(index);
     let used = 8 * wide_u32(head.classifications);
     let last = first + used;
-    if !places_set_up(plans, first, last, count) {
+    if !places_set_up(plans, first, last, book_count) {
         return false;
     }
     if !residue::fits::places_fit(plans, first, last, head.size, books) {
@@ -88,10 +89,10 @@ fn is_residue(residues: &[u32], plans: &[u16], index: u32, count: u32, books: &[
 }
 
 // Whether the tables are those of `n` residues.
-pub fn are_residues(residues: &[u32], plans: &[u16], n: u32, count: u32, books: &[u32]) -> bool
+pub fn are_residues(residues: &[u32], plans: &[u16], n: u32, book_count: u32, books: &[u32]) -> bool
     requires { ⌜ n ≤ 64 ⌝ }
-    ensures { λ r. ⌜ (r ≡ true) ↔ ResiduesRecognised (booksOf count (now (books .entry))) n (now (residues .entry)) (now (plans .entry)) ⌝ }
-    ensures { λ _. ⌜ OneContent (booksOf count (now (books .entry))) n (now (residues .entry)) (now (plans .entry)) ⌝ }
+    ensures { λ r. ⌜ (r ≡ true) ↔ ResiduesRecognised (booksOf «book_count» (now (books .entry))) n (now (residues .entry)) (now (plans .entry)) ⌝ }
+    ensures { λ _. ⌜ OneContent (booksOf «book_count» (now (books .entry))) n (now (residues .entry)) (now (plans .entry)) ⌝ }
 {
     if residues.len() < 384 {
         return false;
@@ -101,7 +102,7 @@ pub fn are_residues(residues: &[u32], plans: &[u16], n: u32, count: u32, books: 
     }
     let mut i: u32 = 0;
     while i < n {
-        if !is_residue(residues, plans, i, count, books) {
+        if !is_residue(residues, plans, i, book_count, books) {
             return false;
         }
         i = i + 1;

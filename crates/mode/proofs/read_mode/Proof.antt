@@ -78,8 +78,22 @@ same-length c = search needs
 
 returns-8 : tie.Need-returns-8
 returns-8 c =
-    mode-whole _ _ _ _ _ (c .before .before .before .before .before .before .before .before .before .before .before .before .before .before .before .before .before .before .before .before .before .before .before .bit .ensures) (c .before .before .before .before .before .before .before .before .before .before .before .before .before .before .before .before .before .before .before .before .before .blockflag .given .1) (c .before .before .before .before .before .before .before .before .before .before .before .before .before .before .before .before .before .before .before .field .ensures) (c .before .before .before .before .before .before .before .before .before .before .before .before .before .before .before .before .before .window .given .1) (c .before .before .before .before .before .before .before .before .before .before .before .before .before .before .before .if1 .left) (c .before .before .before .before .before .before .before .before .before .before .before .before .before .before .field2 .ensures) (c .before .before .before .before .before .before .before .before .before .before .before .before .transform .given .1) (c .before .before .before .before .before .before .before .before .before .before .if2 .left)
-    (c .before .before .before .before .before .before .before .before .before .field3 .ensures) (c .before .before .before .before .before .before .before .mapping .given .1) (c .before .before .before .before .before .if3 .left) (c .before .before .write-u8 .ensures)
+    let at-write-u8 = c .before .before in
+    let at-if3 = at-write-u8 .before .before .before in
+    let at-mapping = at-if3 .before .before in
+    let at-field3 = at-mapping .before .before in
+    let at-if2 = at-field3 .before in
+    let at-transform = at-if2 .before .before in
+    let at-field2 = at-transform .before .before in
+    let at-if1 = at-field2 .before in
+    let at-window = at-if1 .before .before in
+    let at-field = at-window .before .before in
+    let at-blockflag = at-field .before .before in
+    let at-bit = at-blockflag .before .before in
+    mode-whole _ _ _ _ _ (at-bit .bit .ensures) (at-blockflag .blockflag .given .1) (at-field .field .ensures)
+    (at-window .window .given .1) (at-if1 .if1 .left) (at-field2 .field2 .ensures) (at-transform .transform .given .1)
+    (at-if2 .if2 .left) (at-field3 .field3 .ensures) (at-mapping .mapping .given .1) (at-if3 .if3 .left)
+    (at-write-u8 .write-u8 .ensures)
 
 pub read-mode-spec : {M : Type 1} → statement M
 read-mode-spec =

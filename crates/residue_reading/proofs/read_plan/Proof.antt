@@ -36,7 +36,15 @@ enum-known-step : tie.Need-enum-known-step Inv-loop μ-loop
 enum-known-step c = search needs
 
 returns : tie.Need-returns Inv-loop μ-loop
-returns c = planning-refused _ _ _ _ _ (c .before .before .before .before .before .before .before .before .before .before .before .pre .2) (c .before .before .before .before .before .before .before .before .before .before .before .pre .1) (c .before .before .before .before .before .loop .inv) (omega (arith, c .before .before .before .before .before .before .wide-u32 .ensures)) (c .before .before .before .read-row .ensures) (c .before .before .before .before .before .before .before .before .before .before .before .args .books .now) (position (c .before .before .before .before .before .before .before .before .before .before .before .args .place)) (headOf (c .before .before .before .before .before .before .before .before .before .before .before .args .head)) (tablesAt (c .before .before .before .before .before .before .before .before .before .before .before .args .residues .now) (c .before .before .before .before .before .before .before .before .before .before .before .args .plans .now) (c .before .before .before .before .before .before .before .before .before .before .before .args .index)) (search needs) _
+returns c =
+    let at-read-row = c .before .before .before in
+    let at-loop = at-read-row .before .before in
+    let at-wide-u32 = at-loop .before in
+    let at-start = at-wide-u32 .before .before .before .before .before in
+    planning-refused _ _ _ _ _ (at-start .pre .2) (at-start .pre .1) (at-loop .loop .inv)
+    (omega (arith, at-wide-u32 .wide-u32 .ensures)) (at-read-row .read-row .ensures) (at-start .args .books .now)
+    (position (at-start .args .place)) (headOf (at-start .args .head))
+    (tablesAt (at-start .args .residues .now) (at-start .args .plans .now) (at-start .args .index)) (search needs) _
 
 enum-known-step-2 : tie.Need-enum-known-step-2 Inv-loop μ-loop
 enum-known-step-2 c = search needs
@@ -54,19 +62,40 @@ loop-less : tie.Need-loop-less Inv-loop μ-loop
 loop-less c = search needs
 
 loop-again : tie.Need-loop-again Inv-loop μ-loop
-loop-again c = planning-next _ _ _ _ _ (c .before .before .before .before .before .before .before .before .before .before .before .before .pre .2) (c .before .before .before .before .before .before .before .before .before .before .before .before .pre .1) (c .before .before .before .before .before .before .loop .inv) (omega (arith, c .before .before .before .before .before .before .before .wide-u32 .ensures)) (c .before .before .before .before .read-row .ensures) (search needs)
+loop-again c =
+    let at-read-row = c .before .before .before .before in
+    let at-loop = at-read-row .before .before in
+    let at-wide-u32 = at-loop .before in
+    let at-start = at-wide-u32 .before .before .before .before .before in
+    planning-next _ _ _ _ _ (at-start .pre .2) (at-start .pre .1) (at-loop .loop .inv) (omega (arith, at-wide-u32 .wide-u32 .ensures))
+    (at-read-row .read-row .ensures) (search needs)
 
 head-fits-requires : tie.Need-head-fits-requires Inv-loop μ-loop
 head-fits-requires c κs = search needs
 
 returns-2 : tie.Need-returns-2 Inv-loop μ-loop
-returns-2 c = head-unfit _ _ _ _ _ (c .before .before .before .before .before .before .before .before .before .pre .2) (c .before .before .before .before .before .before .before .before .before .pre .1) (c .before .before .before .loop .inv) (omega (arith, c .before .before .before .before .wide-u32 .ensures)) (c .before .before .before .before .before .before .before .before .before .args .books .now) (c .before .before .before .before .before .before .before .before .before .args .place) (headOf (c .before .before .before .before .before .before .before .before .before .args .head)) (c .before .head-fits .ensures) (c .if1 .taken) (tablesAt (c .before .before .before .before .before .before .before .before .before .args .residues .now) (c .before .before .before .before .before .before .before .before .before .args .plans .now) (c .before .before .before .before .before .before .before .before .before .args .index)) _
+returns-2 c =
+    let at-loop = c .before .before .before in
+    let at-wide-u32 = at-loop .before in
+    let at-start = at-wide-u32 .before .before .before .before .before in
+    head-unfit _ _ _ _ _ (at-start .pre .2) (at-start .pre .1) (at-loop .loop .inv) (omega (arith, at-wide-u32 .wide-u32 .ensures))
+    (at-start .args .books .now) (at-start .args .place) (headOf (at-start .args .head)) (c .before .head-fits .ensures) (c .if1 .taken)
+    (tablesAt (at-start .args .residues .now) (at-start .args .plans .now) (at-start .args .index)) _
 
 plan-fits-requires : tie.Need-plan-fits-requires Inv-loop μ-loop
 plan-fits-requires c κs = search needs
 
 returns-3 : tie.Need-returns-3 Inv-loop μ-loop
-returns-3 c = plan-unfit _ _ _ _ _ (c .before .before .before .before .before .before .before .before .before .before .before .pre .2) (c .before .before .before .before .before .before .before .before .before .before .before .pre .1) (c .before .before .before .before .before .loop .inv) (omega (arith, c .before .before .before .before .before .before .wide-u32 .ensures)) (c .before .before .before .before .before .before .before .before .before .before .before .args .books .now) (c .before .before .before .before .before .before .before .before .before .before .before .args .place) (headOf (c .before .before .before .before .before .before .before .before .before .before .before .args .head)) (c .before .before .before .head-fits .ensures) (c .before .before .if1 .left) (c .before .before .before .before .before .before .wide-u32 .ensures) (c .before .plan-fits .ensures) (c .if2 .taken) (tablesAt (c .before .before .before .before .before .before .before .before .before .before .before .args .residues .now) (c .before .before .before .before .before .before .before .before .before .before .before .args .plans .now) (c .before .before .before .before .before .before .before .before .before .before .before .args .index)) _
+returns-3 c =
+    let at-if1 = c .before .before in
+    let at-head-fits = at-if1 .before in
+    let at-loop = at-head-fits .before .before in
+    let at-wide-u32 = at-loop .before in
+    let at-start = at-wide-u32 .before .before .before .before .before in
+    plan-unfit _ _ _ _ _ (at-start .pre .2) (at-start .pre .1) (at-loop .loop .inv) (omega (arith, at-wide-u32 .wide-u32 .ensures))
+    (at-start .args .books .now) (at-start .args .place) (headOf (at-start .args .head)) (at-head-fits .head-fits .ensures)
+    (at-if1 .if1 .left) (at-wide-u32 .wide-u32 .ensures) (c .before .plan-fits .ensures) (c .if2 .taken)
+    (tablesAt (at-start .args .residues .now) (at-start .args .plans .now) (at-start .args .index)) _
 
 mul-write-head : tie.Need-mul-write-head Inv-loop μ-loop
 mul-write-head c = search needs
@@ -87,7 +116,21 @@ same-length-2 : tie.Need-same-length-2 Inv-loop μ-loop
 same-length-2 c = search needs
 
 returns-4 : tie.Need-returns-4 Inv-loop μ-loop
-returns-4 c = residue-written _ _ _ _ _ (c .before .before .before .before .before .before .before .before .before .before .before .before .before .before .before .before .before .before .before .pre .2) (c .before .before .before .before .before .before .before .before .before .before .before .before .before .before .before .before .before .before .before .pre .1) (c .before .before .before .before .before .before .before .before .before .before .before .before .before .loop .inv) (omega (arith, c .before .before .before .before .before .before .before .before .before .before .before .before .before .before .wide-u32 .ensures)) (c .before .before .before .before .before .before .before .before .before .before .before .before .before .before .before .before .before .before .before .args .books .now) (c .before .before .before .before .before .before .before .before .before .before .before .before .before .before .before .before .before .before .before .args .place) (headOf (c .before .before .before .before .before .before .before .before .before .before .before .before .before .before .before .before .before .before .before .args .head)) (c .before .before .before .before .before .before .before .before .before .before .before .head-fits .ensures) (c .before .before .before .before .before .before .before .before .before .before .if1 .left) (c .before .before .before .before .before .before .before .before .before .before .before .before .before .before .wide-u32 .ensures) (c .before .before .before .before .before .before .before .before .before .plan-fits .ensures) (c .before .before .before .before .before .before .before .before .if2 .left) (c .before .before .before .before .before .before .before .before .before .before .before .before .before .before .before .before .before .before .before .args .residues .now) (c .before .before .before .before .before .before .before .before .before .before .before .before .before .before .before .before .before .before .before .args .plans .now) (c .before .before .before .before .before .before .before .before .before .before .before .before .before .before .before .before .before .before .before .args .index) (c .before .before .before .before .before .before .write-head .ensures) (c .before .before .write-plan .ensures)
+returns-4 c =
+    let at-write-plan = c .before .before in
+    let at-write-head = at-write-plan .before .before .before .before in
+    let at-if2 = at-write-head .before .before in
+    let at-plan-fits = at-if2 .before in
+    let at-if1 = at-plan-fits .before in
+    let at-head-fits = at-if1 .before in
+    let at-loop = at-head-fits .before .before in
+    let at-wide-u32 = at-loop .before in
+    let at-start = at-wide-u32 .before .before .before .before .before in
+    residue-written _ _ _ _ _ (at-start .pre .2) (at-start .pre .1) (at-loop .loop .inv) (omega (arith, at-wide-u32 .wide-u32 .ensures))
+    (at-start .args .books .now) (at-start .args .place) (headOf (at-start .args .head)) (at-head-fits .head-fits .ensures)
+    (at-if1 .if1 .left) (at-wide-u32 .wide-u32 .ensures) (at-plan-fits .plan-fits .ensures) (at-if2 .if2 .left)
+    (at-start .args .residues .now) (at-start .args .plans .now) (at-start .args .index) (at-write-head .write-head .ensures)
+    (at-write-plan .write-plan .ensures)
 
 pub read-plan-spec : {M : Type 1} → statement M
 read-plan-spec =

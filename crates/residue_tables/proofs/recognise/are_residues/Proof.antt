@@ -14,10 +14,20 @@ abbrev μ-loop : tie.MeasureT-loop
 μ-loop residues plans n count books i₀ i = n - i
 
 returns : tie.Need-returns Inv-loop μ-loop
-returns c = (short (booksOf (c .before .before .before .before .args .count) (c .before .before .before .before .args .books .now)) (c .before .before .before .before .args .n) (c .before .before .before .before .args .residues .now) (c .before .before .before .before .args .plans .now) (search needs), one-content (booksOf (c .before .before .before .before .args .count) (c .before .before .before .before .args .books .now)) (c .before .before .before .before .args .n) (c .before .before .before .before .args .residues .now) (c .before .before .before .before .args .plans .now) (c .before .before .before .before .pre))
+returns c =
+    let at-start = c .before .before .before .before in
+    let books = booksOf (at-start .args .book-count) (at-start .args .books .now) in (
+      short books (at-start .args .n) (at-start .args .residues .now) (at-start .args .plans .now) (search needs),
+      one-content books (at-start .args .n) (at-start .args .residues .now) (at-start .args .plans .now) (at-start .pre),
+    )
 
 returns-2 : tie.Need-returns-2 Inv-loop μ-loop
-returns-2 c = (short-plans (booksOf (c .before .before .before .before .before .args .count) (c .before .before .before .before .before .args .books .now)) (c .before .before .before .before .before .args .n) (c .before .before .before .before .before .args .residues .now) (c .before .before .before .before .before .args .plans .now) (search needs), one-content (booksOf (c .before .before .before .before .before .args .count) (c .before .before .before .before .before .args .books .now)) (c .before .before .before .before .before .args .n) (c .before .before .before .before .before .args .residues .now) (c .before .before .before .before .before .args .plans .now) (c .before .before .before .before .before .pre))
+returns-2 c =
+    let at-start = c .before .before .before .before .before in
+    let books = booksOf (at-start .args .book-count) (at-start .args .books .now) in (
+      short-plans books (at-start .args .n) (at-start .args .residues .now) (at-start .args .plans .now) (search needs),
+      one-content books (at-start .args .n) (at-start .args .residues .now) (at-start .args .plans .now) (at-start .pre),
+    )
 
 loop-holds : tie.Need-loop-holds Inv-loop μ-loop
 loop-holds c = recognising-start _ _ _ _
@@ -26,7 +36,14 @@ is-residue-requires : tie.Need-is-residue-requires Inv-loop μ-loop
 is-residue-requires c κs = search needs
 
 returns-3 : tie.Need-returns-3 Inv-loop μ-loop
-returns-3 c = (recognised-iff (booksOf (c .before .before .before .before .before .before .before .before .before .args .count) (c .before .before .before .before .before .before .before .before .before .args .books .now)) (c .before .before .before .before .before .before .before .before .before .args .n) (c .before .before .before .before .before .before .before .before .before .args .residues .now) (c .before .before .before .before .before .before .before .before .before .args .plans .now) (c .before .before .before .before .before .before .before .before .before .pre) (search needs) (search needs) (recognising-failed _ _ _ _ (c .before .before .before .loop .inv) (search needs) (c .before .is-residue .ensures) (c .if3 .taken)), one-content (booksOf (c .before .before .before .before .before .before .before .before .before .args .count) (c .before .before .before .before .before .before .before .before .before .args .books .now)) (c .before .before .before .before .before .before .before .before .before .args .n) (c .before .before .before .before .before .before .before .before .before .args .residues .now) (c .before .before .before .before .before .before .before .before .before .args .plans .now) (c .before .before .before .before .before .before .before .before .before .pre))
+returns-3 c =
+    let at-loop = c .before .before .before in
+    let at-start = at-loop .before .before .before .before .before .before in
+    let books = booksOf (at-start .args .book-count) (at-start .args .books .now) in (
+      recognised-iff books (at-start .args .n) (at-start .args .residues .now) (at-start .args .plans .now) (at-start .pre) (search needs)
+          (search needs) (recognising-failed _ _ _ _ (at-loop .loop .inv) (search needs) (c .before .is-residue .ensures) (c .if3 .taken)),
+      one-content books (at-start .args .n) (at-start .args .residues .now) (at-start .args .plans .now) (at-start .pre),
+    )
 
 add-i : tie.Need-add-i Inv-loop μ-loop
 add-i c = search needs
@@ -47,7 +64,16 @@ zeros-u32-requires : tie.Need-zeros-u32-requires Inv-loop μ-loop
 zeros-u32-requires c κs = search needs
 
 returns-4 : tie.Need-returns-4 Inv-loop μ-loop
-returns-4 c = (recognised-iff (booksOf (c .before .before .before .before .before .before .before .before .before .before .args .count) (c .before .before .before .before .before .before .before .before .before .before .args .books .now)) (c .before .before .before .before .before .before .before .before .before .before .args .n) (c .before .before .before .before .before .before .before .before .before .before .args .residues .now) (c .before .before .before .before .before .before .before .before .before .before .args .plans .now) (c .before .before .before .before .before .before .before .before .before .before .pre) (search needs) (search needs) (tail-failed _ _ _ _ (c .before .before .before .before .loop .inv) (search needs) (c .before .before .wide-u32 .ensures) (c .before .zeros-u32 .ensures) (c .if4 .taken)), one-content (booksOf (c .before .before .before .before .before .before .before .before .before .before .args .count) (c .before .before .before .before .before .before .before .before .before .before .args .books .now)) (c .before .before .before .before .before .before .before .before .before .before .args .n) (c .before .before .before .before .before .before .before .before .before .before .args .residues .now) (c .before .before .before .before .before .before .before .before .before .before .args .plans .now) (c .before .before .before .before .before .before .before .before .before .before .pre))
+returns-4 c =
+    let at-wide-u32 = c .before .before in
+    let at-loop = at-wide-u32 .before .before in
+    let at-start = at-loop .before .before .before .before .before .before in
+    let books = booksOf (at-start .args .book-count) (at-start .args .books .now) in (
+      recognised-iff books (at-start .args .n) (at-start .args .residues .now) (at-start .args .plans .now) (at-start .pre) (search needs)
+          (search needs)
+          (tail-failed _ _ _ _ (at-loop .loop .inv) (search needs) (at-wide-u32 .wide-u32 .ensures) (c .before .zeros-u32 .ensures) (c .if4 .taken)),
+      one-content books (at-start .args .n) (at-start .args .residues .now) (at-start .args .plans .now) (at-start .pre),
+    )
 
 wide-u32-requires-2 : tie.Need-wide-u32-requires-2 Inv-loop μ-loop
 wide-u32-requires-2 c κs = search needs
@@ -59,7 +85,18 @@ zeros-u16-requires : tie.Need-zeros-u16-requires Inv-loop μ-loop
 zeros-u16-requires c κs = search needs
 
 returns-5 : tie.Need-returns-5 Inv-loop μ-loop
-returns-5 c = (recognised-iff (booksOf (c .before .before .before .before .before .before .before .before .before .before .before .before .args .count) (c .before .before .before .before .before .before .before .before .before .before .before .before .args .books .now)) (c .before .before .before .before .before .before .before .before .before .before .before .before .args .n) (c .before .before .before .before .before .before .before .before .before .before .before .before .args .residues .now) (c .before .before .before .before .before .before .before .before .before .before .before .before .args .plans .now) (c .before .before .before .before .before .before .before .before .before .before .before .before .pre) (search needs) (search needs) (tail-judged _ _ _ _ (c .before .before .before .before .before .before .loop .inv) (search needs) (c .before .before .before .before .wide-u32 .ensures) (c .before .before .before .zeros-u32 .ensures) (c .before .before .if4 .left) (c .before .wide-u322 .ensures) (c .zeros-u16 .ensures)), one-content (booksOf (c .before .before .before .before .before .before .before .before .before .before .before .before .args .count) (c .before .before .before .before .before .before .before .before .before .before .before .before .args .books .now)) (c .before .before .before .before .before .before .before .before .before .before .before .before .args .n) (c .before .before .before .before .before .before .before .before .before .before .before .before .args .residues .now) (c .before .before .before .before .before .before .before .before .before .before .before .before .args .plans .now) (c .before .before .before .before .before .before .before .before .before .before .before .before .pre))
+returns-5 c =
+    let at-if4 = c .before .before in
+    let at-zeros-u32 = at-if4 .before in
+    let at-wide-u32 = at-zeros-u32 .before in
+    let at-loop = at-wide-u32 .before .before in
+    let at-start = at-loop .before .before .before .before .before .before in
+    let books = booksOf (at-start .args .book-count) (at-start .args .books .now) in (
+      recognised-iff books (at-start .args .n) (at-start .args .residues .now) (at-start .args .plans .now) (at-start .pre) (search needs)
+          (search needs)
+          (tail-judged _ _ _ _ (at-loop .loop .inv) (search needs) (at-wide-u32 .wide-u32 .ensures) (at-zeros-u32 .zeros-u32 .ensures) (at-if4 .if4 .left) (c .before .wide-u322 .ensures) (c .zeros-u16 .ensures)),
+      one-content books (at-start .args .n) (at-start .args .residues .now) (at-start .args .plans .now) (at-start .pre),
+    )
 
 pub are-residues-spec : {M : Type 1} → statement M
 are-residues-spec =

@@ -12,7 +12,11 @@ is-head-requires : tie.Need-is-head-requires
 is-head-requires c κs = search needs
 
 returns : tie.Need-returns
-returns c = head-fails (c .before .before .before .before .before .before .args .count) (c .before .before .before .before .before .before .args .books .now) (c .before .before .before .before .before .before .args .residues .now) (c .before .before .before .before .before .before .args .plans .now) (c .before .before .before .before .before .before .args .index) (c .before .before .head .result) (c .before .before .head .ensures) refl refl (c .before .is-head .ensures) (c .if1 .taken)
+returns c =
+    let at-head = c .before .before in
+    let at-start = at-head .before .before .before .before in
+    head-fails (at-start .args .book-count) (at-start .args .books .now) (at-start .args .residues .now) (at-start .args .plans .now)
+    (at-start .args .index) (at-head .head .result) (at-head .head .ensures) refl refl (c .before .is-head .ensures) (c .if1 .taken)
 
 wide-u32-requires : tie.Need-wide-u32-requires
 wide-u32-requires c κs = search needs
@@ -33,13 +37,35 @@ places-set-up-requires : tie.Need-places-set-up-requires
 places-set-up-requires c κs = search needs
 
 returns-2 : tie.Need-returns-2
-returns-2 c = set-up-fails (c .before .before .before .before .before .before .before .before .before .before .args .count) (c .before .before .before .before .before .before .before .before .before .before .args .books .now) (c .before .before .before .before .before .before .before .before .before .before .args .residues .now) (c .before .before .before .before .before .before .before .before .before .before .args .plans .now) (c .before .before .before .before .before .before .before .before .before .before .args .index) (c .before .before .before .before .before .before .head .result) (c .before .before .before .before .before .before .head .ensures) (c .before .before .before .wide-u32 .ensures) (c .before .before .wide-u322 .ensures) (c .before .before .before .before .before .is-head .ensures) (c .before .before .before .before .if1 .left) (c .before .places-set-up .ensures) (c .if2 .taken)
+returns-2 c =
+    let at-wide-u322 = c .before .before in
+    let at-wide-u32 = at-wide-u322 .before in
+    let at-if1 = at-wide-u32 .before in
+    let at-is-head = at-if1 .before in
+    let at-head = at-is-head .before in
+    let at-start = at-head .before .before .before .before in
+    set-up-fails (at-start .args .book-count) (at-start .args .books .now) (at-start .args .residues .now) (at-start .args .plans .now)
+    (at-start .args .index) (at-head .head .result) (at-head .head .ensures) (at-wide-u32 .wide-u32 .ensures)
+    (at-wide-u322 .wide-u322 .ensures) (at-is-head .is-head .ensures) (at-if1 .if1 .left) (c .before .places-set-up .ensures)
+    (c .if2 .taken)
 
 places-fit-requires : tie.Need-places-fit-requires
 places-fit-requires c κs = search needs
 
 returns-3 : tie.Need-returns-3
-returns-3 c = fits-fails (c .before .before .before .before .before .before .before .before .before .before .before .before .args .count) (c .before .before .before .before .before .before .before .before .before .before .before .before .args .books .now) (c .before .before .before .before .before .before .before .before .before .before .before .before .args .residues .now) (c .before .before .before .before .before .before .before .before .before .before .before .before .args .plans .now) (c .before .before .before .before .before .before .before .before .before .before .before .before .args .index) (c .before .before .before .before .before .before .before .before .head .result) (c .before .before .before .before .before .before .before .before .head .ensures) (c .before .before .before .before .before .wide-u32 .ensures) (c .before .before .before .before .wide-u322 .ensures) (c .before .before .before .before .before .before .before .is-head .ensures) (c .before .before .before .before .before .before .if1 .left) (c .before .before .before .places-set-up .ensures) (c .before .before .if2 .left) (c .before .places-fit .ensures) (c .if3 .taken)
+returns-3 c =
+    let at-if2 = c .before .before in
+    let at-places-set-up = at-if2 .before in
+    let at-wide-u322 = at-places-set-up .before in
+    let at-wide-u32 = at-wide-u322 .before in
+    let at-if1 = at-wide-u32 .before in
+    let at-is-head = at-if1 .before in
+    let at-head = at-is-head .before in
+    let at-start = at-head .before .before .before .before in
+    fits-fails (at-start .args .book-count) (at-start .args .books .now) (at-start .args .residues .now) (at-start .args .plans .now)
+    (at-start .args .index) (at-head .head .result) (at-head .head .ensures) (at-wide-u32 .wide-u32 .ensures)
+    (at-wide-u322 .wide-u322 .ensures) (at-is-head .is-head .ensures) (at-if1 .if1 .left) (at-places-set-up .places-set-up .ensures)
+    (at-if2 .if2 .left) (c .before .places-fit .ensures) (c .if3 .taken)
 
 add-zeros-u16 : tie.Need-add-zeros-u16
 add-zeros-u16 c = search needs
@@ -60,7 +86,21 @@ zeros-u16-requires : tie.Need-zeros-u16-requires
 zeros-u16-requires c κs = search needs
 
 returns-4 : tie.Need-returns-4
-returns-4 c = residue-whole (c .before .before .before .before .before .before .before .before .before .before .before .before .before .before .args .count) (c .before .before .before .before .before .before .before .before .before .before .before .before .before .before .args .books .now) (c .before .before .before .before .before .before .before .before .before .before .before .before .before .before .args .residues .now) (c .before .before .before .before .before .before .before .before .before .before .before .before .before .before .args .plans .now) (c .before .before .before .before .before .before .before .before .before .before .before .before .before .before .args .index) (c .before .before .before .before .before .before .before .before .before .before .head .result) (c .before .before .before .before .before .before .before .before .before .before .head .ensures) (c .before .before .before .before .before .before .before .wide-u32 .ensures) (c .before .before .before .before .before .before .wide-u322 .ensures) (c .before .before .before .before .before .before .before .before .before .is-head .ensures) (c .before .before .before .before .before .before .before .before .if1 .left) (c .before .before .before .before .before .places-set-up .ensures) (c .before .before .before .before .if2 .left) (c .before .before .before .places-fit .ensures) (c .before .before .if3 .left) _ (c .zeros-u16 .ensures)
+returns-4 c =
+    let at-if3 = c .before .before in
+    let at-places-fit = at-if3 .before in
+    let at-if2 = at-places-fit .before in
+    let at-places-set-up = at-if2 .before in
+    let at-wide-u322 = at-places-set-up .before in
+    let at-wide-u32 = at-wide-u322 .before in
+    let at-if1 = at-wide-u32 .before in
+    let at-is-head = at-if1 .before in
+    let at-head = at-is-head .before in
+    let at-start = at-head .before .before .before .before in
+    residue-whole (at-start .args .book-count) (at-start .args .books .now) (at-start .args .residues .now) (at-start .args .plans .now)
+    (at-start .args .index) (at-head .head .result) (at-head .head .ensures) (at-wide-u32 .wide-u32 .ensures)
+    (at-wide-u322 .wide-u322 .ensures) (at-is-head .is-head .ensures) (at-if1 .if1 .left) (at-places-set-up .places-set-up .ensures)
+    (at-if2 .if2 .left) (at-places-fit .places-fit .ensures) (at-if3 .if3 .left) _ (c .zeros-u16 .ensures)
 
 pub is-residue-spec : {M : Type 1} → statement M
 is-residue-spec =
