@@ -44,7 +44,8 @@ fn write_row(
     lone: u32,
 )
     requires { ⌜ index < 256 ⌝ }
-    ensures { λ _. ⌜ now (books .exit) ≡ sets (now (books .entry)) (bookWidth * index) (head .dimensions ∷ head .entries ∷ entries ∷ (numbersOf l ++ (values ∷ lone ∷ []))) ⌝ }
+    ensures { λ _. ⌜ now (books .exit)
+        ≡ sets (now (books .entry)) (bookWidth * index) (head .dimensions ∷ head .entries ∷ entries ∷ (numbersOf l ++ (values ∷ lone ∷ []))) ⌝ }
 {
     let row = [
         head.dimensions,
@@ -77,7 +78,10 @@ fn finish_book(
     multiplicands: &mut [u16],
 ) -> BooksRead
     requires { ⌜ (index < 256) × (entries + head .entries ≤ 16777216) × (values ≤ most) × (most ≤ length (now multiplicands)) × (most ≤ 16777216) ⌝ }
-    ensures { λ r. ⌜ Wrote (mapped (finished (now (books .entry)) (now (multiplicands .entry)) (headOf head) index entries values lone) (lookup (position place) (head .entries) (head .dimensions) most values (now (packet .entry)) (position from))) (r .step) (now (books .exit), now (multiplicands .exit), r .values) ⌝ }
+    ensures { λ r. ⌜ Wrote
+        (mapped (finished (now (books .entry)) (now (multiplicands .entry)) (headOf head) index entries values lone)
+        (lookup (position place) (head .entries) (head .dimensions) most values (now (packet .entry)) (position from)))
+        (r .step) (now (books .exit), now (multiplicands .exit), r .values) ⌝ }
     ensures { λ r. ⌜ (r .entries ≡ entries + head .entries) × (r .values ≤ most) ⌝ }
 {
     let l = read_lookup(
@@ -115,7 +119,11 @@ fn read_body(
     multiplicands: &mut [u16],
 ) -> BooksRead
     requires { ⌜ BookAt (head .entries) most index entries values (now lengths) (now codewords) (now multiplicands) ⌝ }
-    ensures { λ r. ⌜ Wrote (into1 putBook (body (position place) (headOf head) most values (now (packet .entry)) (position from)) (tables (now (books .entry)) (now (lengths .entry)) (now (codewords .entry)) (now (multiplicands .entry)) index entries values)) (r .step) (tables (now (books .exit)) (now (lengths .exit)) (now (codewords .exit)) (now (multiplicands .exit)) (index + 1) (r .entries) (r .values)) ⌝ }
+    ensures { λ r. ⌜ Wrote
+        (into1 putBook (body (position place) (headOf head) most values (now (packet .entry)) (position from))
+        (tables (now (books .entry)) (now (lengths .entry)) (now (codewords .entry)) (now (multiplicands .entry)) index entries values))
+        (r .step)
+        (tables (now (books .exit)) (now (lengths .exit)) (now (codewords .exit)) (now (multiplicands .exit)) (index + 1) (r .entries) (r .values)) ⌝ }
     ensures { λ r. ⌜ (r .entries ≤ entries + head .entries) × (r .values ≤ most) ⌝ }
 {
     match read_entries_at(
@@ -165,7 +173,11 @@ pub fn read_book(
     multiplicands: &mut [u16],
 ) -> BooksRead
     requires { ⌜ BookBuffers limits (now books) (now lengths) (now codewords) (now multiplicands) × Begins limits index entries values ⌝ }
-    ensures { λ r. ⌜ Wrote (into1 putBook (book limits (totals entries values) (now (packet .entry)) (position from)) (tables (now (books .entry)) (now (lengths .entry)) (now (codewords .entry)) (now (multiplicands .entry)) index entries values)) (r .step) (tables (now (books .exit)) (now (lengths .exit)) (now (codewords .exit)) (now (multiplicands .exit)) (index + 1) (r .entries) (r .values)) ⌝ }
+    ensures { λ r. ⌜ Wrote
+        (into1 putBook (book limits (totals entries values) (now (packet .entry)) (position from))
+        (tables (now (books .entry)) (now (lengths .entry)) (now (codewords .entry)) (now (multiplicands .entry)) index entries values))
+        (r .step)
+        (tables (now (books .exit)) (now (lengths .exit)) (now (codewords .exit)) (now (multiplicands .exit)) (index + 1) (r .entries) (r .values)) ⌝ }
     ensures { λ r. ⌜ (r .entries ≤ limits .entries) × (r .values ≤ limits .multiplicands) ⌝ }
 {
     match read_head(packet, from, limits, entries) {
@@ -205,7 +217,11 @@ pub fn read_books(
     multiplicands: &mut [u16],
 ) -> BooksRead
     requires { ⌜ BookBuffers limits (now books) (now lengths) (now codewords) (now multiplicands) × (count ≤ 256) ⌝ }
-    ensures { λ r. ⌜ Wrote (into putBook (section limits count (now (packet .entry)) (position from)) (tables (now (books .entry)) (now (lengths .entry)) (now (codewords .entry)) (now (multiplicands .entry)) 0 0 0)) (r .step) (tables (now (books .exit)) (now (lengths .exit)) (now (codewords .exit)) (now (multiplicands .exit)) count (r .entries) (r .values)) ⌝ }
+    ensures { λ r. ⌜ Wrote
+        (into putBook (section limits count (now (packet .entry)) (position from))
+        (tables (now (books .entry)) (now (lengths .entry)) (now (codewords .entry)) (now (multiplicands .entry)) 0 0 0))
+        (r .step)
+        (tables (now (books .exit)) (now (lengths .exit)) (now (codewords .exit)) (now (multiplicands .exit)) count (r .entries) (r .values)) ⌝ }
     ensures { λ r. ⌜ (r .entries ≤ limits .entries) × (r .values ≤ limits .multiplicands) ⌝ }
 {
     let mut at = from;

@@ -9,14 +9,13 @@ use mathlib.Core.Logic.{_↔_}
 use mathlib.Core.Path.{_≡_, sym, subst}
 use lib.ListN.{length, drop, length-drop}
 use lib.Seq.{drop-drop}
-use Rattle.reading.proofs.Encodes.{iff-false}
+use Rattle.reading.proofs.Encodes.{iff-false, refuted, shown}
 use Rattle.limits.specs.declared.Limits.{Limits}
 use Rattle.book.specs.Layout.{bookWidth, booksNeed}
 use Rattle.book_reading.specs.inner.BookBuffers.{BookBuffers}
 use Rattle.book_tables.specs.declared.row.Row.{Row}
 use Rattle.book_tables.specs.inner.Rules.{rowOf, BookRules, Begun}
 use Rattle.book_tables.specs.inner.Recognised.{Countable, BooksLeft, Clear, BooksRecognised}
-use Rattle.book_tables.proofs.TestLaws.{refuted, shown}
 use Rattle.book_tables.proofs.BooksLeftLaws.{Room, left-none, left-first, left-cons, one-content}
 
 -- what is left of the tables behind i books of so many entries and values

@@ -4,7 +4,7 @@ use native.Mathlib.Nat.{one-mul}
 use native.Mathlib.Numerals.{add-one}
 use native.Mathlib.Omega.{arith}
 use borrow.Author.Needs.{needs}
-use borrow.Author.Tests.{lt-ltb, le-ltb, eq-eqb, eqb-true, not-true, not-false}
+use borrow.Author.Tests.{lt-ltb, le-ltb, eq-eqb, eqb-true}
 use mathlib.Core.Bool.{Bool, true, false, not, _&&_}
 use mathlib.Core.List.{List}
 use mathlib.Core.Logic.{_↔_, ⊎-elim}
@@ -17,6 +17,7 @@ use Rattle.reading.specs.Lists.{all}
 use Rattle.reading.specs.Encoding.{Zeros}
 use Rattle.reading.proofs.Least.{lt-or-le}
 use Rattle.reading.proofs.Encodes.{iff-false, iff-true}
+pub use Rattle.reading.proofs.Encodes.{refuted, shown}
 use Rattle.limits.specs.declared.Limits.{Limits}
 use Rattle.codeword_assignment.specs.Book.{Coded, loneMark}
 use Rattle.book.specs.Layout.{bookWidth}
@@ -24,13 +25,6 @@ use Rattle.book_lookup.specs.Reading.{valueCount}
 use Rattle.book_tables.specs.declared.row.Row.{Row}
 use Rattle.book_tables.specs.inner.Recognised.{Clear}
 use Rattle.book_tables.specs.inner.Rules.{rowOf, HeadRules, PlaceRules, NoneRules, SomeRules, LookupRules, BookRules, Begun}
-
--- a test that failed, and one that passed
-pub refuted : {b : Bool} {P : Type 0} → (b ≡ true) ↔ P → not b ≡ true → P → ⊥
-refuted {b} f n p = let t = f .1 p in let z : _≡_ {A = ℕ} 0 1 = let g = not-true b n in cc in omega arith
-
-pub shown : {b : Bool} {P : Type 0} → (b ≡ true) ↔ P → not b ≡ false → P
-shown {b} f n = f .0 (not-false b n)
 
 -- a row's numbers
 pub number-at : (t : List ℕ) (i j : ℕ) {x v : ℕ} → x ≡ i → v ≡ getD t (bookWidth * x + j) 0 → v ≡ getD (drop (bookWidth * i) t) j 0

@@ -15,7 +15,9 @@ pub fn are_clear(
     codewords: &[u32],
     multiplicands: &[u16],
 ) -> bool
-    ensures { λ r. ⌜ (r ≡ true) ↔ Clear (drop rows (now (books .entry))) (drop entries (now (lengths .entry))) (drop entries (now (codewords .entry))) (drop values (now (multiplicands .entry))) ⌝ }
+    ensures { λ r. ⌜ (r ≡ true) ↔ Clear
+        (drop rows (now (books .entry))) (drop entries (now (lengths .entry)))
+        (drop entries (now (codewords .entry))) (drop values (now (multiplicands .entry))) ⌝ }
 {
     if !reading::zeros::zeros_u32(books, rows) {
         return false;

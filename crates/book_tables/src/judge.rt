@@ -1,9 +1,10 @@
 // One codebook in the tables against every rule: the fields before the lengths, the places, the lookup, the lengths with their codewords and their mark,
 // the multiplicands.
 use crate::row::Row;
-use crate::row::wide;
 use book_row::mark::lone_mark_at;
 use limits::Limits;
+use reading::widths::u32_from_u16;
+use reading::widths::wide_u32;
 ghost use mathlib.Core.Path.{_≡_};
 ghost use mathlib.Core.Bool.{true};
 ghost use mathlib.Core.Logic.{_↔_};
@@ -18,12 +19,6 @@ fn long(x: u32) -> u64
     ensures { λ r. ⌜ r ≡ x ⌝ }
 {
     x as u64
-}
-
-fn wider(x: u16) -> u32
-    ensures { λ r. ⌜ r ≡ x ⌝ }
-{
-    x as u32
 }
 
 // The dimensions and the number of entries (01, refusals 6 and 14). `entries` is how many the books before have.
@@ -128,8 +123,8 @@ fn is_coded(lengths: &[u8], codewords: &[u32], first: u32, count: u32) -> bool
     requires { ⌜ (first + count ≤ length (now lengths)) × (first + count ≤ length (now codewords)) ⌝ }
     ensures { λ r. ⌜ (r ≡ true) ↔ Coded (take count (drop first (now (lengths .entry)))) (take count (drop first (now (codewords .entry)))) ⌝ }
 {
-    let start = wide(first);
-    let end = start + wide(count);
+    let start = wide_u32(first);
+    let end = start + wide_u32(count);
     codeword_assignment::book::are_codewords(&lengths[start..end], &codewords[start..end])
 }
 
@@ -157,7 +152,7 @@ fn are_narrow(part: &[u16], width: u32) -> bool
     let bound = power(width);
     let mut i = 0;
     while i < part.len() {
-        if bound <= wider(part[i]) {
+        if bound <= u32_from_u16(part[i]) {
             return false;
         }
         i = i + 1;
@@ -170,8 +165,8 @@ fn is_fit(multiplicands: &[u16], first: u32, count: u32, width: u32) -> bool
     requires { ⌜ (first + count ≤ length (now multiplicands)) × (width ≤ 16) ⌝ }
     ensures { λ r. ⌜ r ≡ all (λ v. ltb v (2 ^ width)) (take count (drop first (now (multiplicands .entry)))) ⌝ }
 {
-    let start = wide(first);
-    let end = start + wide(count);
+    let start = wide_u32(first);
+    let end = start + wide_u32(count);
     are_narrow(&multiplicands[start..end], width)
 }
 
@@ -186,7 +181,8 @@ pub fn is_book(
     multiplicands: &[u16],
 ) -> bool
     requires { ⌜ Begun limits entries values (now lengths) (now codewords) (now multiplicands) ⌝ }
-    ensures { λ r. ⌜ (r ≡ true) ↔ BookRules limits entries values row (drop entries (now (lengths .entry))) (drop entries (now (codewords .entry))) (drop values (now (multiplicands .entry))) ⌝ }
+    ensures { λ r. ⌜ (r ≡ true) ↔ BookRules limits entries values row
+        (drop entries (now (lengths .entry))) (drop entries (now (codewords .entry))) (drop values (now (multiplicands .entry))) ⌝ }
 {
     if !is_head(limits, entries, row) {
         return false;

@@ -2,8 +2,8 @@
 use crate::clear::are_clear;
 use crate::judge::is_book;
 use crate::row::row_at;
-use crate::row::wide;
 use limits::Limits;
+use reading::widths::wide_u32;
 ghost use mathlib.Core.Path.{_≡_};
 ghost use mathlib.Core.Bool.{true};
 ghost use mathlib.Core.Logic.{_↔_};
@@ -20,7 +20,8 @@ fn are_rows(
     multiplicands: &[u16],
 ) -> bool
     requires { ⌜ Countable limits count × BookBuffers limits (now books) (now lengths) (now codewords) (now multiplicands) ⌝ }
-    ensures { λ r. ⌜ (r ≡ true) ↔ BooksLeft limits count 0 0 (now (books .entry)) (now (lengths .entry)) (now (codewords .entry)) (now (multiplicands .entry)) ⌝ }
+    ensures { λ r. ⌜ (r ≡ true) ↔ BooksLeft limits count 0 0
+        (now (books .entry)) (now (lengths .entry)) (now (codewords .entry)) (now (multiplicands .entry)) ⌝ }
 {
     let mut entries: u32 = 0;
     let mut values: u32 = 0;
@@ -43,9 +44,9 @@ fn are_rows(
         i = i + 1;
     }
     are_clear(
-        book::WIDTH * wide(i),
-        wide(entries),
-        wide(values),
+        book::WIDTH * wide_u32(i),
+        wide_u32(entries),
+        wide_u32(values),
         books,
         lengths,
         codewords,
@@ -63,19 +64,20 @@ pub fn are_books(
     multiplicands: &[u16],
 ) -> bool
     requires { ⌜ Countable limits count ⌝ }
-    ensures { λ r. ⌜ (r ≡ true) ↔ BooksRecognised limits count (now (books .entry)) (now (lengths .entry)) (now (codewords .entry)) (now (multiplicands .entry)) ⌝ }
+    ensures { λ r. ⌜ (r ≡ true) ↔ BooksRecognised limits count
+        (now (books .entry)) (now (lengths .entry)) (now (codewords .entry)) (now (multiplicands .entry)) ⌝ }
     ensures { λ _. ⌜ OneContent limits count (now (books .entry)) (now (lengths .entry)) (now (codewords .entry)) (now (multiplicands .entry)) ⌝ }
 {
     if books.len() < book::NEED {
         return false;
     }
-    if lengths.len() < wide(limits.entries) {
+    if lengths.len() < wide_u32(limits.entries) {
         return false;
     }
-    if codewords.len() < wide(limits.entries) {
+    if codewords.len() < wide_u32(limits.entries) {
         return false;
     }
-    if multiplicands.len() < wide(limits.multiplicands) {
+    if multiplicands.len() < wide_u32(limits.multiplicands) {
         return false;
     }
     are_rows(count, limits, books, lengths, codewords, multiplicands)

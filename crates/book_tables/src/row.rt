@@ -1,4 +1,5 @@
 // A book's row of the table of books. docs/TABLES.md draws it. A number past the table's end reads as zero.
+use reading::widths::wide_u32;
 ghost use mathlib.Core.Path.{_≡_};
 ghost use Prim.Native.Nat.{_*_, _<_};
 ghost use lib.ListN.{getD, drop};
@@ -22,18 +23,12 @@ pub struct Row {
     pub lone: u32,
 }
 
-pub fn wide(x: u32) -> usize
-    ensures { λ r. ⌜ r ≡ x ⌝ }
-{
-    x as usize
-}
-
 // Number `column` of the row of book `index`.
 fn number(books: &[u32], index: u32, column: usize) -> u32
     requires { ⌜ column < bookWidth ⌝ }
     ensures { λ r. ⌜ r ≡ getD (drop (bookWidth * index) (now (books .entry))) column 0 ⌝ }
 {
-    let place = book::WIDTH * wide(index) + column;
+    let place = book::WIDTH * wide_u32(index) + column;
     reading::buffers::get_u32(books, place)
 }
 

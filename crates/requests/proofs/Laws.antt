@@ -9,7 +9,7 @@ use Rattle.reading.specs.Outcome.{Refusal, refusal, Outcome, ok, bad, then}
 use Rattle.reading.specs.Reader as reader
 use Rattle.requests.specs.Requests.{Request, Requests, done, ask, request, bind, many, each}
 use Rattle.requests.specs.Run.{Item, item, Run, ended, before, continued, run, wholeOr, outcome}
-use Rattle.requests.specs.inner.Parts.{behind, joined, Reads}
+use Rattle.requests.specs.inner.Parts.{after, joined, Reads}
 
 -- a value that is bound is handed on; binding to the end is nothing; binding twice
 module _ {A B : Type 0} where
@@ -69,7 +69,7 @@ module _ {A B : Type 0} (reads : Request → reader.Reader ℕ) (s : List ℕ) w
   unfolding joined
   continued-joined q k (ok x) f g h e = rw (e (x .0) (x .1)) (go (f (x .0) (x .1) .items) (f (x .0) (x .1) .position) (f (x .0) (x .1) .value))
     where
-      go : (l : List Item) (n : ℕ) (v : Option A) → before (item q (x .0)) (behind l n v g) ≡ behind (item q (x .0) ∷ l) n v g
+      go : (l : List Item) (n : ℕ) (v : Option A) → before (item q (x .0)) (after l n v g) ≡ after (item q (x .0) ∷ l) n v g
       go l n (some a) = refl
       go l n none = refl
   continued-joined q k (bad z) f g h e = refl
@@ -86,11 +86,11 @@ module _ {A B C : Type 0} where
   unfolding joined
   joined-joined r f g = go (r .value)
     where
-      twice : (l : List Item) (m : List Item) (n : ℕ) (v : Option B) → behind (l ++ m) n v g ≡ behind l n (some tt) (λ (_ : Unit {0}) (_ : ℕ). behind m n v g)
+      twice : (l : List Item) (m : List Item) (n : ℕ) (v : Option B) → after (l ++ m) n v g ≡ after l n (some tt) (λ (_ : Unit {0}) (_ : ℕ). after m n v g)
       twice l m n (some b) = λ j. ended (append-assoc l m (g b n .items) j) (g b n .position) (g b n .value)
       twice l m n none = refl
 
-      go : (v : Option A) → joined (behind (r .items) (r .position) v f) g ≡ behind (r .items) (r .position) v (λ a n. joined (f a n) g)
+      go : (v : Option A) → joined (after (r .items) (r .position) v f) g ≡ after (r .items) (r .position) v (λ a n. joined (f a n) g)
       go (some a) = twice (r .items) (f a (r .position) .items) (f a (r .position) .position) (f a (r .position) .value)
       go none = refl
 
@@ -99,7 +99,7 @@ module _ {A B : Type 0} where
   unfolding joined
   joined-same r f g e = go (r .value)
     where
-      go : (v : Option A) → behind (r .items) (r .position) v f ≡ behind (r .items) (r .position) v g
+      go : (v : Option A) → after (r .items) (r .position) v f ≡ after (r .items) (r .position) v g
       go (some a) = ap (λ (t : Run B). ended (r .items ++ t .items) (t .position) (t .value)) (e a (r .position))
       go none = refl
 
@@ -115,7 +115,7 @@ module _ (reads : Request → reader.Reader ℕ) where
   reads-bind {A} {B} x f r g p q s k = rw (run-bind reads s x f k, ← p s k) (go (run reads x s k .items) (run reads x s k .position) (run reads x s k .value))
     where
       go : (l : List Item) (n : ℕ) (v : Option A)
-          → wholeOr (behind l n v (λ a m. run reads (f a) s m) .value) (behind l n v (λ a m. run reads (f a) s m) .position)
+          → wholeOr (after l n v (λ a m. run reads (f a) s m) .value) (after l n v (λ a m. run reads (f a) s m) .position)
           ≡ then (wholeOr v n) (λ y. g (y .0) s (y .1))
       go l n (some a) = q a s n
       go l n none = refl

@@ -12,7 +12,7 @@ use Rattle.requests.specs.Requests.{Request, Requests, done, ask, bind, 
 use Rattle.requests.specs.Run.{read, Item, Run, continued, run}
 use Rattle.requests.specs.Values.{unlessCut, replay, wholeValues}
 use Rattle.requests.specs.Claims.{SameOrPrefix, Replayed, Sequence}
-use Rattle.requests.specs.inner.Parts.{behind, joined}
+use Rattle.requests.specs.inner.Parts.{after, joined}
 use Rattle.requests.proofs.Laws.{run-bind}
 use Rattle.requests.proofs.Cuts.{cut-theorem}
 
@@ -37,7 +37,7 @@ module _ {A : Type 0} (reads : Request → Reader ℕ) (s : List ℕ) where
   unfolding joined run
   consed a y n = rw (run-bind reads s y (λ t. done (a ∷ t)) n) (go (run reads y s n .items) (run reads y s n .position) (run reads y s n .value))
     where
-      go : (l : List Item) (i : ℕ) (v : Option (List A)) → Consed a v (behind l i v (λ t j. run reads (done (a ∷ t)) s j) .value)
+      go : (l : List Item) (i : ℕ) (v : Option (List A)) → Consed a v (after l i v (λ t j. run reads (done (a ∷ t)) s j) .value)
       go l i (some t) = refl
       go l i none = refl
 
@@ -60,7 +60,7 @@ module _ {A B : Type 0} (g : B → Requests A) where
         (go (λ n. gathered bs n) (run reads (g b) s k .items) (run reads (g b) s k .position) (run reads (g b) s k .value))
       where
         go : ((n : ℕ) → Gathered (run reads (each g bs) s n .value) (wholeValues reads g bs s n) (length bs)) → (l : List Item) (n : ℕ) (v : Option A)
-            → Gathered (behind l n v (λ a i. run reads (bind (each g bs) (λ t. done (a ∷ t))) s i) .value) (unlessCut v (wholeValues reads g bs s n)) (suc (length bs))
+            → Gathered (after l n v (λ a i. run reads (bind (each g bs) (λ t. done (a ∷ t))) s i) .value) (unlessCut v (wholeValues reads g bs s n)) (suc (length bs))
         go h l n (some a) =
             one-more a (run reads (each g bs) s n .value) (run reads (bind (each g bs) (λ t. done (a ∷ t))) s n .value) (wholeValues reads g bs s n) (length bs)
             (consed reads s a (each g bs) n) (h n)

@@ -31,10 +31,10 @@ pub record RunVectors : Type 0 where
   pub sole :
       run (read lengthsOf) (bind (many (request (word 3 floor)) 2) (λ _. bind (request (number 8)) (λ _. request (word 5 class)))) (9 ∷ []) 0
       ≡ ended (item (word 3 floor) 1 ∷ item (word 3 floor) 1 ∷ item (number 8) 9 ∷ item (word 5 class) 1 ∷ []) 8 (some 1)
-  pub sole-behind-cut :
+  pub sole-after-cut :
       run (read lengthsOf) (bind (request (word 3 vector)) (λ _. bind (request (number 9)) (λ _. request (word 5 vector)))) (9 ∷ []) 0
       ≡ ended (item (word 3 vector) 1 ∷ []) 0 none
 
 pub runs : RunVectors
 unfolding wholeValues run read request bind many each field valueAt bitAt codeword mapped used isUsed isLone firstUsed lowest
-runs = record { cut = refl; counted = refl; whole-before-cut = refl; sole = refl; sole-behind-cut = refl }
+runs = record { cut = refl; counted = refl; whole-before-cut = refl; sole = refl; sole-after-cut = refl }

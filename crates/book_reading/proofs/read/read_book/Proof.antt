@@ -38,9 +38,12 @@ same-length-4 c = search needs
 
 returns-2 : tie.Need-returns-2
 returns-2 c =
-    let k = head-known _ _ _ _ (c .before .before .before .before .before .before .before .before .before .before .before .before .before .before .before .before .read-head .ensures) (c .before .before .before .before .before .before .before .before .before .before .before .before .before .before .head .given .1) in
-    let b = c .before .before .before .before .before .before .before .before .read-body .ensures .1 in
-    (book-whole _ _ _ _ _ _ (c .before .before .before .before .before .before .before .before .before .before .before .before .before .before .before .before .read-head .ensures) (c .before .before .before .before .before .before .before .before .before .before .before .before .before .before .head .given .1) (c .before .before .before .before .before .before .before .before .read-body .ensures .0), (omega arith, b .1))
+    let h = c .before .before .before .before .before .before .before .before .before .before .before .before .before .before .before .before .read-head .ensures in
+    let g = c .before .before .before .before .before .before .before .before .before .before .before .before .before .before .head .given .1 in
+    let k = head-known _ _ _ _ h g in
+    let b = c .before .before .before .before .before .before .before .before .read-body .ensures in
+    let e = b .1 in
+    (book-whole _ _ _ _ _ _ h g (b .0), (omega arith, e .1))
 
 pub read-book-spec : {M : Type 1} → statement M
 read-book-spec =

@@ -48,7 +48,11 @@ same-length-4 : tie.Need-same-length-4 Inv-loop μ-loop
 same-length-4 c = search needs
 
 returns : tie.Need-returns Inv-loop μ-loop
-returns c = (books-refused _ _ _ _ _ _ _ _ (c .before .before .before .before .before .before .before .before .before .before .before .before .before .before .before .before .loop .inv .2) (c .before .before .before .before .before .before .before .before .before .before .before .before .before .before .before .loop-test .taken) (c .before .before .before .before .before .before .before .before .before .before .read-book .ensures .0) (c .enum-told .given .1) _, c .before .before .before .before .before .before .before .before .before .before .read-book .ensures .1)
+returns c =
+    let w = c .before .before .before .before .before .before .before .before .before .before .before .before .before .before .before .before .loop .inv .2 in
+    let m = c .before .before .before .before .before .before .before .before .before .before .before .before .before .before .before .loop-test .taken in
+    let b = c .before .before .before .before .before .before .before .before .before .before .read-book .ensures in
+    (books-refused _ _ _ _ _ _ _ _ w m (b .0) (c .enum-told .given .1) _, b .1)
 
 add-index : tie.Need-add-index Inv-loop μ-loop
 add-index c = search needs
@@ -59,7 +63,11 @@ loop-less c = search needs
 loop-again : tie.Need-loop-again Inv-loop μ-loop
 loop-again c =
     let k = c .before .before .before .before .before .before .before .before .before .before .before .read-book .kept in
-    (c .before .before .before .before .before .before .before .before .before .before .before .before .before .before .before .before .before .loop .inv .0, c .before .before .before .before .before .before .before .before .before .before .before .before .before .before .before .before .before .loop .inv .1, books-next _ _ _ _ _ _ _ _ (c .before .before .before .before .before .before .before .before .before .before .before .before .before .before .before .before .before .loop .inv .2) (c .before .before .before .before .before .before .before .before .before .before .before .before .before .before .before .before .loop-test .taken) (c .before .before .before .before .before .before .before .before .before .before .before .read-book .ensures .0) (c .before .step .given .1) (omega arith) (omega arith) (omega arith) (omega arith) (c .before .before .before .before .before .before .before .before .before .before .before .read-book .ensures .1 .0) (c .before .before .before .before .before .before .before .before .before .before .before .read-book .ensures .1 .1), c .before .step .given .1)
+    let v = c .before .before .before .before .before .before .before .before .before .before .before .before .before .before .before .before .before .loop .inv in
+    let m = c .before .before .before .before .before .before .before .before .before .before .before .before .before .before .before .before .loop-test .taken in
+    let b = c .before .before .before .before .before .before .before .before .before .before .before .read-book .ensures in
+    let n = c .before .step .given .1 in
+    (v .0, v .1, books-next _ _ _ _ _ _ _ _ (v .2) m (b .0) n (omega arith) (omega arith) (omega arith) (omega arith) (b .1 .0) (b .1 .1), n)
 
 same-length-5 : tie.Need-same-length-5 Inv-loop μ-loop
 same-length-5 c = search needs

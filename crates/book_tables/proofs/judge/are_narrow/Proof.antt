@@ -18,17 +18,17 @@ power-requires c κs = search needs
 loop-holds : tie.Need-loop-holds Inv-loop μ-loop
 loop-holds c = search narrow-laws
 
-mul-wider : tie.Need-mul-wider Inv-loop μ-loop
-mul-wider c = search needs
+mul-u32-from-u16 : tie.Need-mul-u32-from-u16 Inv-loop μ-loop
+mul-u32-from-u16 c = search needs
 
-shared-slice-read-wider : tie.Need-shared-slice-read-wider Inv-loop μ-loop
-shared-slice-read-wider c = search needs
+shared-slice-read-u32-from-u16 : tie.Need-shared-slice-read-u32-from-u16 Inv-loop μ-loop
+shared-slice-read-u32-from-u16 c = search needs
 
-wider-requires : tie.Need-wider-requires Inv-loop μ-loop
-wider-requires c κs = search needs
+u32-from-u16-requires : tie.Need-u32-from-u16-requires Inv-loop μ-loop
+u32-from-u16-requires c κs = search needs
 
 returns : tie.Need-returns Inv-loop μ-loop
-returns c = narrow-stop _ _ _ _ (c .before .before .before .before .loop .inv) (search needs) (c .before .wider .ensures) (c .if1 .taken)
+returns c = narrow-stop _ _ _ _ (c .before .before .before .before .loop .inv) (search needs) (c .before .u32-from-u16 .ensures) (c .if1 .taken)
 
 add-i : tie.Need-add-i Inv-loop μ-loop
 add-i c = search needs
@@ -50,9 +50,9 @@ are-narrow-spec =
     μ-loop
     power-requires
     loop-holds
-    mul-wider
-    shared-slice-read-wider
-    wider-requires
+    mul-u32-from-u16
+    shared-slice-read-u32-from-u16
+    u32-from-u16-requires
     returns
     add-i
     loop-less

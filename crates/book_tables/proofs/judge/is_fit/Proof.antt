@@ -4,11 +4,11 @@ use borrow.Author.Needs.{needs}
 use Rattle.book_tables.proofs.judge.is_fit.Statement.{statement}
 use Rattle.book_tables.proofs.judge.is_fit.Tie as tie
 
-wide-requires : tie.Need-wide-requires
-wide-requires c κs = search needs
+wide-u32-requires : tie.Need-wide-u32-requires
+wide-u32-requires c κs = search needs
 
-wide-requires-2 : tie.Need-wide-requires-2
-wide-requires-2 c κs = search needs
+wide-u32-requires-2 : tie.Need-wide-u32-requires-2
+wide-u32-requires-2 c κs = search needs
 
 add-end : tie.Need-add-end
 add-end c = search needs
@@ -35,8 +35,8 @@ pub is-fit-spec : {M : Type 1} → statement M
 is-fit-spec =
     tie.close
     (tie.spec
-    wide-requires
-    wide-requires-2
+    wide-u32-requires
+    wide-u32-requires-2
     add-end
     mul-are-narrow
     sub-are-narrow

@@ -7,20 +7,20 @@ use Rattle.book_tables.proofs.recognise.are_books.Tie as tie
 returns : tie.Need-returns
 returns c = search recognise-laws
 
-wide-requires : tie.Need-wide-requires
-wide-requires c κs = search needs
+wide-u32-requires : tie.Need-wide-u32-requires
+wide-u32-requires c κs = search needs
 
 returns-2 : tie.Need-returns-2
 returns-2 c = search recognise-laws
 
-wide-requires-2 : tie.Need-wide-requires-2
-wide-requires-2 c κs = search needs
+wide-u32-requires-2 : tie.Need-wide-u32-requires-2
+wide-u32-requires-2 c κs = search needs
 
 returns-3 : tie.Need-returns-3
 returns-3 c = search recognise-laws
 
-wide-requires-3 : tie.Need-wide-requires-3
-wide-requires-3 c κs = search needs
+wide-u32-requires-3 : tie.Need-wide-u32-requires-3
+wide-u32-requires-3 c κs = search needs
 
 returns-4 : tie.Need-returns-4
 returns-4 c = search recognise-laws
@@ -36,11 +36,11 @@ are-books-spec =
     tie.close
     (tie.spec
     returns
-    wide-requires
+    wide-u32-requires
     returns-2
-    wide-requires-2
+    wide-u32-requires-2
     returns-3
-    wide-requires-3
+    wide-u32-requires-3
     returns-4
     are-rows-requires
     returns-5)

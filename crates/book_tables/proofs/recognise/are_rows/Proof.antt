@@ -39,19 +39,23 @@ loop-less : tie.Need-loop-less Inv-loop μ-loop
 loop-less c = search needs
 
 loop-again : tie.Need-loop-again Inv-loop μ-loop
-loop-again c = (c .before .before .before .before .before .before .loop .inv .0, c .before .before .before .before .before .before .loop .inv .1, progress-next _ _ _ _ _ _ (c .before .before .before .before .before .before .loop .inv .1) (c .before .before .before .before .before .before .loop .inv .0) _ _ _ (c .before .before .before .before .before .before .loop .inv .2) (search needs) (c .before .before .before .before .row-at .ensures) (c .before .before .before .is-book .ensures) (c .before .before .if1 .left))
+loop-again c =
+    let v = c .before .before .before .before .before .before .loop .inv in
+    let r = c .before .before .before .before .row-at .ensures in
+    let b = c .before .before .before .is-book .ensures in
+    (v .0, v .1, progress-next _ _ _ _ _ _ (v .1) (v .0) _ _ _ (v .2) (search needs) r b (c .before .before .if1 .left))
 
-wide-requires : tie.Need-wide-requires Inv-loop μ-loop
-wide-requires c κs = search needs
+wide-u32-requires : tie.Need-wide-u32-requires Inv-loop μ-loop
+wide-u32-requires c κs = search needs
 
 mul-are-clear : tie.Need-mul-are-clear Inv-loop μ-loop
 mul-are-clear c = search needs
 
-wide-requires-2 : tie.Need-wide-requires-2 Inv-loop μ-loop
-wide-requires-2 c κs = search needs
+wide-u32-requires-2 : tie.Need-wide-u32-requires-2 Inv-loop μ-loop
+wide-u32-requires-2 c κs = search needs
 
-wide-requires-3 : tie.Need-wide-requires-3 Inv-loop μ-loop
-wide-requires-3 c κs = search needs
+wide-u32-requires-3 : tie.Need-wide-u32-requires-3 Inv-loop μ-loop
+wide-u32-requires-3 c κs = search needs
 
 are-clear-requires : tie.Need-are-clear-requires Inv-loop μ-loop
 are-clear-requires c κs = search needs
@@ -74,9 +78,9 @@ are-rows-spec =
     add-i
     loop-less
     loop-again
-    wide-requires
+    wide-u32-requires
     mul-are-clear
-    wide-requires-2
-    wide-requires-3
+    wide-u32-requires-2
+    wide-u32-requires-3
     are-clear-requires
     returns-2)

@@ -4,8 +4,8 @@ use borrow.Author.Needs.{needs}
 use Rattle.book_tables.proofs.row.number.Statement.{statement}
 use Rattle.book_tables.proofs.row.number.Tie as tie
 
-wide-requires : tie.Need-wide-requires
-wide-requires c κs = search needs
+wide-u32-requires : tie.Need-wide-u32-requires
+wide-u32-requires c κs = search needs
 
 mul-place : tie.Need-mul-place
 mul-place c = search needs
@@ -20,4 +20,4 @@ returns : tie.Need-returns
 returns c = search (needs, number-at)
 
 pub number-spec : {M : Type 1} → statement M
-number-spec = tie.close (tie.spec wide-requires mul-place add-place get-u32-requires returns)
+number-spec = tie.close (tie.spec wide-u32-requires mul-place add-place get-u32-requires returns)
