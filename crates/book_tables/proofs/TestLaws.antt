@@ -16,8 +16,7 @@ use lib.Seq.{drop-cons, getD-drop}
 use Rattle.reading.specs.Lists.{all}
 use Rattle.reading.specs.Encoding.{Zeros}
 use Rattle.reading.proofs.Least.{lt-or-le}
-use Rattle.reading.proofs.Encodes.{iff-false, iff-true}
-pub use Rattle.reading.proofs.Encodes.{refuted, shown}
+use Rattle.reading.proofs.Encodes.{iff-false, iff-true, refuted, shown}
 use Rattle.limits.specs.declared.Limits.{Limits}
 use Rattle.codeword_assignment.specs.Book.{Coded, loneMark}
 use Rattle.book.specs.Layout.{bookWidth}

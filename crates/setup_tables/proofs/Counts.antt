@@ -8,8 +8,7 @@ use mathlib.Core.Path.{_≡_}
 use lib.ListN.{getD, drop}
 use Rattle.reading.specs.Encoding.{Zeros}
 use Rattle.reading.specs.Counted.{Counted}
-use Rattle.reading.proofs.Encodes.{iff-false, iff-true}
-use Rattle.book_tables.proofs.TestLaws.{refuted, shown}
+use Rattle.reading.proofs.Encodes.{iff-false, iff-true, refuted, shown}
 use Rattle.setup_tables.specs.inner.Recognised.{CountsRecognised}
 
 -- one count

@@ -6,10 +6,9 @@ use mathlib.Core.List.{List}
 use mathlib.Core.Logic.{_↔_}
 use mathlib.Core.Path.{_≡_, sym, _∙_}
 use lib.ListN.{getD}
-use Rattle.reading.proofs.Encodes.{iff-false}
+use Rattle.reading.proofs.Encodes.{iff-false, refuted, shown}
 use Rattle.limits.specs.declared.Limits.{Limits}
 use Rattle.book_tables.specs.inner.Recognised.{Countable, BooksRecognised}
-use Rattle.book_tables.proofs.TestLaws.{refuted, shown}
 use Rattle.floor_tables.specs.inner.Recognised.{FloorsRecognised}
 use Rattle.residue.specs.inner.FromTable.{booksOf}
 use Rattle.residue_tables.specs.inner.Recognised.{ResiduesRecognised}
