@@ -1,6 +1,6 @@
 -- A floor's requests, run on any packet, give what the reader of floors gives (specs/Claims.antt). Assumes nothing.
 use Prim.Native.Nat.{ℕ, _-_}
-use mathlib.Core.Bool.{cond}
+use mathlib.Core.Bool.{Bool, true, false, cond}
 use mathlib.Core.List.{List, _++_}
 use mathlib.Core.Option.{none, some}
 use mathlib.Core.Path.{_≡_, refl, _∙_}
@@ -21,8 +21,8 @@ use Rattle.requests.specs.Run.{read}
 use Rattle.requests.specs.inner.Parts.{Reads}
 use Rattle.requests.proofs.Laws.{reads-done, reads-bind, reads-many, reads-each, reads-if, reads-request}
 use Rattle.requests.proofs.Single.{read-refused}
-use Rattle.floor_requests.specs.Requests.{classRequests, valueRequests, partitionRequests, usedRequests, floorRequests}
-use Rattle.floor_requests.specs.Claims.{FloorRead}
+use Rattle.floor_requests.specs.Requests.{classRequests, valueRequests, partitionRequests, usedRequests, unused, values, floorRequests}
+use Rattle.floor_requests.specs.Claims.{floorRead, ReadsFloor}
 
 module _ (lengthsOf : ℕ → List ℕ) where
   reads-one : (q : Request) → Reads (read lengthsOf) (request q) (read lengthsOf q)
@@ -73,26 +73,37 @@ module _ (lengthsOf : ℕ → List ℕ) where
         (λ a. reads-bind (read lengthsOf) later (λ b. done (a ++ rows whole b)) (reader.each (partitionOf lengthsOf f) (f .partitions))
         (λ b s n. ok (a ++ rows whole b, n)) reads-later (λ b. reads-done (read lengthsOf) (a ++ rows whole b)))
 
-    reads-some : Reads (read lengthsOf) (bind (usedRequests f) (λ ys. done (some ys))) (λ s k. reader.mapped some (usedValues lengthsOf f s k))
-    unfolding Reads reader.mapped
-    reads-some s k =
-        reads-bind (read lengthsOf) (usedRequests f) (λ ys. done (some ys)) (usedValues lengthsOf f) (λ ys s n. ok (some ys, n)) reads-used
-        (λ ys. reads-done (read lengthsOf) (some ys)) s k
-        ∙ go (usedValues lengthsOf f s k)
-      where
-        go : (o : Outcome (List ℕ × ℕ)) → then o (λ y. ok (some (y .0), y .1)) ≡ reader.mapped some o
-        go (ok y) = refl
-        go (bad z) = refl
+    reads-used-floor : Reads (read lengthsOf) (bind (usedRequests f) (λ ys. done (values ys))) (λ s k. then (usedValues lengthsOf f s k) (λ y. ok (values (y .0), y .1)))
+    reads-used-floor =
+        reads-bind (read lengthsOf) (usedRequests f) (λ ys. done (values ys)) (usedValues lengthsOf f) (λ ys s n. ok (values ys, n)) reads-used
+        (λ ys. reads-done (read lengthsOf) (values ys))
 
-    reads-floor : Reads (read lengthsOf) (floorRequests f) (floorValues lengthsOf f)
-    unfolding floorRequests floorValues read
+    reads-floor : Reads (read lengthsOf) (floorRequests f)
+        (λ s k. then (field 1 s k) (λ v. cond (eqb (v .0) 0) (ok (unused, v .1)) (then (usedValues lengthsOf f s (v .1)) (λ y. ok (values (y .0), y .1)))))
+    unfolding floorRequests read
     reads-floor =
-        reads-bind (read lengthsOf) (request (number 1)) (λ v. cond (eqb v 0) (done none) (bind (usedRequests f) (λ ys. done (some ys)))) (field 1)
-        (λ v s n. cond (eqb v 0) (ok (none, n)) (reader.mapped some (usedValues lengthsOf f s n))) (reads-one (number 1))
-        (λ v. reads-if (read lengthsOf) (eqb v 0) (done none) (bind (usedRequests f) (λ ys. done (some ys))) (λ s n. ok (none, n))
-        (λ s n. reader.mapped some (usedValues lengthsOf f s n)) (reads-done (read lengthsOf) none) reads-some)
+        reads-bind (read lengthsOf) (request (number 1)) (λ v. cond (eqb v 0) (done unused) (bind (usedRequests f) (λ ys. done (values ys)))) (field 1)
+        (λ v s n. cond (eqb v 0) (ok (unused, n)) (then (usedValues lengthsOf f s n) (λ y. ok (values (y .0), y .1)))) (reads-one (number 1))
+        (λ v. reads-if (read lengthsOf) (eqb v 0) (done unused) (bind (usedRequests f) (λ ys. done (values ys))) (λ s n. ok (unused, n))
+        (λ s n. then (usedValues lengthsOf f s n) (λ y. ok (values (y .0), y .1))) (reads-done (read lengthsOf) unused) reads-used-floor)
 
     -- A FLOOR'S REQUESTS ARE ITS READER
-    pub floor-read : FloorRead lengthsOf f
-    unfolding Reads
-    floor-read = record { values = λ s k. reads-floor s k }
+    pub reads-as-floor : ReadsFloor lengthsOf f
+    unfolding Reads floorValues reader.mapped
+    reads-as-floor = record { same = λ s k. reads-floor s k ∙ go s (field 1 s k) }
+      where
+        told : (o : Outcome (List ℕ × ℕ)) → then o (λ y. ok (values (y .0), y .1)) ≡ reader.mapped floorRead (reader.mapped some o)
+        told (ok y) = refl
+        told (bad z) = refl
+
+        chosen-by : (s : List ℕ) (t : Bool) (n : ℕ)
+            → cond t (ok (unused, n)) (then (usedValues lengthsOf f s n) (λ y. ok (values (y .0), y .1)))
+            ≡ reader.mapped floorRead (cond t (ok (none, n)) (reader.mapped some (usedValues lengthsOf f s n)))
+        chosen-by s true n = refl
+        chosen-by s false n = told (usedValues lengthsOf f s n)
+
+        go : (s : List ℕ) (o : Outcome (ℕ × ℕ))
+            → then o (λ v. cond (eqb (v .0) 0) (ok (unused, v .1)) (then (usedValues lengthsOf f s (v .1)) (λ y. ok (values (y .0), y .1))))
+            ≡ reader.mapped floorRead (then o (λ nonzero. cond (eqb (nonzero .0) 0) (ok (none, nonzero .1)) (reader.mapped some (usedValues lengthsOf f s (nonzero .1)))))
+        go s (ok v) = chosen-by s (eqb (v .0) 0) (v .1)
+        go s (bad z) = refl

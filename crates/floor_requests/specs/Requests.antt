@@ -3,7 +3,6 @@
 use Prim.Native.Nat.{ℕ, _-_}
 use mathlib.Core.Bool.{cond}
 use mathlib.Core.List.{List, _++_}
-use mathlib.Core.Option.{Option, none, some}
 use lib.Dec.{eqb}
 use lib.ListN.{getD}
 use Rattle.reading.specs.Lists.{rows}
@@ -33,8 +32,13 @@ usedRequests f =
     bind (each (λ p. partitionRequests (getD (f .classes) p noClass)) (f .partitions)) (λ later.
     done (first ++ rows whole later)))
 
--- A FLOOR: its values, or none where the flag "nonzero" is unset, that is, where the floor is unused in this packet
-unfoldable pub floorRequests : Floor → Requests (Option (List ℕ))
+-- what a channel's floor comes to in a packet: unused, or the values of a floor of type 1
+pub data FloorRead : Type 0 where
+  unused : FloorRead
+  values : List ℕ → FloorRead
+
+-- A FLOOR: its values; unused where the flag "nonzero" is unset
+unfoldable pub floorRequests : Floor → Requests FloorRead
 floorRequests f =
     bind (request (number 1)) (λ nonzero.
-    cond (eqb nonzero 0) (done none) (bind (usedRequests f) (λ ys. done (some ys))))
+    cond (eqb nonzero 0) (done unused) (bind (usedRequests f) (λ ys. done (values ys))))

@@ -17,7 +17,7 @@ use Rattle.floor_partition.specs.Partition.{chosen, whole}
 use Rattle.floor_values.specs.Values.{firstBits}
 use Rattle.requests.specs.Requests.{number, word, floor, request, bind, many, each}
 use Rattle.requests.specs.Run.{read, item, ended, run}
-use Rattle.floor_requests.specs.Requests.{classRequests, valueRequests, partitionRequests, usedRequests, floorRequests}
+use Rattle.floor_requests.specs.Requests.{classRequests, valueRequests, partitionRequests, usedRequests, unused, values, floorRequests}
 
 abbrev lengthsOf : ℕ → List ℕ
 lengthsOf zero = 0 ∷ 0 ∷ 1 ∷ []
@@ -38,10 +38,10 @@ pub record FloorVectors : Type 0 where
   -- the flag, 5 and 33 in 6 bits each; then the class value 2, whose digits 0 and 1 choose no book and book 1
   pub used-floor :
       run (read lengthsOf) (floorRequests small) (139 ∷ 16 ∷ []) 0
-      ≡ ended (item (number 1) 1 ∷ item (number 6) 5 ∷ item (number 6) 33 ∷ item (word 0 floor) 2 ∷ item (word 1 floor) 1 ∷ []) 13 (some (some (5 ∷ 33 ∷ 0 ∷ 1 ∷ [])))
+      ≡ ended (item (number 1) 1 ∷ item (number 6) 5 ∷ item (number 6) 33 ∷ item (word 0 floor) 2 ∷ item (word 1 floor) 1 ∷ []) 13 (some (values (5 ∷ 33 ∷ 0 ∷ 1 ∷ [])))
   -- the second value is cut after its first bit
   pub cut-floor : run (read lengthsOf) (floorRequests small) (139 ∷ []) 0 ≡ ended (item (number 1) 1 ∷ item (number 6) 5 ∷ []) 7 none
-  pub unused-floor : run (read lengthsOf) (floorRequests small) (138 ∷ []) 0 ≡ ended (item (number 1) 0 ∷ []) 1 (some none)
+  pub unused-floor : run (read lengthsOf) (floorRequests small) (138 ∷ []) 0 ≡ ended (item (number 1) 0 ∷ []) 1 (some unused)
 
 pub vectors : FloorVectors
 unfolding floorRequests usedRequests partitionRequests classRequests valueRequests run read request bind many each firstBits chosen whole rows mapped field valueAt bitAt ilog highestSet rangeOf codeword firstUsed used isUsed isLone lowest

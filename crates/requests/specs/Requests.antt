@@ -3,11 +3,19 @@
 use Prim.Native.Nat.{ℕ, zero, suc}
 use mathlib.Core.List.{List, [], _∷_}
 
+-- where a codeword of a residue belongs (001): the submap that the residue is of, which of its live vectors, which partition of that vector, and which of
+-- the partition's codewords; each counted from 0
+pub record Place : Type 0 where
+  pub submap : ℕ
+  pub vector : ℕ
+  pub partition : ℕ
+  pub index : ℕ
+
 -- what a codeword is for: a value of a floor or its class value (004), a class word of a residue, a vector of a residue (001)
 pub data Role : Type 0 where
   floor : Role
   class : Role
-  vector : Role
+  vector : Place → Role
 
 -- a field of so many bits (000, 2.1); a codeword of the book with this number (002, "Using a codebook"). The answer is a number: the field's value, or the entry
 pub data Request : Type 0 where

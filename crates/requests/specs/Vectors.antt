@@ -8,13 +8,16 @@ use Rattle.reading.specs.Reader.{mapped}
 use Rattle.bits.specs.Field.{bitAt, valueAt, field}
 use Rattle.codeword_assignment.specs.Book.{used, isUsed, isLone, firstUsed}
 use Rattle.codeword.specs.Codeword.{codeword}
-use Rattle.requests.specs.Requests.{number, word, floor, class, vector, request, bind, many, each}
+use Rattle.requests.specs.Requests.{Place, number, word, floor, class, vector, request, bind, many, each}
 use Rattle.requests.specs.Run.{read, item, ended, run}
 use Rattle.requests.specs.Values.{wholeValues}
 
 -- every book has a sole used entry, its second, which takes no bits (000, 3.2.1)
 abbrev lengthsOf : ℕ → List ℕ
 lengthsOf b = 0 ∷ 1 ∷ []
+
+abbrev first : Place
+first = record { submap = 0; vector = 0; partition = 0; index = 0 }
 
 pub record RunVectors : Type 0 where
   -- the packet of four bytes of 000, 2.1.6, of which 5 bits are left where 6 are asked for: what follows is not read, though it has fewer bits
@@ -32,8 +35,8 @@ pub record RunVectors : Type 0 where
       run (read lengthsOf) (bind (many (request (word 3 floor)) 2) (λ _. bind (request (number 8)) (λ _. request (word 5 class)))) (9 ∷ []) 0
       ≡ ended (item (word 3 floor) 1 ∷ item (word 3 floor) 1 ∷ item (number 8) 9 ∷ item (word 5 class) 1 ∷ []) 8 (some 1)
   pub sole-after-cut :
-      run (read lengthsOf) (bind (request (word 3 vector)) (λ _. bind (request (number 9)) (λ _. request (word 5 vector)))) (9 ∷ []) 0
-      ≡ ended (item (word 3 vector) 1 ∷ []) 0 none
+      run (read lengthsOf) (bind (request (word 3 (vector first))) (λ _. bind (request (number 9)) (λ _. request (word 5 (vector first))))) (9 ∷ []) 0
+      ≡ ended (item (word 3 (vector first)) 1 ∷ []) 0 none
 
 pub runs : RunVectors
 unfolding wholeValues run read request bind many each field valueAt bitAt codeword mapped used isUsed isLone firstUsed lowest

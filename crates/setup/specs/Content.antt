@@ -31,6 +31,10 @@ booksKnown bs =
 unfoldable pub lengthsOf : Setup → ℕ → List ℕ
 lengthsOf c b = getD (map (λ x. x .lengths) (c .books)) b []
 
+-- book b's dimensions; 0 for a book that is not set up
+unfoldable pub dimensionsOf : Setup → ℕ → ℕ
+dimensionsOf c b = getD (map (λ x. x .dimensions) (c .books)) b 0
+
 -- what a mapping is judged against
 unfoldable pub known : ℕ → List Floor → List Residue → Known
 known channels fs rs = record { channels = channels; floors = length fs; residues = length rs }

@@ -6,6 +6,7 @@ pub mod Carried
 pub mod Rules
 pub mod Sound
 pub mod SoundTest
+pub mod Later
 pub mod Call
 pub mod Accepted
 pub mod inner
