@@ -9,7 +9,7 @@ use Rattle.reading.specs.Least.{count}
 use Rattle.reading.specs.Tabulate.{tabulate}
 use Rattle.floor.specs.Content.{Floor}
 use Rattle.residue.specs.Content.{Residue}
-use Rattle.mapping.specs.Content.{Coupling, Submap, Mapping}
+use Rattle.mapping.specs.Content.{Coupling, Submap, Mapping, noSubmap}
 use Rattle.requests.specs.Requests.{Requests, done, bind}
 use Rattle.floor_requests.specs.Requests.{FloorRead, unused, values}
 use Rattle.residue_requests.specs.Requests.{residueRequests, partitionCount}
@@ -17,10 +17,6 @@ use Rattle.residue_requests.specs.Requests.{residueRequests, partitionCount}
 -- a channel's submap; 0 where there is but one
 unfoldable pub submapOf : Mapping → ℕ → ℕ
 submapOf m channel = getD (m .multiplex) channel 0
-
--- what stands for a submap past the last
-abbrev pub noSubmap : Submap
-noSubmap = record { floor = 0; residue = 0 }
 
 -- the number of a channel's floor
 unfoldable pub floorNumber : Mapping → ℕ → ℕ

@@ -9,15 +9,11 @@ use lib.ListN.{length, getD}
 use Rattle.reading.specs.Outcome.{refusal, Outcome, ok, bad}
 use Rattle.bits.specs.Ilog.{ilog}
 use Rattle.identification.specs.declared.Identity.{Identity}
-use Rattle.mode.specs.Content.{Mode}
+use Rattle.mode.specs.Content.{Mode, noMode}
 use Rattle.requests.specs.Requests.{number, Requests, done, request, bind}
 use Rattle.requests.specs.Run.{Run}
 use Rattle.audio.specs.declared.Head.{Head}
 use Rattle.audio.specs.declared.Window.{Window}
-
--- what stands for a mode past the last
-abbrev pub noMode : Mode
-noMode = record { blockflag = 0; mapping = 0 }
 
 unfoldable pub modeAt : List Mode → ℕ → Mode
 modeAt modes n = getD modes n noMode

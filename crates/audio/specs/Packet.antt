@@ -6,10 +6,9 @@ use mathlib.Core.List.{List, [], _∷_, _++_, map}
 use lib.ListN.{getD}
 use Rattle.reading.specs.Outcome.{Outcome, ok, then}
 use Rattle.identification.specs.declared.Identity.{Identity}
-use Rattle.floor.specs.Content.{Floor}
-use Rattle.floor.specs.inner.Decode.{noFloor}
-use Rattle.residue.specs.Content.{Residue}
-use Rattle.mapping.specs.Content.{Mapping}
+use Rattle.floor.specs.Content.{Floor, noFloor}
+use Rattle.residue.specs.Content.{noResidue}
+use Rattle.mapping.specs.Content.{Mapping, noMapping}
 use Rattle.setup.specs.Content.{Setup, lengthsOf, dimensionsOf}
 use Rattle.requests.specs.Requests.{Requests, bind, each}
 use Rattle.requests.specs.Run.{read, Item, Run, run}
@@ -27,13 +26,6 @@ pub record Audio : Type 0 where
   pub items : List Item
   -- the position behind the last of them
   pub position : ℕ
-
--- what stands for a residue or a mapping past the last
-abbrev pub noResidue : Residue
-noResidue = record { type = 0; begin = 0; end = 0; size = 0; classifications = 0; classbook = 0; plan = [] }
-
-abbrev pub noMapping : Mapping
-noMapping = record { couplings = []; multiplex = []; submaps = [] }
 
 unfoldable pub mappingOf : Setup → Head → Mapping
 mappingOf c h = getD (c .mappings) (modeAt (c .modes) (h .mode) .mapping) noMapping

@@ -24,9 +24,8 @@ use Rattle.floor_class.specs.Reading.{class}
 use Rattle.floor_class.proofs.Accepted.{classes-valid}
 use Rattle.floor_x_list.specs.Reading.{ends}
 use Rattle.floor_x_list.proofs.Accepted.{ends-fit}
-use Rattle.floor.specs.Content.{Floor, classCount, valueCount}
+use Rattle.floor.specs.Content.{Floor, classCount, valueCount, noFloor}
 use Rattle.floor.specs.Layout.{floorRow}
-use Rattle.floor.specs.inner.Decode.{noFloor}
 use Rattle.floor.specs.Reading.{floorType, floorFrom, floor1, floor}
 use Rattle.floor.specs.inner.Valid.{ValidFloor}
 use Rattle.floor.proofs.Decoded.{floor-long, FloorStored, floor-stored}

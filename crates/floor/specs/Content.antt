@@ -26,3 +26,7 @@ dimensionsOf dims c = getD dims c 0
 unfoldable pub valueCount : List ℕ → List ℕ → ℕ
 valueCount dims [] = 0
 valueCount dims (c ∷ cs) = dimensionsOf dims c + valueCount dims cs
+
+-- what stands for a floor past the last
+abbrev pub noFloor : Floor
+noFloor = record { partitions = []; classes = []; multiplier = 0; rangebits = 0; xs = [] }

@@ -28,7 +28,8 @@ use Rattle.numbers.specs.inner.Cell.{cell}
 use Rattle.floor_class.specs.Content.{Class}
 use Rattle.floor_class.specs.inner.Decode.{classAt}
 use Rattle.floor_partition.specs.Partition.{chosen, value}
-use Rattle.floor_partition.specs.inner.Stored.{lengthsIn, classIn, PlaceStored, ClassStored}
+use Rattle.book_codeword.specs.inner.Stored.{lengthsIn}
+use Rattle.floor_partition.specs.inner.Stored.{classIn, PlaceStored, ClassStored}
 
 pub all-get : (f : ℕ → Bool) (l : List ℕ) (i : ℕ) → all f l ≡ true → i < length l → f (getD l i 0) ≡ true
 unfolding all

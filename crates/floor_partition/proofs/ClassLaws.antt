@@ -21,12 +21,12 @@ use Rattle.bits.proofs.Steps.{wrote-refused, wrote-next}
 use Rattle.codeword.specs.Codeword.{codeword}
 use Rattle.codeword.proofs.Laws.{read-used}
 use Rattle.book.specs.Layout.{entriesAt, firstEntryAt}
-use Rattle.book_codeword.specs.inner.Stored.{entriesOf, BookStored}
+use Rattle.book_codeword.specs.inner.Stored.{lengthsIn, entriesOf, BookStored}
 use Rattle.numbers.specs.inner.Cell.{cell}
 use Rattle.floor_class.specs.inner.Decode.{classAt}
 use Rattle.floor_class.proofs.ValidLaws.{master-most}
 use Rattle.floor_partition.specs.Partition.{classValue, value}
-use Rattle.floor_partition.specs.inner.Stored.{lengthsIn, classIn, Readable, PlaceStored, ClassStored}
+use Rattle.floor_partition.specs.inner.Stored.{classIn, Readable, PlaceStored, ClassStored}
 
 -- 1 << e, as the machine computes it
 pub one-shifted : (e : ℕ) → e ≤ 3 → (1 * 2 ^ e) % 2 ^ 32 ≡ 2 ^ e

@@ -14,7 +14,8 @@ ghost use Rattle.reading.specs.inner.Table.{table, putRow};
 ghost use Rattle.bits.specs.inner.Cursors.{position, outcome, Wrote};
 ghost use Rattle.numbers.specs.inner.Cell.{cell};
 ghost use Rattle.floor_partition.specs.Partition.{classValue, chosen, value, partition, whole};
-ghost use Rattle.floor_partition.specs.inner.Stored.{lengthsIn, classIn, PlaceStored, ClassStored};
+ghost use Rattle.book_codeword.specs.inner.Stored.{lengthsIn};
+ghost use Rattle.floor_partition.specs.inner.Stored.{classIn, PlaceStored, ClassStored};
 
 // How many books a class has.
 fn choices(subclasses: u16) -> u32

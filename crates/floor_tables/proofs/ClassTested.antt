@@ -12,10 +12,10 @@ use Rattle.reading.specs.Lists.{rows}
 use Rattle.reading.specs.Pad.{pad}
 use Rattle.reading.specs.Encoding.{Each}
 use Rattle.reading.proofs.EachLaws.{each-at}
-use Rattle.floor_class.specs.Content.{Class}
+use Rattle.floor_class.specs.Content.{Class, noClass}
 use Rattle.floor_class.specs.Layout.{classRow}
 use Rattle.floor_class.specs.inner.Valid.{ValidClass}
-use Rattle.floor_class.specs.inner.Decode.{classAt, classesAt, noClass}
+use Rattle.floor_class.specs.inner.Decode.{classAt, classesAt}
 use Rattle.reading.proofs.Stored.{Stored, stored-at, stored-both}
 use Rattle.floor_class.proofs.Decoded.{class-long}
 use Rattle.floor_class.proofs.Decoded.{ClassStored, class-stored}

@@ -4,7 +4,7 @@ use native.Mathlib.Omega.{arith}
 use mathlib.Core.List.{List}
 use mathlib.Core.Path.{_≡_}
 use lib.ListN.{getD}
-use Rattle.floor.specs.inner.Decode.{noFloor}
+use Rattle.floor.specs.Content.{noFloor}
 use Rattle.floor.specs.Layout.{floorRow}
 use Rattle.floor.specs.inner.Valid.{ValidFloor}
 use Rattle.floor_tables.specs.inner.Recognised.{FloorsRecognised}

@@ -20,15 +20,14 @@ use Rattle.reading.proofs.Readers.{Long, each-long, mapped-ok}
 use Rattle.bits.specs.Field.{field}
 use Rattle.bits.proofs.Fields.{field-ok}
 use Rattle.codeword.specs.Codeword.{codeword}
-use Rattle.floor_class.specs.Content.{Class}
+use Rattle.floor_class.specs.Content.{Class, noClass}
 use Rattle.floor.specs.Content.{Floor, valueCount}
 use Rattle.floor_x_list.specs.Content.{xList}
-use Rattle.floor_class.specs.inner.Decode.{noClass}
 use Rattle.floor_class.specs.Rules.{Class11}
 use Rattle.floor.specs.inner.Valid.{ValidFloor}
 use Rattle.floor_partition.specs.Partition.{classValue, chosen, value, partition, whole}
 use Rattle.floor_values.specs.Values.{firstBits, partitionOf, usedValues, floorValues}
-use Rattle.floor_partition.specs.inner.Stored.{lengthsIn}
+use Rattle.book_codeword.specs.inner.Stored.{lengthsIn}
 use Rattle.floor_values.specs.inner.Stored.{floorIn, FloorStored}
 use Rattle.floor_values.specs.Claims.{FloorValues}
 use Rattle.floor_partition.proofs.ClassLaws.{entry-small}

@@ -19,14 +19,16 @@ use Rattle.bits.specs.inner.Cursors.{position, Wrote}
 use Rattle.bits.proofs.Steps.{EachRest, each-loop-start, each-loop-next, each-loop-refused, each-loop-done}
 use Rattle.bits.proofs.Written.{wrote-through}
 use Rattle.floor.specs.Content.{classCount}
-use Rattle.floor_class.specs.inner.Decode.{noClass, classAt, classesAt}
+use Rattle.floor_class.specs.Content.{noClass}
+use Rattle.floor_class.specs.inner.Decode.{classAt, classesAt}
 use Rattle.floor.specs.inner.Decode.{floorAt}
 use Rattle.floor_class.specs.inner.Valid.{ValidClass}
 use Rattle.floor.proofs.RowLaws.{class-count-most}
 use Rattle.floor.proofs.ValidLaws.{classes-meet}
 use Rattle.floor_partition.specs.Partition.{partition, whole}
 use Rattle.floor_values.specs.Values.{partitionOf}
-use Rattle.floor_partition.specs.inner.Stored.{lengthsIn, classIn, ClassStored}
+use Rattle.book_codeword.specs.inner.Stored.{lengthsIn}
+use Rattle.floor_partition.specs.inner.Stored.{classIn, ClassStored}
 use Rattle.floor_values.specs.inner.Stored.{floorIn, FloorStored}
 
 -- the classes of a floor, as they lie in the table

@@ -14,7 +14,7 @@ ghost use Rattle.bits.specs.Field.{field};
 ghost use Rattle.bits.specs.inner.Cursors.{position, Wrote};
 ghost use Rattle.numbers.specs.inner.Cell.{cell};
 ghost use Rattle.floor_partition.specs.Partition.{whole};
-ghost use Rattle.floor_partition.specs.inner.Stored.{lengthsIn};
+ghost use Rattle.book_codeword.specs.inner.Stored.{lengthsIn};
 ghost use Rattle.floor_values.specs.Values.{firstBits, partitionOf, usedValues, floorValues, answeredValues};
 ghost use Rattle.floor_values.specs.inner.Stored.{floorIn, FloorStored};
 ghost use Rattle.floor_values.specs.Claims.{FloorValues};

@@ -1,3 +1,4 @@
 pub mod Requests
 pub mod Listed
 pub mod Vectors
+pub mod inner

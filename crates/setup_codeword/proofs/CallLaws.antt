@@ -30,7 +30,8 @@ use Rattle.setup.specs.Sound.{Sound}
 use Rattle.setup.specs.SoundTest.{soundTest, Tested}
 use Rattle.setup.proofs.DecodeLaws.{content-decoded}
 use Rattle.setup.proofs.TestLaws.{test-is, tested}
-use Rattle.setup_codeword.specs.Call.{laterCall, codewordOf, codewordCall}
+use Rattle.setup.specs.Later.{laterCall}
+use Rattle.setup_codeword.specs.Call.{codewordOf, codewordCall}
 use Rattle.setup_codeword.specs.Demand3.{Demand3}
 use Rattle.setup_codeword.proofs.DecodesLaws.{demand3}
 use Rattle.setup_codeword.proofs.StoredLaws.{book-count, book-stored, entries-of}

@@ -28,7 +28,8 @@ use Rattle.setup_judged.proofs.JudgedLaws.{judged-by-call}
 use Rattle.setup_judged.specs.Judged.{LengthsRead}
 use Rattle.setup_judged.proofs.ReachedLaws.{book-reached}
 use Rattle.setup_judged.proofs.ExampleLaws.{accepts-example}
-use Rattle.setup_codeword.specs.Call.{laterCall, codewordOf, codewordCall}
+use Rattle.setup.specs.Later.{laterCall}
+use Rattle.setup_codeword.specs.Call.{codewordOf, codewordCall}
 use Rattle.setup_codeword.specs.Demand3.{BookDecodes, Demand3}
 use Rattle.setup_codeword.proofs.JudgedLaws.{accepted-takes, full-not-lone}
 

@@ -22,7 +22,3 @@ floorAt t at =
 -- the floor of a row
 unfoldable pub decodeFloor : List ℕ → Floor
 decodeFloor row = floorAt row 0
-
--- what stands for a floor past the last
-abbrev pub noFloor : Floor
-noFloor = record { partitions = []; classes = []; multiplier = 0; rangebits = 0; xs = [] }

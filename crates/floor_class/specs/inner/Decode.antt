@@ -21,7 +21,3 @@ classAt t at =
 unfoldable pub classesAt : List ℕ → ℕ → ℕ → List Class
 classesAt t at zero = []
 classesAt t at (suc n) = classAt t at ∷ classesAt t (at + classWidth) n
-
--- what stands for a class past the last
-abbrev pub noClass : Class
-noClass = record { dimensions = 0; subclasses = 0; master = 0; books = [] }

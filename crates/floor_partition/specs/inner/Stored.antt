@@ -3,14 +3,10 @@ use Prim.Native.Nat.{ℕ, _+_, _-_, _*_, _≤_, _<_}
 use mathlib.Core.List.{List}
 use mathlib.Core.Path.{_≡_}
 use Rattle.book.specs.Layout.{entriesAt}
-use Rattle.book_codeword.specs.inner.Stored.{entriesOf, BookStored}
+use Rattle.book_codeword.specs.inner.Stored.{BookStored}
 use Rattle.floor_class.specs.Content.{Class}
 use Rattle.floor_class.specs.inner.Decode.{classAt}
 use Rattle.floor_class.specs.inner.Valid.{ValidClass}
-
--- the entry lengths of each book
-unfoldable pub lengthsIn : List ℕ → List ℕ → ℕ → List ℕ
-lengthsIn books lengths b = entriesOf books b lengths
 
 -- class number c of floor number n
 unfoldable pub classIn : List ℕ → ℕ → ℕ → Class
