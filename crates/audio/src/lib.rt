@@ -46,3 +46,11 @@ pub struct AudioAnswer {
     // For each channel 1 where its floor is used; zeros behind the last channel.
     pub used: [u8; 255],
 }
+
+// What the call leaves beside its outputs, where the tally is handed over by value.
+#[repr(C)]
+pub struct AudioLeft {
+    // The tally after the packet; as it was handed over on a refusal.
+    pub tally: Tally,
+    pub answer: AudioAnswer,
+}

@@ -1,0 +1,2 @@
+pub mod BodyWords
+pub mod ClearLaws

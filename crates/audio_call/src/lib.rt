@@ -1,0 +1,2 @@
+// THE AUDIO CALL, twice: for tables that are known to be sound, as a caller has them from its own setup; and for any tables, which are judged first.
+pub mod clear; // places of an output that an earlier packet left
