@@ -21,20 +21,20 @@ use Rattle.identification.specs.Sound as I
 use Rattle.codeword.specs.Codeword.{codeword}
 use Rattle.codeword.specs.inner.Claims.{Settled}
 use Rattle.codeword.proofs.Laws.{read-used}
-use Rattle.book_codeword.specs.inner.Stored.{entriesOf, BookStored}
-use Rattle.setup.specs.Content.{Setup, lengthsOf}
+use Rattle.book_codeword.specs.inner.Stored.{entriesOf, lengthsIn, BookStored}
+use Rattle.setup.specs.Content.{lengthsOf}
 use Rattle.setup.specs.Layout.{Tables}
 use Rattle.setup.specs.inner.Decode.{decodeSetup}
 use Rattle.setup.specs.inner.Parts.{Small}
 use Rattle.setup.specs.Sound.{Sound}
 use Rattle.setup.specs.SoundTest.{soundTest, Tested}
-use Rattle.setup.proofs.DecodeLaws.{content-decoded}
 use Rattle.setup.proofs.TestLaws.{test-is, tested}
 use Rattle.setup.specs.Later.{laterCall}
+use Rattle.setup_rows.specs.inner.Rows.{RowsReadable}
+use Rattle.setup_rows.proofs.RowsLaws.{sound-readable}
 use Rattle.setup_codeword.specs.Call.{codewordOf, codewordCall}
 use Rattle.setup_codeword.specs.Demand3.{Demand3}
 use Rattle.setup_codeword.proofs.DecodesLaws.{demand3}
-use Rattle.setup_codeword.proofs.StoredLaws.{book-count, book-stored, entries-of}
 
 pub refused-is : (number : ℕ) (place : Cursor) → position place ≡ 0 → outcome (Refused (record { number = number; place = place })) ≡ bad (refusal number 0)
 unfolding outcome
@@ -58,27 +58,22 @@ module _ {limits : Limits} {i : Identity} {t : Tables} where
     tables-tell n f = (test-is ((λ z. record { identity = e .0 (not-false a n); tables = f .0 z }), (λ x. f .1 (x .tables))), tested)
 
   module _ (tests : Tested limits i t) {a : Bool} (e : a ≡ soundTest limits i t) (n : not a ≡ false) where
-    found : Sound limits (i .channels) t
-    found = tests .tells .0 (sym e ∙ not-false a n) .tables
-
-    -- the first of the counts is that of the content's books
-    books-counted : getD (t .counts) 0 0 ≡ length (decodeSetup t .books)
-    books-counted = book-count found ∙ ap (λ (c : Setup). length (c .books)) (content-decoded found)
+    -- each row of the tables is its content
+    rows : RowsReadable limits (i .channels) t (decodeSetup t)
+    rows = sound-readable (tests .tells .0 (sym e ∙ not-false a n) .tables)
 
     module _ {d : Bool} (b : ℕ) (c : d ≡ ltb b (getD (t .counts) 0 0)) where
       -- the book that is read lies in the tables
       pub call-stored : not d ≡ false → BookStored (t .books) (t .lengths) (t .codewords) b
       call-stored h =
-          let m = book-count found in
+          let m = rows .counts .books in
           let l : b < getD (t .counts) 0 0 = ltb-true b _ (sym c ∙ not-false d h) in
-          book-stored found b (omega arith)
+          rows .books b (omega arith) .stored
 
-      -- and has the lengths of the content
-      own-lengths : not d ≡ false → entriesOf (t .books) b (t .lengths) ≡ lengthsOf (decodeSetup t) b
-      own-lengths h =
-          let m = book-count found in
-          let l : b < getD (t .counts) 0 0 = ltb-true b _ (sym c ∙ not-false d h) in
-          entries-of found b (omega arith) ∙ ap (λ (x : Setup). lengthsOf x b) (content-decoded found)
+    -- and has the lengths of the content
+    own-lengths : (b : ℕ) → entriesOf (t .books) b (t .lengths) ≡ lengthsOf (decodeSetup t) b
+    unfolding lengthsIn
+    own-lengths b = ap (λ (f : ℕ → List ℕ). f b) (rows .lengths)
 
   -- the answers
   module _ (small : Small limits) (tests : Tested limits i t) {a : Bool} (e : a ≡ soundTest limits i t) (b : ℕ) (s : List ℕ) (k : ℕ) {r : Outcome (ℕ × ℕ)} where
@@ -89,13 +84,13 @@ module _ {limits : Limits} {i : Identity} {t : Tables} where
     module _ (n : not a ≡ false) {d : Bool} (c : d ≡ ltb b (getD (t .counts) 0 0)) where
       pub call-not-there : not d ≡ true → r ≡ bad (refusal 11 0) → (r ≡ codewordCall limits i t b s k) × Demand3 limits
       unfolding codewordCall laterCall codewordOf
-      call-not-there h q = (rw (sym e ∙ not-false a n, ← books-counted tests e n, sym c ∙ not-true d h) q, demand3 limits small)
+      call-not-there h q = (rw (sym e ∙ not-false a n, ← rows tests e n .counts .books, sym c ∙ not-true d h) q, demand3 limits small)
 
       pub call-read : not d ≡ false → (r ≡ codeword (entriesOf (t .books) b (t .lengths)) s k) × Settled (entriesOf (t .books) b (t .lengths))
           → (r ≡ codewordCall limits i t b s k) × Demand3 limits
       unfolding codewordCall laterCall codewordOf
       call-read h q = (
-        rw (sym e ∙ not-false a n, ← books-counted tests e n, sym c ∙ not-false d h) (q .0 ∙ ap (λ (ls : List ℕ). codeword ls s k) (own-lengths tests e n b c h)),
+        rw (sym e ∙ not-false a n, ← rows tests e n .counts .books, sym c ∙ not-false d h) (q .0 ∙ ap (λ (ls : List ℕ). codeword ls s k) (own-lengths tests e n b)),
         demand3 limits small,
       )
 

@@ -1,4 +1,3 @@
 pub mod JudgedLaws
 pub mod DecodesLaws
-pub mod StoredLaws
 pub mod CallLaws

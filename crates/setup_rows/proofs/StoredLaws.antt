@@ -86,10 +86,6 @@ module _ {limits : Limits} {channels : ℕ} {t : Tables} (sound : Sound limits c
   facts : SoundFacts limits channels t (sound .content)
   facts = sound-facts sound
 
-  -- the first of the counts is that of the books
-  pub book-count : getD (t .counts) 0 0 ≡ length (sound .content .books)
-  book-count = facts .written .counts .first
-
   module _ (b : ℕ) (h : b < length (sound .content .books)) where
     abbrev own : Book
     own = getD items b noBook
@@ -102,7 +98,7 @@ module _ {limits : Limits} {channels : ℕ} {t : Tables} (sound : Sound limits c
         ∙ pad-get (length (t .books)) (bookRows start items) (bookWidth * b + column) (omega arith)
         ∙ row-at start items b column noBook h low
 
-    entries-are : entriesAt (t .books) b ≡ length (own .lengths)
+    pub entries-are : entriesAt (t .books) b ≡ length (getD (sound .content .books) b noBook .lengths)
     unfolding bookRow
     entries-are = number 1 (omega arith)
 
@@ -138,6 +134,10 @@ module _ {limits : Limits} {channels : ℕ} {t : Tables} (sound : Sound limits c
         ap (entriesOf (t .books) b) (facts .written .codewords)
         ∙ part-is (λ x. ledgerCodewords (x .lengths)) items b h (firstEntryAt (t .books) b) (entriesAt (t .books) b) first-word codewords-count (length (t .codewords)) (omega arith)
 
+    -- the book meets every rule
+    pub book-valid : ValidBook limits (andThese (record { entries = 0; values = 0 }) (take b (sound .content .books))) (getD (sound .content .books) b noBook)
+    book-valid = valid-at limits start items b (facts .valid .books) h
+
     -- THE LENGTHS OF BOOK b IN THE TABLES are those of the content
     pub entries-of : entriesOf (t .books) b (t .lengths) ≡ lengthsOf (sound .content) b
     unfolding lengthsOf
@@ -146,7 +146,7 @@ module _ {limits : Limits} {channels : ℕ} {t : Tables} (sound : Sound limits c
     -- AND THE BOOK LIES WHOLE
     pub book-stored : BookStored (t .books) (t .lengths) (t .codewords) b
     book-stored =
-        let v = valid-at limits start items b (facts .valid .books) h in
+        let v = book-valid in
         let rl = facts .room .lengths in
         let rc = facts .room .codewords in
         let f = fits in

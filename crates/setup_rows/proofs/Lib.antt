@@ -1,0 +1,5 @@
+pub mod StoredLaws
+pub mod BookLaws
+pub mod ResidueLaws
+pub mod RestLaws
+pub mod RowsLaws
