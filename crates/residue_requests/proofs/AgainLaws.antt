@@ -5,32 +5,31 @@ use native.Mathlib.Omega.{arith}
 use borrow.Author.Tests.{eq-eqb, ne-eqb}
 use mathlib.Core.Bool.{Bool, true, false, cond}
 use mathlib.Core.List.{List, [], _∷_, _++_, map, append-assoc, append-nil}
-use mathlib.Core.Option.{Option, none, some}
+use mathlib.Core.Option.{Option, some}
 use mathlib.Core.Path.{_≡_, refl, sym, ap, _∙_}
 use lib.Dec.{eqb}
-use lib.ListN.{length, getD, take, drop, length-append, length-drop}
+use lib.ListN.{length, getD, drop, length-append, length-drop}
 use lib.Seq.{drop-drop, drop-at, getD-drop}
 use Rattle.reading.specs.Reader.{Reader}
 use Rattle.residue.specs.Content.{Residue}
 use Rattle.requests.specs.Requests.{Request, Requests, bind}
 use Rattle.requests.specs.Run.{Item, Run, run}
-use Rattle.requests.specs.inner.Parts.{joined}
 use Rattle.requests.proofs.Laws.{run-bind}
 use Rattle.residue_requests.specs.Requests.{classesOf}
 use Rattle.residue_requests.specs.Listed.{isVector, listed}
 use Rattle.residue_requests.specs.inner.Unplaced.{flatClassWords, flatPartitions, flatFirstPass}
 use Rattle.residue_requests.specs.inner.Again.{oddFront, entriesFrom, nextClass, again, ClassWordsBefore}
-use Rattle.residue_requests.proofs.KindLaws.{Kind, kind-append, Both, both, partitions-kind, ClassesRead, classes-read}
+use Rattle.residue_requests.proofs.KindLaws.{Kind, kind-append, both, partitions-kind, classes-read}
 
 -- items as they are listed
-abbrev numbers : List Item → List ℕ
+abbrev pub numbers : List Item → List ℕ
 numbers l = map listed l
 
-numbers-append : (l r : List Item) → numbers (l ++ r) ≡ numbers l ++ numbers r
+pub numbers-append : (l r : List Item) → numbers (l ++ r) ≡ numbers l ++ numbers r
 numbers-append [] r = refl
 numbers-append (i ∷ l) r = ap (λ (t : List ℕ). listed i ∷ t) (numbers-append l r)
 
-numbers-long : (l : List Item) → length (numbers l) ≡ length l
+pub numbers-long : (l : List Item) → length (numbers l) ≡ length l
 numbers-long [] = refl
 numbers-long (i ∷ l) = ap suc (numbers-long l)
 
@@ -48,7 +47,7 @@ unfolding oddFront Kind
 front [] k i e t = rw (ne-eqb (listed i % 2) 1 (even i e .0))
 front (v ∷ vs) k i e t = rw (eq-eqb (listed v % 2) 1 (odd v (k .0))) (ap suc (front vs (k .1) i e t))
 
-entries-are : (ws : List Item) → Kind false ws → (l : List ℕ) (at : ℕ) (t : List ℕ) → drop at l ≡ numbers ws ++ t
+pub entries-are : (ws : List Item) → Kind false ws → (l : List ℕ) (at : ℕ) (t : List ℕ) → drop at l ≡ numbers ws ++ t
     → entriesFrom l at (length ws) ≡ map (λ i. i .answer) ws
 unfolding entriesFrom Kind
 entries-are [] k l at t e = refl

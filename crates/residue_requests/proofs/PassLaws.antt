@@ -1,15 +1,13 @@
 -- A pass that has a book for no class reads nothing, so the later passes may end after the last one that has a book. Assumes nothing.
-use Prim.Native.Nat.{ℕ, zero, suc, _+_, _-_, _/_, _≤_, _<_}
+use Prim.Native.Nat.{ℕ, zero, suc, _+_, _≤_, _<_}
 use native.Mathlib.Omega.{arith}
-use mathlib.Core.Bool.{cond}
 use mathlib.Core.List.{List, [], _∷_, _++_}
-use mathlib.Core.Path.{_≡_, refl, ap, sym, _∙_}
-use lib.Dec.{eqb}
+use mathlib.Core.Path.{_≡_, refl, sym, _∙_}
 use Rattle.residue.specs.Content.{Residue}
-use Rattle.requests.specs.Requests.{Requests, done, bind}
+use Rattle.requests.specs.Requests.{done, bind}
 use Rattle.requests.proofs.Laws.{bind-same, bind-bind}
 use Rattle.residue_requests.specs.Requests.{planned}
-use Rattle.residue_requests.specs.inner.Unplaced.{flatVectors, flatPartition, flatPartitions, flatLaterPasses, Bookless}
+use Rattle.residue_requests.specs.inner.Unplaced.{flatPartition, flatPartitions, flatLaterPasses, Bookless}
 
 module _ (dimensionsOf : ℕ → ℕ) (r : Residue) where
   -- partitions of one list of classes and then another

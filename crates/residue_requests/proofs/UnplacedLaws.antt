@@ -8,8 +8,8 @@ use lib.Dec.{eqb}
 use lib.ListN.{length}
 use Rattle.reading.specs.Outcome.{Outcome, ok, bad}
 use Rattle.residue.specs.Content.{Residue}
-use Rattle.requests.specs.Requests.{Place, floor, class, vector, Request, number, word, Requests, done, ask, request, bind, many}
-use Rattle.requests.specs.Run.{read, Item, item, Run, ended, continued, run}
+use Rattle.requests.specs.Requests.{floor, class, vector, Request, number, word, Requests, done, ask, request, bind, many}
+use Rattle.requests.specs.Run.{read, Item, item, Run, continued, run}
 use Rattle.requests.proofs.Laws.{bind-end, bind-bind, bind-same}
 use Rattle.residue_requests.specs.Requests.{planned, classesOf, vectors, partition, acrossVectors, classWords, firstPass, laterPass, laterPasses, residueRequests}
 use Rattle.residue_requests.specs.Listed.{listed}
