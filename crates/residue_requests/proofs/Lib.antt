@@ -1,0 +1,4 @@
+pub mod UnplacedLaws
+pub mod KindLaws
+pub mod AgainLaws
+pub mod PassLaws
