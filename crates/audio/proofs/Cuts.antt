@@ -1,23 +1,20 @@
 -- A PACKET THAT WAS CUT (specs/Claims.antt, `CutStands`): head and body are runs of trees of requests, so the cut theorem of runs gives the items, once for
 -- each; the floors are the values that are whole. 17 and 19 cannot newly arise. Assumes nothing.
-use Prim.Native.Nat.{ℕ, zero, suc, _+_, _-_, _*_, _/_, _≤_}
+use Prim.Native.Nat.{ℕ, zero, suc, _-_, _≤_}
 use native.Mathlib.Omega.{arith}
 use borrow.Author.Tests.{leb-true, le-leb}
 use mathlib.Core.Bool.{Bool, true, false, cond}
 use mathlib.Core.List.{List, [], _∷_, _++_, map, append-nil, append-assoc}
 use mathlib.Core.Logic.{_⊎_, inl, inr, ⊎-elim}
-use mathlib.Core.Option.{none, some}
 use mathlib.Core.Path.{_≡_, refl, sym, ap, subst, _∙_}
-use lib.Dec.{leb}
 use lib.ListN.{length, take, replicate, length-append}
-use Rattle.reading.specs.Outcome.{refusal, Outcome, ok, bad, then, need}
-use Rattle.reading.proofs.Outcomes.{then-ok, need-ok, ok-is}
+use Rattle.reading.specs.Outcome.{refusal, Outcome, ok, bad, then}
+use Rattle.reading.proofs.Outcomes.{then-ok, ok-is}
 use Rattle.limits.specs.declared.Limits.{Limits}
 use Rattle.identification.specs.declared.Identity.{Identity}
 use Rattle.setup.specs.Content.{Setup, lengthsOf}
 use Rattle.setup.specs.Layout.{Tables}
 use Rattle.setup.specs.inner.Decode.{decodeSetup}
-use Rattle.setup.specs.SoundTest.{soundTest}
 use Rattle.setup.specs.Later.{laterCall}
 use Rattle.requests.specs.Run.{read, Item, Run, run}
 use Rattle.requests.specs.Values.{wholeValues}
@@ -30,9 +27,10 @@ use Rattle.audio.specs.declared.Tally.{Tally}
 use Rattle.audio.specs.declared.Head.{Head}
 use Rattle.audio.specs.Head.{headRequests, headOf}
 use Rattle.audio.specs.Packet.{Audio, channelFloors, bodyRequests, byChannel, bodyAt, headRun, audio}
-use Rattle.audio.specs.Tally.{tallySound, counted}
+use Rattle.audio.specs.Tally.{counted}
 use Rattle.audio.specs.Call.{Room, Accepted, judged, accepted}
 use Rattle.audio.specs.Claims.{CutPacket, CutStands}
+use Rattle.audio.proofs.Accepted.{Judged, packet-accepted}
 
 -- FLOORS: those before the cut, and unused ones
 channels-long : (n : ℕ) (l : List FloorRead) → length (byChannel n l) ≡ n
@@ -132,28 +130,7 @@ fewer l r n h =
     let b = ap length (words-append l r) in
     omega arith
 
--- what is judged, of tests that hold
-pub record Passed (channels : ℕ) (t : Tally) (room : Room) (a : Audio) (x : Accepted) : Type 0 where
-  pub curves : leb (channels * (a .head .blocksize / 2)) (room .curves) ≡ true
-  pub codewords : leb (length (residueWords (a .items))) (room .codewords) ≡ true
-  pub step : counted t (a .head .blocksize) (a .position) ≡ ok (x .tally, x .samples)
-  pub packet : x .packet ≡ a
-
-passed : (channels : ℕ) (t : Tally) (room : Room) (a : Audio) (x : Accepted) → judged channels t room a ≡ ok x → Passed channels t room a x
-unfolding judged
-passed channels t room a x e =
-    let curves = need-ok (leb (channels * (a .head .blocksize / 2)) (room .curves)) (refusal 17 0) _ e in
-    let codewords = need-ok (leb (length (residueWords (a .items))) (room .codewords)) (refusal 17 0) _ (curves .1) in
-    let y = then-ok (counted t (a .head .blocksize) (a .position)) _ (codewords .1) in
-    let same = ok-is (y .2) in
-    record {
-      curves = curves .0;
-      codewords = codewords .0;
-      step = y .1 ∙ ap (λ (z : Accepted). ok (z .tally, z .samples)) same;
-      packet = ap (λ (z : Accepted). z .packet) (sym same);
-    }
-
-judged-cut : (channels : ℕ) (t : Tally) (room : Room) (a a′ : Audio) (x : Accepted) → CutPacket a a′ → Passed channels t room a x
+judged-cut : (channels : ℕ) (t : Tally) (room : Room) (a a′ : Audio) (x : Accepted) → CutPacket a a′ → Judged channels t room a x
     → judged channels t room a′ ≡ ok (record { packet = a′; tally = x .tally; samples = x .samples })
 unfolding judged counted
 judged-cut channels t room a a′ x c p =
@@ -174,15 +151,14 @@ module _ (limits : Limits) (i : Identity) (t : Tables) (tally : Tally) (room : R
           → ((place : ℕ) × (called (take m s) ≡ bad (refusal 1 place))) ⊎ ((x′ : Accepted) × (called (take m s) ≡ ok x′) × CutPacket (x .packet) (x′ .packet))
       go s m x e =
           let c = decodeSetup t in
-          let tables = need-ok (soundTest limits i t) (refusal 18 0) _ e in
-          let sound = need-ok (tallySound i tally) (refusal 18 0) _ (tables .1) in
-          let read = then-ok (audio i c s) _ (sound .1) in
-          let a = read .0 in
-          let p = passed (i .channels) tally room a x (read .2) in
+          let p = packet-accepted limits i t tally room s x e in
+          let a = x .packet in
           ⊎-elim
-          (λ z. inl (z .0, rw (tables .0, sound .0, z .1)))
+          (λ z. inl (z .0, rw (p .tables, p .sound, z .1)))
           (λ z.
-            inr
-            (record { packet = z .0; tally = x .tally; samples = x .samples }, rw (tables .0, sound .0, z .1) (judged-cut (i .channels) tally room a (z .0) x (z .2) p),
-            subst (λ (y : Audio). CutPacket y (z .0)) (sym (p .packet)) (z .2)))
-          (audio-cut i c s m a (read .1))
+          inr (
+            record { packet = z .0; tally = x .tally; samples = x .samples },
+            rw (p .tables, p .sound, z .1) (judged-cut (i .channels) tally room a (z .0) x (z .2) (p .judged)),
+            z .2,
+          ))
+          (audio-cut i c s m a (p .packet))
