@@ -1,0 +1,59 @@
+-- A packet that is accepted: each of the call's steps came to its value. Assumes nothing.
+use Prim.Native.Nat.{ℕ, _*_, _/_}
+use mathlib.Core.Bool.{true}
+use mathlib.Core.List.{List}
+use mathlib.Core.Path.{_≡_, ap, subst, _∙_}
+use lib.Dec.{leb}
+use lib.ListN.{length}
+use Rattle.reading.specs.Outcome.{refusal, ok}
+use Rattle.reading.proofs.Outcomes.{then-ok, need-ok, ok-is}
+use Rattle.limits.specs.declared.Limits.{Limits}
+use Rattle.identification.specs.declared.Identity.{Identity}
+use Rattle.setup.specs.Layout.{Tables}
+use Rattle.setup.specs.inner.Decode.{decodeSetup}
+use Rattle.setup.specs.SoundTest.{soundTest}
+use Rattle.setup.specs.Later.{laterCall}
+use Rattle.residue_requests.specs.Listed.{residueWords}
+use Rattle.audio.specs.declared.Tally.{Tally}
+use Rattle.audio.specs.Packet.{Audio, audio}
+use Rattle.audio.specs.Tally.{tallySound, counted}
+use Rattle.audio.specs.Call.{Room, Accepted, judged, accepted}
+
+-- there is room for both outputs, and the samples can be counted
+pub record Judged (channels : ℕ) (t : Tally) (room : Room) (a : Audio) (x : Accepted) : Type 0 where
+  pub curves : leb (channels * (a .head .blocksize / 2)) (room .curves) ≡ true
+  pub codewords : leb (length (residueWords (a .items))) (room .codewords) ≡ true
+  pub step : counted t (a .head .blocksize) (a .position) ≡ ok (x .tally, x .samples)
+
+packet-judged : (channels : ℕ) (t : Tally) (room : Room) (a : Audio) (x : Accepted) → judged channels t room a ≡ ok x → (a ≡ x .packet) × Judged channels t room a x
+unfolding judged
+packet-judged channels t room a x e =
+    let curves = need-ok (leb (channels * (a .head .blocksize / 2)) (room .curves)) (refusal 17 0) _ e in
+    let codewords = need-ok (leb (length (residueWords (a .items))) (room .codewords)) (refusal 17 0) _ (curves .1) in
+    let y = then-ok (counted t (a .head .blocksize) (a .position)) _ (codewords .1) in
+    let same = ok-is (y .2) in (
+      ap (λ (z : Accepted). z .packet) same,
+      record { curves = curves .0; codewords = codewords .0; step = y .1 ∙ ap (λ (z : Accepted). ok (z .tally, z .samples)) same },
+    )
+
+module _ (limits : Limits) (i : Identity) (t : Tables) (tally : Tally) (room : Room) (s : List ℕ) (x : Accepted) where
+  -- identity, tables and tally are sound, and the packet was read and judged
+  pub record PacketAccepted : Type 0 where
+    pub tables : soundTest limits i t ≡ true
+    pub sound : tallySound i tally ≡ true
+    pub packet : audio i (decodeSetup t) s ≡ ok (x .packet)
+    pub judged : Judged (i .channels) tally room (x .packet) x
+
+  pub packet-accepted : laterCall limits i t (accepted i tally room s) ≡ ok x → PacketAccepted
+  unfolding laterCall accepted
+  packet-accepted e =
+      let tables = need-ok (soundTest limits i t) (refusal 18 0) _ e in
+      let sound = need-ok (tallySound i tally) (refusal 18 0) _ (tables .1) in
+      let read = then-ok (audio i (decodeSetup t) s) _ (sound .1) in
+      let j = packet-judged (i .channels) tally room (read .0) x (read .2) in
+      record {
+        tables = tables .0;
+        sound = sound .0;
+        packet = read .1 ∙ ap ok (j .0);
+        judged = subst (λ (a : Audio). Judged (i .channels) tally room a x) (j .0) (j .1);
+      }
