@@ -1,2 +1,4 @@
 pub mod BodyWords
 pub mod ClearLaws
+pub mod ContentLaws
+pub mod BodyLaws

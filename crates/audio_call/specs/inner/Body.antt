@@ -1,0 +1,35 @@
+-- The body of an audio packet by the tables, and what reading it leaves. Assumes nothing: these are definitions.
+use Prim.Native.Nat.{ℕ}
+use mathlib.Core.Bool.{cond}
+use mathlib.Core.List.{List, map}
+use lib.Dec.{leb}
+use lib.ListN.{length}
+use Rattle.book_codeword.specs.inner.Stored.{dimensionsIn}
+use Rattle.floor.specs.Content.{Floor}
+use Rattle.floor_values.specs.inner.Stored.{floorIn}
+use Rattle.mapping_row.specs.inner.Readable.{mappingIn}
+use Rattle.residue_pass.specs.inner.Readable.{residueIn}
+use Rattle.requests.specs.Requests.{Requests, bind, each}
+use Rattle.requests.specs.Run.{Run}
+use Rattle.floor_requests.specs.Requests.{FloorRead, floorRequests}
+use Rattle.residue_requests.specs.Listed.{residueWords}
+use Rattle.codeword_list.specs.inner.ListRead.{Ending, full, endingBy}
+use Rattle.audio.specs.Channels.{floorsOf, isUsed, coupled, allRequests}
+
+-- the floors of so many channels, by mapping number n
+abbrev pub floorsIn : List ℕ → List ℕ → ℕ → ℕ → List Floor
+floorsIn mappings floors n channels = floorsOf (floorIn floors) (mappingIn mappings n) channels
+
+-- the residues behind what the floors came to
+unfoldable pub residuesIn : List ℕ → List ℕ → List ℕ → List ℕ → ℕ → ℕ → List FloorRead → Requests Unit
+residuesIn books residues plans mappings n half vs =
+    allRequests (dimensionsIn books) (residueIn residues plans) half (mappingIn mappings n) (coupled (mappingIn mappings n .couplings) (map isUsed vs)) 0 (mappingIn mappings n .submaps)
+
+-- floors, then residues
+unfoldable pub bodyIn : List ℕ → List ℕ → List ℕ → List ℕ → List ℕ → ℕ → ℕ → ℕ → Requests Unit
+bodyIn books floors residues plans mappings n channels half =
+    bind (each floorRequests (floorsIn mappings floors n channels)) (λ vs. residuesIn books residues plans mappings n half vs)
+
+-- how reading the codewords of a run ended, in a list of so many places
+unfoldable pub endingWords : ℕ → Run Unit → Ending
+endingWords room r = cond (leb (length (residueWords (r .items))) room) (endingBy (r .value) (r .position) (length (residueWords (r .items)))) full
