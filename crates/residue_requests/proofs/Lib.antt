@@ -2,3 +2,4 @@ pub mod UnplacedLaws
 pub mod KindLaws
 pub mod AgainLaws
 pub mod PassLaws
+pub mod FirstPassLaws

@@ -1,4 +1,4 @@
--- A pass that has a book for no class reads nothing, so the later passes may end after the last one that has a book. Assumes nothing.
+-- Partitions one after the other; a pass that has a book for no class reads nothing, so the later passes may end after the last one that has a book. Assumes nothing.
 use Prim.Native.Nat.{ℕ, zero, suc, _+_, _≤_, _<_}
 use native.Mathlib.Omega.{arith}
 use mathlib.Core.List.{List, [], _∷_, _++_}
@@ -25,18 +25,8 @@ module _ (dimensionsOf : ℕ → ℕ) (r : Residue) where
   bookless-partitions pass [] h = refl
   bookless-partitions pass (c ∷ cs) h = rw (h c) (bookless-partitions pass cs h)
 
-  bookless-passes : (pass m : ℕ) (cs : List ℕ) → ((p : ℕ) → pass ≤ p → p < pass + m → Bookless r p) → flatLaterPasses dimensionsOf r pass m cs ≡ done tt
+  -- so do passes that have none, one after the other
+  pub bookless-passes : (pass m : ℕ) (cs : List ℕ) → ((p : ℕ) → pass ≤ p → p < pass + m → Bookless r p) → flatLaterPasses dimensionsOf r pass m cs ≡ done tt
   unfolding flatLaterPasses bind
   bookless-passes pass zero cs h = refl
   bookless-passes pass (suc m) cs h = rw (bookless-partitions pass cs (h pass (omega arith) (omega arith))) (bookless-passes (suc pass) m cs (λ p a b. h p (omega arith) (omega arith)))
-
-  -- n passes, and m more that have no book
-  pub last-passes : (pass n m : ℕ) (cs : List ℕ) → ((p : ℕ) → pass + n ≤ p → p < pass + (n + m) → Bookless r p)
-      → flatLaterPasses dimensionsOf r pass (n + m) cs ≡ flatLaterPasses dimensionsOf r pass n cs
-  unfolding flatLaterPasses
-  last-passes pass zero m cs h = let e : 0 + m ≡ m = omega arith in rw e (bookless-passes pass m cs (λ p a b. h p (omega arith) (omega arith)))
-  last-passes pass (suc n) m cs h =
-      let e : suc n + m ≡ suc (n + m) = omega arith in
-      rw e
-      (bind-same (flatPartitions dimensionsOf r pass cs) (λ _. flatLaterPasses dimensionsOf r (suc pass) (n + m) cs) (λ _. flatLaterPasses dimensionsOf r (suc pass) n cs)
-      (λ _. last-passes (suc pass) n m cs (λ p a b. h p (omega arith) (omega arith))))
