@@ -2,3 +2,4 @@ pub mod BodyWords
 pub mod ClearLaws
 pub mod ContentLaws
 pub mod BodyLaws
+pub mod JudgeLaws

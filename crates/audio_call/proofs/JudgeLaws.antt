@@ -1,0 +1,25 @@
+-- A packet judged, as the code asks it. Assumes nothing.
+use Prim.Native.Nat.{ℕ}
+use borrow.Author.Needs.{needs}
+use mathlib.Core.List.{List}
+use mathlib.Core.Path.{_≡_, refl, sym, ap, _∙_}
+use Rattle.reading.specs.Outcome.{refusal, Outcome, ok, bad}
+use Rattle.audio.specs.declared.Head.{Head}
+use Rattle.audio.specs.declared.Tally.{Tally}
+use Rattle.audio.specs.Tally.{counted}
+use Rattle.audio_tally.specs.declared.Counted.{Counted}
+use Rattle.audio_tally.specs.declared.Counted.the-variants as C
+use Rattle.audio_tally.specs.inner.Answers.{countedAs}
+use Rattle.audio_call.specs.declared.judge.Judged.{Judged}
+use Rattle.audio_call.specs.inner.Judged.{refusedBy, acceptedBy, finishedBy}
+
+-- the tally's step
+module _ (f : ℕ → Outcome (Tally × ℕ)) {c : Counted} (e : (stop : ℕ) → countedAs c ≡ f stop) where
+  pub finish-refused : c ≡ C.Refused → (h : Head) (used : List ℕ) (words : ℕ) {j : Judged} → j ≡ refusedBy 19 → (stop : ℕ) → j ≡ finishedBy (f stop) h used words
+  unfolding countedAs
+  finish-refused m h used words a stop = a ∙ ap (λ (o : Outcome (Tally × ℕ)). finishedBy o h used words) (ap countedAs (sym m) ∙ e stop)
+
+  pub finish-value : {after : Tally} {samples : ℕ} → c ≡ C.Value after samples → {h : Head} {used : List ℕ} {words : ℕ} (stop : ℕ)
+      → acceptedBy h used words samples after ≡ finishedBy (f stop) h used words
+  unfolding countedAs
+  finish-value m {h} {used} {words} stop = ap (λ (o : Outcome (Tally × ℕ)). finishedBy o h used words) (ap countedAs (sym m) ∙ e stop)

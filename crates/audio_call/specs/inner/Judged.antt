@@ -1,0 +1,62 @@
+-- What judging an audio packet comes to in the program, and what it leaves in the lent outputs. Assumes nothing: these are definitions.
+use Prim.Native.Nat.{ℕ, _/_}
+use mathlib.Core.Bool.{true, false}
+use mathlib.Core.List.{List, map}
+use mathlib.Core.Path.{_≡_}
+use lib.ListN.{length, replicate}
+use lib.Seq.{sets}
+use Rattle.reading.specs.Least.{one}
+use Rattle.reading.specs.Outcome.{Outcome, ok, bad}
+use Rattle.reading.specs.Pad.{pad}
+use Rattle.setup.specs.Content.{Setup}
+use Rattle.residue_requests.specs.Listed.{residueWords, listed}
+use Rattle.audio.specs.declared.Head.{Head}
+use Rattle.audio.specs.declared.Tally.{Tally}
+use Rattle.audio.specs.Channels.{isUsed}
+use Rattle.audio.specs.Packet.{channelFloors}
+use Rattle.audio.specs.Curves.{curvesOf}
+use Rattle.audio.specs.Call.{Accepted}
+use Rattle.audio_call.specs.declared.judge.Judged.{Judged}
+
+-- a refusal as the program holds it
+abbrev pub refusedBy : ℕ → Judged
+refusedBy n =
+    record {
+      accepted = false;
+      refusal = n;
+      head = record { mode = 0; blockflag = 0; blocksize = 0; previous = 0; next = 0 };
+      used = replicate 255 0;
+      words = 0;
+      samples = 0;
+      tally = record { blocksize = 0; samples = 0 };
+    }
+
+-- an acceptance
+abbrev pub acceptedBy : Head → List ℕ → ℕ → ℕ → Tally → Judged
+acceptedBy h used words samples t =
+    record { accepted = true; refusal = 0; head = h; used = used; words = words; samples = samples; tally = t }
+
+-- a packet that was read, with the tally's step
+abbrev pub finishedBy : Outcome (Tally × ℕ) → Head → List ℕ → ℕ → Judged
+finishedBy (ok x) h used words = acceptedBy h used words (x .1) (x .0)
+finishedBy (bad z) h used words = refusedBy (z .number)
+
+abbrev pub judgement : Outcome Accepted → Judged
+judgement (ok x) =
+    acceptedBy (x .packet .head) (pad 255 (map (λ f. one (isUsed f)) (x .packet .floors))) (length (residueWords (x .packet .items))) (x .samples) (x .tally)
+judgement (bad z) = refusedBy (z .number)
+
+-- its curves and its codewords, for so many channels by a content
+abbrev pub curvesBy : ℕ → Setup → Accepted → List ℕ
+curvesBy channels c x = curvesOf (x .packet .head .blocksize / 2) (channelFloors channels c (x .packet .head)) (x .packet .floors)
+
+abbrev pub wordsBy : Accepted → List ℕ
+wordsBy x = map listed (residueWords (x .packet .items))
+
+-- a packet that came to o, read into lent outputs: accepted, its curves and codewords stand at their fronts. A refusal says nothing of what they hold
+pub record JudgedIs (channels : ℕ) (c : Setup) (o : Outcome Accepted) (r : Judged) (entry exit : List ℕ) (list list′ : List ℕ) : Type 0 where
+  pub answer : r ≡ judgement o
+  pub curves-long : length exit ≡ length entry
+  pub words-long : length list′ ≡ length list
+  pub curves : (x : Accepted) → o ≡ ok x → exit ≡ sets entry 0 (curvesBy channels c x)
+  pub words : (x : Accepted) → o ≡ ok x → list′ ≡ sets list 0 (wordsBy x)
