@@ -3,3 +3,4 @@ pub mod ClearLaws
 pub mod ContentLaws
 pub mod BodyLaws
 pub mod JudgeLaws
+pub mod PacketLaws

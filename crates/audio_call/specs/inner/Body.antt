@@ -2,8 +2,12 @@
 use Prim.Native.Nat.{ℕ}
 use mathlib.Core.Bool.{cond}
 use mathlib.Core.List.{List, map}
+use mathlib.Core.Path.{_≡_}
 use lib.Dec.{leb}
 use lib.ListN.{length}
+use lib.Seq.{sets}
+use Rattle.reading.specs.Least.{one}
+use Rattle.reading.specs.Pad.{pad}
 use Rattle.book_codeword.specs.inner.Stored.{dimensionsIn}
 use Rattle.floor.specs.Content.{Floor}
 use Rattle.floor_values.specs.inner.Stored.{floorIn}
@@ -12,9 +16,12 @@ use Rattle.residue_pass.specs.inner.Readable.{residueIn}
 use Rattle.requests.specs.Requests.{Requests, bind, each}
 use Rattle.requests.specs.Run.{Run}
 use Rattle.floor_requests.specs.Requests.{FloorRead, floorRequests}
-use Rattle.residue_requests.specs.Listed.{residueWords}
-use Rattle.codeword_list.specs.inner.ListRead.{Ending, full, endingBy}
+use Rattle.residue_requests.specs.Listed.{residueWords, listed}
+use Rattle.codeword_list.specs.inner.ListRead.{Ending, full, endingOf, endingBy}
 use Rattle.audio.specs.Channels.{floorsOf, isUsed, coupled, allRequests}
+use Rattle.audio.specs.Packet.{byChannel}
+use Rattle.audio.specs.Curves.{curvesOf}
+use Rattle.audio_call.specs.declared.body.BodyRead.{BodyRead}
 
 -- the floors of so many channels, by mapping number n
 abbrev pub floorsIn : List ℕ → List ℕ → ℕ → ℕ → List Floor
@@ -33,3 +40,10 @@ bodyIn books floors residues plans mappings n channels half =
 -- how reading the codewords of a run ended, in a list of so many places
 unfoldable pub endingWords : ℕ → Run Unit → Ending
 endingWords room r = cond (leb (length (residueWords (r .items))) room) (endingBy (r .value) (r .position) (length (residueWords (r .items)))) full
+
+-- a body whose run is r and whose whole floors are vs, of so many channels, read into lent outputs
+pub record BodyIs (r : Run Unit) (fs : List Floor) (vs : List FloorRead) (channels half : ℕ) (x : BodyRead) (entry exit list list′ : List ℕ) : Type 0 where
+  pub used : x .used ≡ pad 255 (map (λ f. one (isUsed f)) vs)
+  pub ending : endingOf (x .words) ≡ endingWords (length list) r
+  pub curves : exit ≡ sets entry 0 (curvesOf half fs (byChannel channels vs))
+  pub words : list′ ≡ sets list 0 (map listed (residueWords (r .items)))
