@@ -4,3 +4,4 @@ pub mod ContentLaws
 pub mod BodyLaws
 pub mod JudgeLaws
 pub mod PacketLaws
+pub mod HeadLaws
