@@ -5,4 +5,6 @@ pub mod Tally
 pub mod Curves
 pub mod Call
 pub mod Claims
+pub mod ExampleSetup
+pub mod ExamplePackets
 pub mod Vectors
