@@ -31,6 +31,7 @@ use Rattle.audio.specs.Curves.{pointsOf, curveOf, curvesOf}
 use Rattle.audio.specs.Call.{Room, Accepted, accepted, answered, audioCall}
 use Rattle.audio.specs.Claims.{NamesEntry, Outputs}
 use Rattle.audio.proofs.Accepted.{packet-accepted}
+use Rattle.audio.proofs.UntilCut.{packet-until-cut}
 
 -- CURVES: a list of bytes
 abbrev Byte : ℕ → Type 0
@@ -129,4 +130,5 @@ module _ (limits : Limits) (i : Identity) (t : Tables) (tally : Tally) (s : List
             bytes-get (audioCall limits i t tally s room .curves)
             (bytes-answered i tally room (decodeSetup t) (laterCall limits i t (accepted i tally room s)));
         entries = λ x e. audio-named (decodeSetup t) i s (x .packet) (packet-accepted limits i t tally room s x e .packet);
+        read-until-cut = λ x e. packet-until-cut i (decodeSetup t) s (x .packet) (packet-accepted limits i t tally room s x e .packet);
       }

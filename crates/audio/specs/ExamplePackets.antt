@@ -1,6 +1,6 @@
 -- Small packets for the setup of specs/ExampleSetup.antt, and what they hold (specs/Vectors.antt). Bytes are written in bits: the last digit is read first.
 use Prim.Native.Nat.{ℕ}
-use mathlib.Core.List.{List, [], _∷_, _++_}
+use mathlib.Core.List.{List, [], _∷_}
 use lib.ListN.{replicate}
 use Rattle.audio.specs.declared.Tally.{Tally}
 use Rattle.audio.specs.declared.AudioAnswer.{AudioAnswer}

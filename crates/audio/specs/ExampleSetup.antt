@@ -1,4 +1,4 @@
--- A small setup for worked packets (specs/ExamplePackets.antt). Books with a sole used entry take no bits, so packets stay short; and no ledger has to be worked out.
+-- A small setup for worked packets (specs/ExamplePackets.antt). A sole used entry takes no bits, so packets stay short and no ledger has to be worked out.
 use Prim.Native.Nat.{ℕ}
 use mathlib.Core.List.{List, [], _∷_}
 use lib.IntN.{pos}

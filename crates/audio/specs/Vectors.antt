@@ -28,8 +28,6 @@ use Rattle.requests.specs.Values.{wholeValues}
 use Rattle.floor_requests.specs.Requests.{classRequests, valueRequests, partitionRequests, usedRequests, floorRequests}
 use Rattle.residue_requests.specs.Requests as residue
 use Rattle.residue_requests.specs.Listed.{residueWords, listed}
-use Rattle.audio.specs.declared.Head.{Head}
-use Rattle.audio.specs.declared.Window.{Window}
 use Rattle.audio.specs.declared.Tally.{Tally}
 use Rattle.audio.specs.Head.{modeAt, blockSize, flagRequests, modeRequests, headRequests, headOf, window}
 use Rattle.audio.specs.Channels.{submapOf, floorNumber, floorsOf, isUsed, couple, coupled, channelsOf, liveOf, vectorSize, vectorCount}
