@@ -8,3 +8,4 @@ pub mod Claims
 pub mod ExampleSetup
 pub mod ExamplePackets
 pub mod Vectors
+pub mod ChannelVectors
