@@ -72,3 +72,7 @@ uncoupled = 0b10001100 ∷ 0b00001000 ∷ 0b00010001 ∷ 0b11100001 ∷ []
 -- the same of one channel, whose floor ends with the packet
 abbrev pub of-one-channel : List ℕ
 of-one-channel = 0b10001100 ∷ 0b00001000 ∷ []
+
+-- and a byte more, with the codewords 01 and 001
+abbrev pub vectors-of-one-channel : List ℕ
+vectors-of-one-channel = 0b10001100 ∷ 0b00001000 ∷ 0b00010010 ∷ []

@@ -33,9 +33,9 @@ abbrev bookOf : ℕ → List ℕ → Book
 bookOf dimensions lengths =
     record { dimensions = dimensions; lengths = lengths; lookup = 1; minimum = 0; delta = 0; width = 1; sequence = 0; multiplicands = replicate 2 0 }
 
--- book 0 gives entry 1 and book 1 entry 2, which takes no bits; every codeword of book 2 has 4 bits
-abbrev books : List Book
-books = bookOf 1 (0 ∷ 1 ∷ []) ∷ bookOf 2 (0 ∷ 0 ∷ 1 ∷ 0 ∷ []) ∷ bookOf 2 (replicate 16 4) ∷ []
+-- book 0 gives entry 1 and book 1 entry 2, which takes no bits; book 2 has these lengths
+abbrev books : List ℕ → List Book
+books lengths = bookOf 1 (0 ∷ 1 ∷ []) ∷ bookOf 2 (0 ∷ 0 ∷ 1 ∷ 0 ∷ []) ∷ bookOf 2 lengths ∷ []
 
 -- X 0, 32 and 16; the first two values have 6 bits each, the third is read with book 0
 abbrev floors : List Floor
@@ -62,7 +62,7 @@ residueOf classbook first second =
       plan = (0 ∷ 0 ∷ second ∷ 0 ∷ 0 ∷ 0 ∷ 0 ∷ 0 ∷ []) ∷ (first ∷ 0 ∷ 0 ∷ 0 ∷ 0 ∷ 0 ∷ 0 ∷ 0 ∷ []) ∷ [];
     }
 
--- the first takes no bits; the second has vectors of 4 bits, the third class words of 4 bits
+-- the first takes no bits; the second has the vectors of book 2, the third its class words
 abbrev residues : List Residue
 residues = residueOf 1 1 1 ∷ residueOf 1 3 0 ∷ residueOf 2 1 0 ∷ []
 
@@ -78,5 +78,16 @@ mappings =
 abbrev modes : List Mode
 modes = record { blockflag = 0; mapping = 0 } ∷ record { blockflag = 1; mapping = 2 } ∷ record { blockflag = 0; mapping = 1 } ∷ []
 
+abbrev setupOf : List ℕ → Setup
+setupOf lengths = record { books = books lengths; floors = floors; residues = residues; mappings = mappings; modes = modes }
+
+-- every codeword of book 2 has 4 bits
 abbrev pub small : Setup
-small = record { books = books; floors = floors; residues = residues; mappings = mappings; modes = modes }
+small = setupOf (replicate 16 4)
+
+-- the codewords of book 2 are 000, 1, 001 and 01
+abbrev pub lengthsCoded : List ℕ
+lengthsCoded = 3 ∷ 1 ∷ 3 ∷ 2 ∷ []
+
+abbrev pub coded : Setup
+coded = setupOf lengthsCoded

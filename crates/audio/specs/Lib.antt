@@ -9,3 +9,4 @@ pub mod ExampleSetup
 pub mod ExamplePackets
 pub mod Vectors
 pub mod ChannelVectors
+pub mod CodedVectors
