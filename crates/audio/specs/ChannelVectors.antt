@@ -1,12 +1,12 @@
 -- Channels worked out: which are live behind coupling steps, which belong to a submap, and how many vectors and partitions a submap's residue has.
 use Prim.Native.Nat.{ℕ}
-use mathlib.Core.Bool.{Bool, true, false}
-use mathlib.Core.List.{List, [], _∷_}
+use mathlib.Core.Bool.{true, false}
+use mathlib.Core.List.{[], _∷_}
 use mathlib.Core.Path.{_≡_, refl}
 use Rattle.reading.specs.Least.{count}
 use Rattle.reading.specs.Tabulate.{tabulate}
 use Rattle.residue.specs.Content.{Residue}
-use Rattle.mapping.specs.Content.{Coupling, Submap, Mapping}
+use Rattle.mapping.specs.Content.{Coupling, Mapping}
 use Rattle.residue_requests.specs.Requests.{partitionCount}
 use Rattle.audio.specs.Channels.{submapOf, floorNumber, couple, coupled, channelsOf, liveOf, vectorSize, vectorCount}
 

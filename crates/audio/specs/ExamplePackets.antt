@@ -76,3 +76,7 @@ of-one-channel = 0b10001100 ∷ 0b00001000 ∷ []
 -- and a byte more, with the codewords 01 and 001
 abbrev pub vectors-of-one-channel : List ℕ
 vectors-of-one-channel = 0b10001100 ∷ 0b00001000 ∷ 0b00010010 ∷ []
+
+-- type bit 0, mode 1, flags 1 and 0; channel 0: flag 1, values 8 and 2; then the class words 1 and 01
+abbrev pub class-words-of-one-channel : List ℕ
+class-words-of-one-channel = 0b00101010 ∷ 0b00100010 ∷ 0b00010100 ∷ []

@@ -3,39 +3,15 @@ use Prim.Native.Nat.{ℕ, _-_, _^_}
 use mathlib.Core.List.{List, [], _∷_, _++_}
 use mathlib.Core.Path.{_≡_, refl}
 use lib.ListN.{take, replicate}
-use Rattle.reading.specs.Least.{count, lowest}
-use Rattle.reading.specs.Lists.{rows}
 use Rattle.reading.specs.Outcome.{refusal, bad}
-use Rattle.reading.specs.Pad.{pad}
-use Rattle.reading.specs.Reader.{mapped}
-use Rattle.reading.specs.Tabulate.{tabulate}
-use Rattle.bits.specs.Field.{bitAt, valueAt, field}
-use Rattle.bits.specs.Ilog.{highestSet, ilog}
 use Rattle.identification.specs.declared.Identity.{Identity}
-use Rattle.codeword_assignment.specs.Book as assignment
-use Rattle.codeword.specs.Codeword.{isCodeword, entryOf, matching, codeword}
-use Rattle.setup.specs.Content.{lengthsOf, dimensionsOf}
-use Rattle.floor_line.specs.Line.{offset, line}
-use Rattle.floor_line.specs.Search.{searched}
-use Rattle.floor_line.specs.Neighbours.{takesLow, takesHigh, lowNeighbour, highNeighbour}
-use Rattle.floor_points.specs.FinalY as final
-use Rattle.floor_curve.specs.Curve as curve
-use Rattle.floor_partition.specs.Partition.{chosen, whole}
-use Rattle.floor_values.specs.Values.{firstBits}
-use Rattle.requests.specs.Requests.{request, bind, many, each}
+use Rattle.setup.specs.Content.{lengthsOf}
 use Rattle.requests.specs.Run.{read, run}
-use Rattle.requests.specs.Values.{wholeValues}
-use Rattle.floor_requests.specs.Requests.{classRequests, valueRequests, partitionRequests, usedRequests, floorRequests}
-use Rattle.residue_requests.specs.Requests as residue
-use Rattle.residue_requests.specs.Listed.{residueWords, listed}
 use Rattle.audio.specs.declared.Tally.{Tally}
-use Rattle.audio.specs.Head.{modeAt, blockSize, flagRequests, modeRequests, headRequests, headOf, window}
-use Rattle.audio.specs.Channels.{submapOf, floorNumber, floorsOf, isUsed, couple, coupled, channelsOf, liveOf, vectorSize, vectorCount}
-use Rattle.audio.specs.Channels.{submapRequests, allRequests}
-use Rattle.audio.specs.Packet.{mappingOf, channelFloors, residuesAfter, bodyRequests, byChannel, bodyAt, audio}
-use Rattle.audio.specs.Tally.{tallySound, finished, counted}
-use Rattle.audio.specs.Curves.{curveOf, curvesOf}
-use Rattle.audio.specs.Call.{Room, Left, judged, accepted, answered, audioBy}
+use Rattle.audio.specs.Head.{headRequests, headOf, window}
+use Rattle.audio.specs.Tally.{finished}
+use Rattle.audio.specs.Call.{Room, Left, audioBy}
+use Rattle.audio.specs.Computation.{computation}
 use Rattle.audio.specs.ExampleSetup.{mono, stereo, small}
 use Rattle.audio.specs.ExamplePackets.{last, roomOf, leftBy, shortAnswer, short, drawn, codewordsOfShort, long, longAnswer, uncoupled, of-one-channel}
 
@@ -99,17 +75,7 @@ pub record PacketVectors : Type 0 where
   pub at-the-end : called mono (last 100) of-one-channel room .codewords ≡ 4 ∷ replicate 17 0
 
 pub packets : PacketVectors
-unfolding
-    audioBy answered accepted judged audio bodyAt byChannel bodyRequests residuesAfter channelFloors mappingOf headOf headRequests modeRequests
-    flagRequests blockSize modeAt window submapOf floorNumber floorsOf isUsed couple coupled channelsOf liveOf vectorSize vectorCount submapRequests
-    allRequests tallySound finished counted curveOf curvesOf count lowest rows pad mapped tabulate bitAt valueAt field highestSet ilog assignment.used
-    assignment.isUsed assignment.isLone assignment.firstUsed isCodeword entryOf matching codeword lengthsOf dimensionsOf offset line searched takesLow
-    takesHigh lowNeighbour highNeighbour final.rangeOf final.predicted final.room final.unwrapped final.clamped final.flagged final.step final.steps
-    final.begun final.points final.fitting final.finalYs curve.takesLeft curve.takesRight curve.lastAt curve.nextAfter curve.heightAt curve.natural
-    curve.lineAt curve.between curve.curveAt curve.places curve.fitting curve.curve chosen whole firstBits request bind many each read run wholeValues
-    classRequests valueRequests partitionRequests usedRequests floorRequests residue.planned residue.digit residue.classesOf residue.vectors
-    residue.partition residue.acrossVectors residue.classWords residue.firstPass residue.laterPass residue.laterPasses residue.residueRequests
-    residue.partitionCount residueWords listed
+unfolding computation
 packets =
     record {
       accepted = refl;
