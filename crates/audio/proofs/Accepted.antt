@@ -25,7 +25,8 @@ pub record Judged (channels : ℕ) (t : Tally) (room : Room) (a : Audio) (x : Ac
   pub codewords : leb (length (residueWords (a .items))) (room .codewords) ≡ true
   pub step : counted t (a .head .blocksize) (a .position) ≡ ok (x .tally, x .samples)
 
-packet-judged : (channels : ℕ) (t : Tally) (room : Room) (a : Audio) (x : Accepted) → judged channels t room a ≡ ok x → (a ≡ x .packet) × Judged channels t room a x
+packet-judged : (channels : ℕ) (t : Tally) (room : Room) (a : Audio) (x : Accepted) → judged channels t room a ≡ ok x
+    → (a ≡ x .packet) × Judged channels t room a x
 unfolding judged
 packet-judged channels t room a x e =
     let curves = need-ok (leb (channels * (a .head .blocksize / 2)) (room .curves)) (refusal 17 0) _ e in

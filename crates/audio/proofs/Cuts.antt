@@ -59,7 +59,8 @@ unfolding residueWords
 words-append [] m = refl
 words-append (x ∷ l) m = rw (words-append l m) (go (isResidue (x .request)))
   where
-    go : (b : Bool) → cond b (x ∷ (residueWords l ++ residueWords m)) (residueWords l ++ residueWords m) ≡ cond b (x ∷ residueWords l) (residueWords l) ++ residueWords m
+    go : (b : Bool) → cond b (x ∷ (residueWords l ++ residueWords m)) (residueWords l ++ residueWords m)
+        ≡ cond b (x ∷ residueWords l) (residueWords l) ++ residueWords m
     go true = refl
     go false = refl
 
@@ -148,7 +149,8 @@ module _ (limits : Limits) (i : Identity) (t : Tables) (tally : Tally) (room : R
   cut-stands = record { stands = go }
     where
       go : (s : List ℕ) (m : ℕ) (x : Accepted) → called s ≡ ok x
-          → ((place : ℕ) × (called (take m s) ≡ bad (refusal 1 place))) ⊎ ((x′ : Accepted) × (called (take m s) ≡ ok x′) × CutPacket (x .packet) (x′ .packet))
+          → ((place : ℕ) × (called (take m s) ≡ bad (refusal 1 place)))
+          ⊎ ((x′ : Accepted) × (called (take m s) ≡ ok x′) × CutPacket (x .packet) (x′ .packet))
       go s m x e =
           let c = decodeSetup t in
           let p = packet-accepted limits i t tally room s x e in

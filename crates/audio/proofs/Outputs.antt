@@ -31,6 +31,7 @@ use Rattle.audio.specs.Curves.{pointsOf, curveOf, curvesOf}
 use Rattle.audio.specs.Call.{Room, Accepted, accepted, answered, audioCall}
 use Rattle.audio.specs.Claims.{NamesEntry, Outputs}
 use Rattle.audio.proofs.Accepted.{packet-accepted}
+use Rattle.audio.proofs.UntilCut.{packet-until-cut}
 
 -- CURVES: a list of bytes
 abbrev Byte : ℕ → Type 0
@@ -116,7 +117,8 @@ module _ (c : Setup) where
       let x = then-ok (headOf (headRun i c s)) _ e in
       let body = bodyRequests (i .channels) c (x .0 .0) in
       subst (λ (y : Audio). Each Named (y .items)) (ok-is (x .2))
-      (each-append Named (headRun i c s .items) (run (read (lengthsOf c)) body s (x .0 .1) .items) (run-named (headRequests i (c .modes)) s 0) (run-named body s (x .0 .1)))
+      (each-append Named (headRun i c s .items) (run (read (lengthsOf c)) body s (x .0 .1) .items)
+      (run-named (headRequests i (c .modes)) s 0) (run-named body s (x .0 .1)))
 
 -- ALL OF IT
 module _ (limits : Limits) (i : Identity) (t : Tables) (tally : Tally) (s : List ℕ) (room : Room) where
@@ -124,6 +126,9 @@ module _ (limits : Limits) (i : Identity) (t : Tables) (tally : Tally) (s : List
   unfolding audioCall
   outputs =
       record {
-        bytes = bytes-get (audioCall limits i t tally s room .curves) (bytes-answered i tally room (decodeSetup t) (laterCall limits i t (accepted i tally room s)));
+        bytes =
+            bytes-get (audioCall limits i t tally s room .curves)
+            (bytes-answered i tally room (decodeSetup t) (laterCall limits i t (accepted i tally room s)));
         entries = λ x e. audio-named (decodeSetup t) i s (x .packet) (packet-accepted limits i t tally room s x e .packet);
+        read-until-cut = λ x e. packet-until-cut i (decodeSetup t) s (x .packet) (packet-accepted limits i t tally room s x e .packet);
       }

@@ -5,4 +5,9 @@ pub mod Tally
 pub mod Curves
 pub mod Call
 pub mod Claims
+pub mod Computation
+pub mod ExampleSetup
+pub mod ExamplePackets
 pub mod Vectors
+pub mod ChannelVectors
+pub mod CodedVectors

@@ -1,10 +1,18 @@
--- 01's figures for windows and samples, and small packets worked out.
+-- 01's figures for windows and samples; and the packets of specs/ExamplePackets.antt worked out, one for every way out and every kind of cut.
+use Prim.Native.Nat.{ℕ, _-_, _^_}
+use mathlib.Core.List.{List, [], _∷_, _++_}
 use mathlib.Core.Path.{_≡_, refl}
-use Rattle.audio.specs.declared.Head.{Head}
-use Rattle.audio.specs.declared.Window.{Window}
+use lib.ListN.{take, replicate}
+use Rattle.reading.specs.Outcome.{refusal, bad}
+use Rattle.setup.specs.Content.{lengthsOf}
+use Rattle.requests.specs.Run.{read, run}
 use Rattle.audio.specs.declared.Tally.{Tally}
-use Rattle.audio.specs.Head.{window}
+use Rattle.audio.specs.Head.{headRequests, headOf, window}
 use Rattle.audio.specs.Tally.{finished}
+use Rattle.audio.specs.Call.{Room, Left, audioBy}
+use Rattle.audio.specs.Computation.{computation}
+use Rattle.audio.specs.ExampleSetup.{mono, stereo, small, smallMono}
+use Rattle.audio.specs.ExamplePackets.{last, roomOf, leftBy, shortAnswer, short, drawn, codewordsOfShort, long, longAnswer, uncoupled, of-one-channel}
 
 -- n 2048, short 256, both flags 0: left 448 to 576, right 1472 to 1600 (01)
 pub figure-window :
@@ -17,3 +25,73 @@ figure-window = refl
 pub figure-samples : finished (record { blocksize = 256; samples = 0 }) 2048 ≡ 576
 unfolding finished
 figure-samples = refl
+
+abbrev called : Tally → List ℕ → Room → Left
+called t s room = audioBy small stereo t s room
+
+abbrev room : Room
+room = roomOf 66 18
+
+pub record PacketVectors : Type 0 where
+  -- accepted, with two places more of each output than are needed
+  pub accepted :
+      called (last 100) short room
+      ≡ record { answer = shortAnswer 1 16; curves = drawn ++ replicate 34 0; codewords = codewordsOfShort ++ replicate 2 0; tally = last 132 }
+  -- a stream's first packet finishes nothing
+  pub first : called (record { blocksize = 0; samples = 0 }) short room .tally ≡ last 0
+  -- EVERY WAY OUT: 1 for a packet of no bytes; 1 for a flag in bit 8, since 33 modes take 6 bits; 15; 16, since mode 3 is not set up
+  pub empty : called (last 100) [] room ≡ leftBy 1 (last 100) room
+  pub flag-cut :
+      headOf (run (read (lengthsOf small)) (headRequests stereo (replicate 33 (record { blockflag = 1; mapping = 0 }))) (0 ∷ []) 0) ≡ bad (refusal 1 8)
+  pub type-bit : called (last 100) (0b1 ∷ []) room ≡ leftBy 15 (last 100) room
+  pub no-mode : called (last 100) (0b110 ∷ []) room ≡ leftBy 16 (last 100) room
+  -- 17: a place too few for the curves, or for the codewords; not with exact room
+  pub no-room-curves : called (last 100) short (roomOf 63 16) ≡ leftBy 17 (last 100) (roomOf 63 16)
+  pub no-room-codewords : called (last 100) short (roomOf 64 15) ≡ leftBy 17 (last 100) (roomOf 64 15)
+  pub exact-room : called (last 100) short (roomOf 64 16) .codewords ≡ codewordsOfShort
+  -- 18 for the tally, before the type bit is judged; 19 where 32 samples more come to 2^64, not where they come to one less
+  pub unsound : called (record { blocksize = 65; samples = 0 }) (0b1 ∷ []) room ≡ leftBy 18 (record { blocksize = 65; samples = 0 }) room
+  pub too-many : called (last (2 ^ 64 - 32)) short room ≡ leftBy 19 (last (2 ^ 64 - 32)) room
+  pub most : called (last (2 ^ 64 - 33)) short room .tally ≡ last (2 ^ 64 - 1)
+  -- CUT in the floor of channel 0: both are unused; just behind it: channel 1 is unused, and no codeword is read, though none would take a bit
+  pub in-floor :
+      called (last 100) (take 1 short) room
+      ≡ record { answer = shortAnswer 0 0; curves = replicate 66 0; codewords = replicate 18 0; tally = last 132 }
+  pub after-floor :
+      called (last 100) (take 2 short) room
+      ≡ record { answer = shortAnswer 1 0; curves = drawn ++ replicate 34 0; codewords = replicate 18 0; tally = last 132 }
+  -- cut in a class word: both floors stand, flat from X 32 on
+  pub in-class-word :
+      called (last 100) long (roomOf 128 1)
+      ≡ record {
+        answer = longAnswer;
+        curves = drawn ++ replicate 32 8 ++ drawn ++ replicate 32 8;
+        codewords = 0 ∷ [];
+        tally = record { blocksize = 128; samples = 148 };
+      }
+  -- cut in a vector: the class words before it are listed; exactly at the end of the packet a class word without bits is, and no vector
+  pub in-vector : called (last 100) uncoupled room .codewords ≡ 4 ∷ 4 ∷ replicate 16 0
+  pub at-the-end : audioBy smallMono mono (last 100) of-one-channel room .codewords ≡ 4 ∷ replicate 17 0
+
+pub packets : PacketVectors
+unfolding computation
+packets =
+    record {
+      accepted = refl;
+      first = refl;
+      empty = refl;
+      flag-cut = refl;
+      type-bit = refl;
+      no-mode = refl;
+      no-room-curves = refl;
+      no-room-codewords = refl;
+      exact-room = refl;
+      unsound = refl;
+      too-many = refl;
+      most = refl;
+      in-floor = refl;
+      after-floor = refl;
+      in-class-word = refl;
+      in-vector = refl;
+      at-the-end = refl;
+    }
