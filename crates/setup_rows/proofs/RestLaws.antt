@@ -1,21 +1,23 @@
 -- The floors, mappings and modes of sound tables: each row is the content's, and what it names is set up. Assumes nothing.
 use Prim.Native.Nat.{ℕ, zero, suc, _+_, _*_, _≤_, _<_}
 use native.Mathlib.Omega.{arith}
-use borrow.Author.Tests.{ltb-true}
+use borrow.Author.Tests.{ltb-true, leb-true}
 use mathlib.Core.List.{List}
 use mathlib.Core.Logic.{⊎-elim}
 use mathlib.Core.Path.{_≡_, refl, sym, ap, _∙_}
 use lib.ListN.{length, getD, take, drop}
-use lib.Seq.{drop-drop}
+use lib.Seq.{slice, drop-drop}
 use Rattle.reading.proofs.EachLaws.{each-at}
 use Rattle.reading.proofs.Least.{lt-or-le}
 use Rattle.reading.proofs.Stored.{Stored}
 use Rattle.limits.specs.declared.Limits.{Limits}
+use Rattle.floor_x_list.specs.Content.{xList}
 use Rattle.floor.specs.Content.{Floor, noFloor}
 use Rattle.floor.specs.Layout.{floorRow}
 use Rattle.floor.specs.inner.Valid.{ValidFloor}
-use Rattle.floor.proofs.Decoded.{floor-long, floor-decoded-at}
+use Rattle.floor.proofs.Decoded.{floor-long, floor-stored, floor-decoded-at}
 use Rattle.floor.proofs.Laws.{floors-row}
+use Rattle.floor_row.proofs.Laws.{x-list-is}
 use Rattle.floor_values.specs.inner.Stored.{floorIn}
 use Rattle.mapping.specs.Content.{noCoupling, noSubmap, Mapping, noMapping}
 use Rattle.mapping.specs.Rules.{Coupling11, Submap11}
@@ -70,6 +72,15 @@ module _ {limits : Limits} {channels : ℕ} {t : Tables} (x : Sound limits chann
     unfolding floorIn
     floor-is = floor-decoded-at (277 * n) (length (x .content .books)) own-floor floor-valid floor-row
 
+    -- its row holds the whole X list
+    list-count : getD (t .floors) (277 * n + 4) 0 ≡ 2 + length (own-floor .xs)
+    list-count = floor-stored own-floor floor-row .values
+
+    list-is : slice (277 * n + 212) (277 * n + 212 + getD (t .floors) (277 * n + 4) 0) (t .floors) ≡ xList (own-floor .rangebits) (own-floor .xs)
+    list-is =
+        let few = leb-true (length (own-floor .xs)) 63 (floor-valid .rules .count) in
+        rw list-count (x-list-is (floor-stored own-floor floor-row) (omega arith))
+
     pub floor-sound : limits .«book_entries» ≤ 65536 → FloorSound t (x .content) n
     floor-sound few =
         let l = floor-long own-floor in
@@ -84,6 +95,8 @@ module _ {limits : Limits} {channels : ℕ} {t : Tables} (x : Sound limits chann
             readable = λ b g. book-readable x b g few;
           };
           content = floor-is;
+          x-count = rw floor-is (list-count ∙ omega arith);
+          x-list = rw floor-is list-is;
         }
 
   -- MAPPING n

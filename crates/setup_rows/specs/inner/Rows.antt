@@ -3,10 +3,13 @@
 use Prim.Native.Nat.{ℕ, _+_, _*_, _≤_, _<_}
 use mathlib.Core.Path.{_≡_}
 use lib.ListN.{length, getD}
+use lib.Seq.{slice}
 use Rattle.reading.specs.Counted.{Counted}
 use Rattle.limits.specs.declared.Limits.{Limits}
 use Rattle.book_codeword.specs.inner.Stored.{lengthsIn, dimensionsIn, BookStored}
+use Rattle.floor_x_list.specs.Content.{xList}
 use Rattle.floor.specs.Content.{noFloor}
+use Rattle.floor.specs.Layout.{floorWidth, xListPlace}
 use Rattle.floor_partition.specs.inner.Stored.{Readable}
 use Rattle.floor_values.specs.inner.Stored.{floorIn, FloorStored}
 use Rattle.residue.specs.Content.{Residue, noResidue}
@@ -43,6 +46,10 @@ pub record BookSound (t : Tables) (b : ℕ) : Type 0 where
 pub record FloorSound (t : Tables) (c : Setup) (n : ℕ) : Type 0 where
   pub stored : FloorStored (t .floors) (t .books) (t .lengths) (t .codewords) n
   pub content : floorIn (t .floors) n ≡ getD (c .floors) n noFloor
+  -- its row holds the whole X list, the two implied X included, and its length
+  pub x-count : getD (t .floors) (floorWidth * n + 4) 0 ≡ length (xList (floorIn (t .floors) n .rangebits) (floorIn (t .floors) n .xs))
+  pub x-list : slice (floorWidth * n + xListPlace) (floorWidth * n + xListPlace + getD (t .floors) (floorWidth * n + 4) 0) (t .floors)
+      ≡ xList (floorIn (t .floors) n .rangebits) (floorIn (t .floors) n .xs)
 
 -- residue number n is r, by its row and however its fields before the plan were read
 pub record ResidueSound (t : Tables) (n : ℕ) (r : Residue) : Type 0 where
