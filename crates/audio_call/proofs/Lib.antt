@@ -5,3 +5,4 @@ pub mod BodyLaws
 pub mod JudgeLaws
 pub mod PacketLaws
 pub mod HeadLaws
+pub mod AcceptedLaws

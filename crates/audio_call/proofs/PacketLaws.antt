@@ -108,7 +108,7 @@ few-values reads s (f ∷ fs) k =
     go (some a) l h = omega arith
     go none l h = omega arith
 
-bad-ok : {A : Type 0} {z : Refusal} {a : A} → bad z ≡ ok a → ⊥
+pub bad-ok : {A : Type 0} {z : Refusal} {a : A} → bad z ≡ ok a → ⊥
 bad-ok e = let z : _≡_ {A = ℕ} 0 1 = cc in omega arith
 
 -- floors behind a cut are unused: in the answer they are zeros, as what lies behind the last channel is
