@@ -60,7 +60,7 @@ floors =
     }
     ∷ []
 
--- three partitions of 2 values, and two classes: in pass 0 class 1 has book `first`, in pass 2 class 0 has book `third`, each as its number plus one, 0 for none
+-- three partitions of 2 values, two classes: class 1 has book `first` in pass 0, class 0 has book `third` in pass 2, each as its number plus one, 0 for none
 abbrev residueOf : ℕ → ℕ → ℕ → Residue
 residueOf classbook first third =
     record {
