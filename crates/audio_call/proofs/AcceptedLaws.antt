@@ -1,5 +1,6 @@
 -- A whole packet judged: 18 for the tally, the head, then what follows it. Assumes nothing.
 use Prim.Native.Nat.{ℕ}
+use native.Mathlib.Omega.{arith}
 use mathlib.Core.Bool.{Bool, true, false}
 use mathlib.Core.List.{List}
 use mathlib.Core.Path.{_≡_, refl, ap, sym, subst, _∙_}
@@ -26,6 +27,7 @@ module _ (i : Identity) (c : Setup) (t : Tally) (s : List ℕ) (entry list : Lis
   untouched e a =
       record {
         answer = a ∙ ap judgement (sym e);
+        size = rw a (omega arith);
         curves-long = refl;
         words-long = refl;
         curves = λ x g. absurd (bad-ok (sym e ∙ g));

@@ -177,6 +177,7 @@ module _ (i : Identity) (c : Setup) (t : Tally) (s : List ℕ) (h : Head) (k : �
     refused-is z e a l m =
         record {
           answer = a ∙ ap judgement (sym e);
+          size = rw a (omega arith);
           curves-long = l;
           words-long = m;
           curves = λ x g. absurd (bad-ok (sym e ∙ g));
@@ -186,7 +187,7 @@ module _ (i : Identity) (c : Setup) (t : Tally) (s : List ℕ) (h : Head) (k : �
     pub no-curves-is : {r : Judged} → length entry < i .channels * (h .blocksize / 2) → r ≡ refusedBy 17 → JudgedIs (i .channels) c outcome r entry entry list list
     no-curves-is few a = refused-is 17 (no-curves few) a refl refl
 
-    module _ (fits : i .channels * (h .blocksize / 2) ≤ length entry) {exit list′ : List ℕ} {x : BodyRead}
+    module _ (high : h .blocksize ≤ 8192) (fits : i .channels * (h .blocksize / 2) ≤ length entry) {exit list′ : List ℕ} {x : BodyRead}
         (b : BodyIs body (channelFloors (i .channels) c h) floors (i .channels) (h .blocksize / 2) x entry exit list list′) where
       curves-long : length exit ≡ length entry
       curves-long = ap length (b .curves) ∙ length-sets entry 0 (curvesOf (h .blocksize / 2) (channelFloors (i .channels) c h) (byChannel (i .channels) floors))
@@ -215,6 +216,7 @@ module _ (i : Identity) (c : Setup) (t : Tally) (s : List ℕ) (h : Head) (k : �
           go (bad z) e d =
               record {
                 answer = d ∙ ap judgement (sym e);
+                size = rw d (omega arith);
                 curves-long = curves-long;
                 words-long = words-long;
                 curves = λ y g. absurd (bad-ok (sym e ∙ g));
@@ -223,6 +225,7 @@ module _ (i : Identity) (c : Setup) (t : Tally) (s : List ℕ) (h : Head) (k : �
           go (ok y) e d =
               record {
                 answer = d ∙ (λ j. acceptedBy h (used-are j) ((f .1 ∙ ap length (sym packet-words)) j) (y .1) (y .0)) ∙ ap judgement (sym e);
+                size = rw d high;
                 curves-long = curves-long;
                 words-long = words-long;
                 curves = λ v g. b .curves ∙ ap (sets entry 0) (same v (ap (λ (q : Accepted). q .packet) (ok-is (sym e ∙ g))));

@@ -1,21 +1,25 @@
 -- What judging an audio packet comes to in the program, and what it leaves in the lent outputs. Assumes nothing: these are definitions.
-use Prim.Native.Nat.{ℕ, _/_}
-use mathlib.Core.Bool.{true, false}
+use Prim.Native.Nat.{ℕ, _*_, _-_, _/_, _≤_}
+use mathlib.Core.Bool.{true, false, cond}
 use mathlib.Core.List.{List, map}
 use mathlib.Core.Path.{_≡_}
-use lib.ListN.{length, replicate}
+use lib.ListN.{length, getD, replicate}
 use lib.Seq.{sets}
 use Rattle.reading.specs.Least.{one}
 use Rattle.reading.specs.Outcome.{Outcome, ok, bad}
 use Rattle.reading.specs.Pad.{pad}
+use Rattle.identification.specs.declared.Identity.{Identity}
 use Rattle.setup.specs.Content.{Setup}
 use Rattle.residue_requests.specs.Listed.{residueWords, listed}
 use Rattle.audio.specs.declared.Head.{Head}
 use Rattle.audio.specs.declared.Tally.{Tally}
+use Rattle.audio.specs.declared.AudioAnswer.{AudioAnswer}
+use Rattle.audio.specs.declared.AudioLeft.{AudioLeft}
+use Rattle.audio.specs.Head.{window}
 use Rattle.audio.specs.Channels.{isUsed}
 use Rattle.audio.specs.Packet.{channelFloors}
 use Rattle.audio.specs.Curves.{curvesOf}
-use Rattle.audio.specs.Call.{Accepted}
+use Rattle.audio.specs.Call.{Accepted, refused, Left}
 use Rattle.audio_call.specs.declared.judge.Judged.{Judged}
 
 -- a refusal as the program holds it
@@ -56,7 +60,50 @@ wordsBy x = map listed (residueWords (x .packet .items))
 -- a packet that came to o, read into lent outputs: accepted, its curves and codewords stand at their fronts. A refusal says nothing of what they hold
 pub record JudgedIs (channels : ℕ) (c : Setup) (o : Outcome Accepted) (r : Judged) (entry exit : List ℕ) (list list′ : List ℕ) : Type 0 where
   pub answer : r ≡ judgement o
+  -- Vorbis I's greatest block
+  pub size : r .head .blocksize ≤ 8192
   pub curves-long : length exit ≡ length entry
   pub words-long : length list′ ≡ length list
   pub curves : (x : Accepted) → o ≡ ok x → exit ≡ sets entry 0 (curvesBy channels c x)
   pub words : (x : Accepted) → o ≡ ok x → list′ ≡ sets list 0 (wordsBy x)
+
+-- the places of an output from one on hold nothing
+pub record ZeroFrom (place : ℕ) (l : List ℕ) : Type 0 where
+  pub zero : (j : ℕ) → place ≤ j → getD l j 0 ≡ 0
+
+-- what a call leaves, from its answer and both outputs
+abbrev pub leftOf : AudioLeft → List ℕ → List ℕ → Left
+leftOf r curves words = record { answer = r .answer; curves = curves; codewords = words; tally = r .tally }
+
+-- the answer to an accepted packet
+abbrev pub answerBy : Identity → Judged → AudioAnswer
+answerBy i r =
+    record {
+      refusal = 0;
+      mode = r .head .mode;
+      blocksize = r .head .blocksize;
+      previous = r .head .previous;
+      next = r .head .next;
+      window = window (i .blocksize0) (r .head);
+      samples = r .samples;
+      codewords = r .words;
+      used = r .used;
+    }
+
+-- an accepted packet's outputs with what was left behind them cleared, up to a place each
+abbrev pub acceptedLeft : Identity → Judged → List ℕ → List ℕ → ℕ → ℕ → Left
+acceptedLeft i r curves words curvesEnd wordsEnd =
+    record {
+      answer = answerBy i r;
+      curves = sets curves (i .channels * (r .head .blocksize / 2)) (replicate (curvesEnd - i .channels * (r .head .blocksize / 2)) 0);
+      codewords = sets words (r .words) (replicate (wordsEnd - r .words) 0);
+      tally = r .tally;
+    }
+
+-- a refusal's, all zero
+abbrev pub refusedLeft : ℕ → Tally → List ℕ → List ℕ → Left
+refusedLeft n t curves words =
+    record { answer = refused n; curves = replicate (length curves) 0; codewords = replicate (length words) 0; tally = t }
+
+unfoldable pub settled : Identity → Tally → Judged → List ℕ → List ℕ → ℕ → ℕ → Left
+settled i t r curves words curvesEnd wordsEnd = cond (r .accepted) (acceptedLeft i r curves words curvesEnd wordsEnd) (refusedLeft (r .refusal) t curves words)
