@@ -6,3 +6,4 @@ pub mod JudgeLaws
 pub mod PacketLaws
 pub mod HeadLaws
 pub mod AcceptedLaws
+pub mod SettleLaws

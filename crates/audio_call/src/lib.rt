@@ -2,3 +2,4 @@
 pub mod body; // floors and residues
 pub mod clear; // places of an output that an earlier packet left
 pub mod judge; // a packet judged, in 01's order
+pub mod settle; // what a call leaves

@@ -1,0 +1,68 @@
+-- What a call leaves, as the code asks it; and that it is what the definition of the call says. Assumes nothing.
+use Prim.Native.Nat.{ℕ, zero, suc, _+_, _-_, _*_, _/_, _≤_, _<_}
+use native.Mathlib.Omega.{arith}
+use native.Mathlib.Nat.{mul-le-mul-right}
+use borrow.Author.Needs.{needs}
+use mathlib.Core.Bool.{Bool, true, false, cond}
+use mathlib.Core.List.{List, [], _∷_, _++_, map}
+use mathlib.Core.Path.{_≡_, refl, ap, sym, _∙_}
+use lib.ListN.{length, getD, replicate, length-map, length-append, length-replicate}
+use lib.Seq.{sets}
+use Rattle.reading.specs.Least.{one}
+use Rattle.reading.specs.Outcome.{Refusal, Outcome, ok, bad}
+use Rattle.reading.specs.Pad.{pad}
+use Rattle.identification.specs.declared.Identity.{Identity}
+use Rattle.setup.specs.Content.{Setup}
+use Rattle.floor.specs.Content.{Floor}
+use Rattle.floor_requests.specs.Requests.{FloorRead, unused, values}
+use Rattle.residue_requests.specs.Listed.{residueWords, listed}
+use Rattle.audio.specs.declared.Tally.{Tally}
+use Rattle.audio.specs.declared.AudioAnswer.{AudioAnswer}
+use Rattle.audio.specs.declared.AudioLeft.{AudioLeft}
+use Rattle.audio.specs.declared.Window.{Window}
+use Rattle.audio.specs.Head.{window}
+use Rattle.audio.specs.Call.{Room, Accepted, refused, Left, answered}
+use Rattle.audio_call.specs.declared.judge.Judged.{Judged}
+use Rattle.audio_call.specs.inner.Judged.{refusedBy, acceptedBy, judgement, curvesBy, wordsBy, JudgedIs, ZeroFrom, leftOf, answerBy, acceptedLeft, refusedLeft, settled}
+use Rattle.audio_call.proofs.ClearLaws.{front-padded}
+
+-- channels times half a block are few
+pub bytes-fit : {a b r s : ℕ} → a ≤ 255 → b ≤ 8192 → r ≡ a → s ≡ b / 2 → r * s < 18446744073709551616
+bytes-fit {a} {b} {r} {s} h g e f = let m = mul-le-mul-right s h in rw e (omega arith)
+
+pub bytes-are : {a : ℕ} (b : ℕ) {r s : ℕ} → r ≡ a → s ≡ b / 2 → r * s ≡ a * (b / 2)
+bytes-are b e f = rw (e, f) refl
+
+pub answer-made : (i : Identity) (r : Judged) {w : Window} → w ≡ window (i .blocksize0) (r .head)
+    → record {
+      refusal = 0;
+      mode = r .head .mode;
+      blocksize = r .head .blocksize;
+      previous = r .head .previous;
+      next = r .head .next;
+      window = w;
+      samples = r .samples;
+      codewords = r .words;
+      used = r .used;
+    } ≡ answerBy i r
+answer-made i r e = ap (λ (w : Window). record { refusal = 0; mode = r .head .mode; blocksize = r .head .blocksize; previous = r .head .previous; next = r .head .next; window = w; samples = r .samples; codewords = r .words; used = r .used }) e
+
+pub refuse-made : {n : ℕ} {t : Tally} (curves words : List ℕ) {curves′ words′ : List ℕ} {a : AudioAnswer} → curves′ ≡ replicate (length curves) 0 → words′ ≡ replicate (length words) 0 → a ≡ refused n
+    → leftOf (record { tally = t; answer = a }) curves′ words′ ≡ refusedLeft n t curves words
+refuse-made {n} {t} curves words e f g = λ j. record { answer = g j; curves = e j; codewords = f j; tally = t }
+
+pub accept-made : (i : Identity) (r : Judged) (curves words : List ℕ) (curvesEnd wordsEnd : ℕ) {curves′ words′ : List ℕ} {a : AudioAnswer} {bytes : ℕ} → bytes ≡ i .channels * (r .head .blocksize / 2)
+    → curves′ ≡ sets curves bytes (replicate (curvesEnd - bytes) 0) → words′ ≡ sets words (r .words) (replicate (wordsEnd - r .words) 0) → a ≡ answerBy i r
+    → leftOf (record { tally = r .tally; answer = a }) curves′ words′ ≡ acceptedLeft i r curves words curvesEnd wordsEnd
+accept-made i r curves words curvesEnd wordsEnd {curves′} {words′} {a} {bytes} b e f g =
+    let c : curves′ ≡ sets curves (i .channels * (r .head .blocksize / 2)) (replicate (curvesEnd - i .channels * (r .head .blocksize / 2)) 0) = e ∙ ap (λ (n : ℕ). sets curves n (replicate (curvesEnd - n) 0)) b in
+    λ j. record { answer = g j; curves = c j; codewords = f j; tally = r .tally }
+
+module _ (i : Identity) (t : Tally) (r : Judged) (curves words : List ℕ) (curvesEnd wordsEnd : ℕ) {l : Left} where
+  pub settle-accepted : r .accepted ≡ true → l ≡ acceptedLeft i r curves words curvesEnd wordsEnd → l ≡ settled i t r curves words curvesEnd wordsEnd
+  unfolding settled
+  settle-accepted e a = rw e a
+
+  pub settle-refused : r .accepted ≡ false → l ≡ refusedLeft (r .refusal) t curves words → l ≡ settled i t r curves words curvesEnd wordsEnd
+  unfolding settled
+  settle-refused e a = rw e a
