@@ -1,3 +1,4 @@
 pub mod RunLaws
 pub mod HeadLaws
 pub mod PointLaws
+pub mod KnownLaws

@@ -1,46 +1,57 @@
 -- THE REQUESTS OF A HEAD, RUN, ARE ITS READER, whatever the books: a head has no codewords. And what a table of modes says of each mode. Assumes nothing.
 use Prim.Native.Nat.{ℕ, zero, suc, _+_, _-_, _*_, _<_}
 use native.Mathlib.Omega.{arith}
-use native.Mathlib.Nat.{mul-suc}
+use native.Mathlib.Nat.{mul-zero, mul-suc, add-comm}
 use mathlib.Core.Bool.{Bool, true, false, cond}
-use mathlib.Core.List.{List, [], _∷_}
+use mathlib.Core.List.{List}
 use mathlib.Core.Path.{_≡_, refl, ap, sym, _∙_}
 use lib.Dec.{eqb, ltb}
 use lib.ListN.{length, getD, take, drop}
-use lib.Seq.{getD-take, getD-drop}
+use lib.Seq.{getD-take, getD-drop, drop-drop}
 use borrow.Author.Tests.{ltb-true}
-use Rattle.reading.specs.Outcome.{Refusal, refusal, Outcome, ok, bad, then, need}
+use Rattle.reading.specs.Outcome.{refusal, Outcome, ok, bad, then, need}
 use Rattle.bits.specs.Field.{field}
 use Rattle.bits.specs.Ilog.{ilog}
 use Rattle.bits.proofs.Fields.{field-ok, field-bad}
 use Rattle.identification.specs.declared.Identity.{Identity}
 use Rattle.mode.specs.Content.{Mode, noMode}
-use Rattle.mode.specs.inner.Decode.{decodeMode}
-use Rattle.setup.specs.inner.Decode.{decodeRows}
+use Rattle.mode.specs.inner.Decode.{modeOf, decodeMode}
+use Rattle.setup.specs.Layout.{Tables}
+use Rattle.setup.specs.inner.Decode.{decodeRows, decodeSetup}
 use Rattle.requests.specs.Requests.{Requests, number, done, request, bind}
 use Rattle.requests.specs.Run.{continued, read, run}
 use Rattle.audio.specs.declared.Head.{Head}
 use Rattle.audio.specs.Head.{modeAt, headWith, flagRequests, modeRequests, headRequests, headOf}
 use Rattle.audio_head.specs.inner.Readers.{modesIn, blockflagIn, flagsReader, modeReader, headReader}
 
--- so many modes are decoded, and each from its row
+-- so many items are decoded, and each from its row
 module _ {A : Type 0} (w : ℕ) (decode : List ℕ → A) where
   pub decoded-length : (n : ℕ) (t : List ℕ) → length (decodeRows w decode n t) ≡ n
   unfolding decodeRows
   decoded-length zero t = refl
   decoded-length (suc n) t = ap suc (decoded-length n (drop w t))
 
-mode-row : (t : List ℕ) → decodeMode (take 2 t) .blockflag ≡ getD t 0 0
-unfolding decodeMode
-mode-row t = getD-take 2 t 0 0 (omega arith)
+  pub decoded-at : (n : ℕ) (t : List ℕ) (m : ℕ) (d : A) → m < n → getD (decodeRows w decode n t) m d ≡ decode (take w (drop (w * m) t))
+  unfolding decodeRows
+  decoded-at zero t m d h = absurd (omega arith)
+  decoded-at (suc n) t zero d h = let e : w * 0 ≡ 0 = mul-zero w in rw e
+  decoded-at (suc n) t (suc m) d h =
+      let e : w + w * m ≡ w * suc m = sym (mul-suc w m ∙ add-comm (w * m) w) in
+      decoded-at n (drop w t) m d (omega arith) ∙ ap (λ (l : List ℕ). decode (take w l)) (drop-drop (w * m) w t ∙ ap (λ (k : ℕ). drop k t) e)
 
-pub flag-in : (n : ℕ) (t : List ℕ) (m : ℕ) → m < n → getD (decodeRows 2 decodeMode n t) m noMode .blockflag ≡ blockflagIn t m
-unfolding decodeRows blockflagIn
-flag-in zero t m h = absurd (omega arith)
-flag-in (suc n) t zero h = mode-row t
-flag-in (suc n) t (suc m) h =
-    let e : 2 + 2 * m ≡ 2 * suc m = omega arith in
-    flag-in n (drop 2 t) m (omega arith) ∙ getD-drop 2 t (2 * m) 0 ∙ ap (λ (k : ℕ). getD t k 0) e
+-- a mode by its row
+pub mode-at : (n : ℕ) (t : List ℕ) (m : ℕ) → m < n → modeAt (modesIn t n) m ≡ modeOf (getD t (2 * m) 0) (getD t (2 * m + 1) 0)
+unfolding modeAt modesIn decodeMode
+mode-at n t m h =
+    let e : 2 * m + 0 ≡ 2 * m = omega arith in
+    let flag = getD-take 2 (drop (2 * m) t) 0 0 (omega arith) ∙ getD-drop (2 * m) t 0 0 ∙ ap (λ (k : ℕ). getD t k 0) e in
+    let mapping = getD-take 2 (drop (2 * m) t) 1 0 (omega arith) ∙ getD-drop (2 * m) t 1 0 in
+    decoded-at 2 decodeMode n t m noMode h ∙ (λ j. modeOf (flag j) (mapping j))
+
+-- the modes of the content that tables decode to
+pub modes-decoded : (t : Tables) → decodeSetup t .modes ≡ modesIn (t .modes) (getD (t .counts) 4 0)
+unfolding decodeSetup modesIn
+modes-decoded t = refl
 
 -- two chains with one first step
 then-same : {A B : Type 0} (o : Outcome A) (f g : A → Outcome B) → ((a : A) → o ≡ ok a → f a ≡ g a) → then o f ≡ then o g
@@ -101,7 +112,7 @@ module _ (lengthsOf : ℕ → List ℕ) (s : List ℕ) where
         go (ok x) = by-test (x .0) (x .1) (ltb (x .0) (length modes)) refl
         go (bad z) = refl
 
-    head-run : (modes : List Mode) (flagOf : ℕ → ℕ) → ((m : ℕ) → m < length modes → modeAt modes m .blockflag ≡ flagOf m)
+    pub head-run : (modes : List Mode) (flagOf : ℕ → ℕ) → ((m : ℕ) → m < length modes → modeAt modes m .blockflag ≡ flagOf m)
         → headOf (run (read lengthsOf) (headRequests i modes) s 0) ≡ headReader i (length modes) flagOf s
     unfolding headRequests headReader headOf run
     head-run modes flagOf same = field-first 1 (λ type. cond (eqb type 0) (modeRequests i modes) (done (bad (refusal 15 0)))) 0 ∙ go (field 1 s 0) refl
@@ -121,7 +132,9 @@ module _ (lengthsOf : ℕ → List ℕ) (s : List ℕ) where
 -- THE HEAD BY A TABLE OF MODES
 pub head-by-table : (lengthsOf : ℕ → List ℕ) (s : List ℕ) (i : Identity) (n : ℕ) (t : List ℕ)
     → headOf (run (read lengthsOf) (headRequests i (modesIn t n)) s 0) ≡ headReader i n (blockflagIn t) s
-unfolding modesIn modeAt
+unfolding modesIn blockflagIn
 head-by-table lengthsOf s i n t =
     let l = decoded-length 2 decodeMode n t in
-    head-run lengthsOf s i (decodeRows 2 decodeMode n t) (blockflagIn t) (λ m h. flag-in n t m (omega arith)) ∙ ap (λ (c : ℕ). headReader i c (blockflagIn t) s) l
+    let flag : (m : ℕ) → m < length (modesIn t n) → modeAt (modesIn t n) m .blockflag ≡ blockflagIn t m =
+    λ m h. ap (λ (x : Mode). x .blockflag) (mode-at n t m (omega arith)) in
+    head-run lengthsOf s i (modesIn t n) (blockflagIn t) flag ∙ ap (λ (c : ℕ). headReader i c (blockflagIn t) s) l

@@ -26,7 +26,7 @@ fn choose(test: bool, first: u32, second: u32) -> u32
     second
 }
 
-// a less b, 0 where b is the greater: no identity that is sound has it so, but this function asks nothing of which size is the greater.
+// a less b; 0 where b is the greater, as in the definition.
 fn less(a: u32, b: u32) -> u32
     ensures { λ r. ⌜ r ≡ a - b ⌝ }
 {
