@@ -24,9 +24,10 @@ enum-known-progress c = search needs
 later-passes-requires : tie.Need-later-passes-requires
 later-passes-requires c κs =
     let p = c .before .before .before .before .before .before .before .before .before .before .before .before .before .before .before .pre in
+    let a = c .before .before .before .before .before .before .before .before .before .before .before .before .before .before .before .args in
     let x = c .before .before .before .before .before .before .first-pass .ensures in
     let q = c .before .before .progress .given .1 in
-    (read-room x q, p .1, live-some (search needs), residue-class-words (p .1) _ _ _ _ _ (p .0) x (search needs) q)
+    (read-room x q, p .1, live-some (search needs), residue-class-words (p .1) (a .packet .now) (a .live) (a .partitions) (a .from) (a .out .now) (p .0) x (search needs) q)
 
 -- src/whole.rt:129:23
 enum-known-progress-2 : tie.Need-enum-known-progress-2
@@ -44,9 +45,10 @@ same-length c = search needs
 returns-2 : tie.Need-returns-2
 returns-2 c =
     let p = c .before .before .before .before .before .before .before .before .before .before .before .before .before .before .before .before .before .before .pre in
+    let a = c .before .before .before .before .before .before .before .before .before .before .before .before .before .before .before .before .before .before .args in
     let x = c .before .before .before .before .before .before .before .before .before .first-pass .ensures in
     let q = c .before .before .before .before .before .progress .given .1 in
-    residue-then (p .1) _ _ _ _ _ (p .0) x (search needs) q (c .before .before .later-passes .ensures)
+    residue-then (p .1) (a .packet .now) (a .live) (a .partitions) (a .from) (a .out .now) (p .0) x (search needs) q (c .before .before .later-passes .ensures)
 
 -- src/whole.rt:75:1
 same-length-2 : tie.Need-same-length-2
