@@ -1,5 +1,5 @@
 -- Laws of reading codewords into the lent list: what is read, and what is left to read. Assumes nothing.
-use Prim.Native.Nat.{ℕ, zero, suc, _+_, _-_, _*_, _≤_, _<_}
+use Prim.Native.Nat.{ℕ, _+_, _≤_, _<_}
 use native.Mathlib.Omega.{arith}
 use borrow.Author.Tests.{leb-true, leb-false, le-leb, lt-leb}
 use mathlib.Core.Bool.{Bool, true, false, cond}
@@ -21,7 +21,7 @@ use Rattle.residue_requests.proofs.AgainLaws.{numbers, numbers-append, numbers-
 use Rattle.codeword_list.specs.declared.Progress.{Progress}
 use Rattle.codeword_list.specs.declared.ListRead.{ListRead}
 use Rattle.codeword_list.specs.declared.ListRead.the-variants.{Whole, Cut, Full}
-use Rattle.codeword_list.specs.inner.ListRead.{Ending, all, cut, full, endingOf, endingBy, endingIn, ReadIntoList}
+use Rattle.codeword_list.specs.inner.ListRead.{all, cut, full, endingOf, endingBy, endingIn, ReadIntoList}
 
 -- items before those of a run
 unfoldable pub itemsBefore : {A : Type 0} → List Item → Run A → Run A

@@ -4,17 +4,17 @@ use native.Mathlib.Omega.{arith}
 use borrow.Author.Needs.{needs}
 use mathlib.Core.Bool.{false}
 use mathlib.Core.List.{List, [], _∷_, _++_, append-nil, append-assoc}
-use mathlib.Core.Option.{Option, none, some}
+use mathlib.Core.Option.{some}
 use mathlib.Core.Path.{_≡_, refl, sym, ap, _∙_}
 use lib.ListN.{length, take, drop, length-take}
-use lib.Seq.{sets, sets-eq, drop-at}
+use lib.Seq.{sets-eq, drop-at}
 use Rattle.bits.specs.inner.Cursors.{position}
 use Rattle.book_codeword.specs.inner.Stored.{lengthsIn, dimensionsIn, BookStored}
 use Rattle.residue.specs.Content.{Residue}
 use Rattle.residue.specs.declared.head.Head.{Head}
-use Rattle.requests.specs.Requests.{Requests, done, request, bind}
+use Rattle.requests.specs.Requests.{done, request, bind}
 use Rattle.requests.specs.Run.{read, Run, run}
-use Rattle.requests.specs.inner.Parts.{after, joined}
+use Rattle.requests.specs.inner.Parts.{joined}
 use Rattle.requests.proofs.Laws.{bind-same, bind-bind, run-bind}
 use Rattle.residue_requests.specs.Requests.{classesOf}
 use Rattle.residue_requests.specs.inner.Unplaced.{flatClassWords, flatPartitions, flatFirstPass}

@@ -6,11 +6,10 @@ use borrow.Author.Needs.{needs}
 use borrow.Author.Tests.{ne-eqb}
 use mathlib.Core.List.{List, [], _∷_}
 use mathlib.Core.Path.{_≡_, refl, sym, ap, _∙_}
-use lib.ListN.{length, getD, take, drop, set}
+use lib.ListN.{length, getD, drop, set}
 use lib.Seq.{sets, getD-take, getD-drop, getD-set-other}
 use Rattle.bits.specs.inner.Cursors.{position}
 use Rattle.book_codeword.specs.inner.Stored.{lengthsIn, dimensionsIn, BookStored}
-use Rattle.residue.specs.Content.{Residue}
 use Rattle.residue.specs.Layout.{planWidth}
 use Rattle.residue.specs.inner.Decode.{chunks}
 use Rattle.residue.specs.declared.head.Head.{Head}

@@ -3,9 +3,6 @@ use Rattle.residue_pass.proofs.CycleLaws.{ClassWordsLeft, looped}
 use borrow.Author.Needs.{needs}
 use Rattle.residue_pass.proofs.cycle.read_class_words.Statement.{statement}
 use Rattle.residue_pass.proofs.cycle.read_class_words.Tie as tie
-use Rattle.residue_pass.proofs.cycle.read_class_words.Reads as reads
-use Rattle.residue_pass.proofs.cycle.read_class_words.Lts as lts
-use Rattle.codeword_list.proofs.read_word.Reads as read-word-reads
 
 abbrev Inv-loop : tie.InvT-loop
 Inv-loop packet book live books lengths codewords out₀ next₀ left₀ out next left =

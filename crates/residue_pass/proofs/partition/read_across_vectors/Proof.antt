@@ -5,11 +5,6 @@ use Rattle.residue_pass.proofs.PartitionLaws.{AcrossLeft, asked}
 use borrow.Author.Needs.{needs}
 use Rattle.residue_pass.proofs.partition.read_across_vectors.Statement.{statement}
 use Rattle.residue_pass.proofs.partition.read_across_vectors.Tie as tie
-use Rattle.residue_pass.proofs.partition.read_across_vectors.Reads as reads
-use Rattle.residue_pass.proofs.partition.read_across_vectors.Lts as lts
-use Rattle.reading.proofs.buffers.get_u32.Reads as get-u32-reads
-use Rattle.residue_pass.proofs.partition.class_of.Reads as class-of-reads
-use Rattle.residue_pass.proofs.partition.read_partition.Reads as read-partition-reads
 
 abbrev Inv-loop : tie.InvT-loop
 Inv-loop packet head residue at live unused divisor pass plans books lengths codewords out₀ classes next₀ j₀ out next j =

@@ -3,11 +3,6 @@ use Rattle.residue_pass.proofs.PartitionLaws.{asked}
 use borrow.Author.Needs.{needs}
 use Rattle.residue_pass.proofs.partition.read_partition.Statement.{statement}
 use Rattle.residue_pass.proofs.partition.read_partition.Tie as tie
-use Rattle.residue_pass.proofs.partition.read_partition.Reads as reads
-use Rattle.residue_pass.proofs.partition.read_partition.Lts as lts
-use Rattle.codeword_list.proofs.read_run.Reads as read-run-reads
-use Rattle.reading.proofs.widths.u32_from_u16.Reads as u32-from-u16-reads
-use Rattle.residue_row.proofs.plan_place.Reads as plan-place-reads
 
 plan-place-requires : tie.Need-plan-place-requires
 plan-place-requires c κs = search asked

@@ -4,10 +4,6 @@ use Rattle.residue_pass.proofs.RowsLaws.{RowsLeft, asked}
 use borrow.Author.Needs.{needs}
 use Rattle.residue_pass.proofs.partition.read_rows.Statement.{statement}
 use Rattle.residue_pass.proofs.partition.read_rows.Tie as tie
-use Rattle.residue_pass.proofs.partition.read_rows.Reads as reads
-use Rattle.residue_pass.proofs.partition.read_rows.Lts as lts
-use Rattle.residue_pass.proofs.partition.quotient.Reads as quotient-reads
-use Rattle.residue_pass.proofs.partition.read_across_vectors.Reads as read-across-vectors-reads
 
 abbrev Inv-loop : tie.InvT-loop
 Inv-loop packet head residue at live digits top rows pass plans books lengths codewords out₀ classes next₀ unused₀ divisor₀ left₀ out next unused divisor left =
