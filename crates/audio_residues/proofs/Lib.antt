@@ -1,0 +1,4 @@
+pub mod LiveLaws
+pub mod ChannelLaws
+pub mod ExtentLaws
+pub mod PowerLaws
