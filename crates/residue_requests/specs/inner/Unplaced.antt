@@ -4,6 +4,7 @@
 use Prim.Native.Nat.{ℕ, zero, suc, _-_, _/_}
 use mathlib.Core.Bool.{cond}
 use mathlib.Core.List.{List, [], _∷_, _++_}
+use mathlib.Core.Path.{_≡_}
 use lib.Dec.{eqb}
 use Rattle.residue.specs.Content.{Residue}
 use Rattle.requests.specs.Requests.{Place, Role, floor, class, vector, Request, number, word, Requests, done, ask, bind}
@@ -69,3 +70,7 @@ module _ (dimensionsOf : ℕ → ℕ) (r : Residue) where
   -- all codewords of so many live vectors of so many partitions
   unfoldable pub flatResidue : ℕ → ℕ → Requests Unit
   flatResidue live partitions = bind (flatFirstPass live partitions 0 [] []) (λ classes. flatLaterPasses 1 7 classes)
+
+-- a pass has a book for no class
+unfoldable pub Bookless : Residue → ℕ → Type 0
+Bookless r pass = (class : ℕ) → planned r pass class ≡ 0

@@ -1,0 +1,5 @@
+pub mod UnplacedLaws
+pub mod KindLaws
+pub mod AgainLaws
+pub mod PassLaws
+pub mod FirstPassLaws
