@@ -16,7 +16,7 @@ use Rattle.book_codeword.specs.inner.Stored.{entriesOf, BookStored}
 -- first and count as the code holds them
 module _ {books lengths codewords : List ℕ} {b : ℕ} (l : BookStored books lengths codewords b) {f f′ n n′ : ℕ} (e₁ : f′ ≡ f) (e₂ : f ≡ firstEntryAt books b) (e₃ : n′ ≡ n)
     (e₄ : n ≡ entriesAt books b) {m : ℕ} (e₅ : m ≡ loneAt books b) where
-  part-is : (cells : List ℕ) → take (f′ + n′ - f′) (drop f′ cells) ≡ entriesOf books b cells
+  pub part-is : (cells : List ℕ) → take (f′ + n′ - f′) (drop f′ cells) ≡ entriesOf books b cells
   part-is cells = let h : f′ + n′ - f′ ≡ n′ = omega arith in rw (h, e₁, e₂, e₃, e₄)
 
   pub asked : Codebook (take (f′ + n′ - f′) (drop f′ lengths)) (take (f′ + n′ - f′) (drop f′ codewords)) × (m ≡ loneMark (take (f′ + n′ - f′) (drop f′ lengths)))
