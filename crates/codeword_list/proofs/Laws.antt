@@ -1,36 +1,27 @@
 -- Laws of reading codewords into the lent list: what is read, and what is left to read. Assumes nothing.
-use Prim.Native.Nat.{ℕ, zero, suc, _+_, _-_, _*_, _≤_, _<_}
+use Prim.Native.Nat.{ℕ, _+_, _≤_, _<_}
 use native.Mathlib.Omega.{arith}
 use borrow.Author.Tests.{leb-true, leb-false, le-leb, lt-leb}
 use mathlib.Core.Bool.{Bool, true, false, cond}
-use mathlib.Core.List.{List, [], _∷_, _++_, map, append-assoc}
+use mathlib.Core.List.{List, [], _++_, append-assoc, append-nil}
 use mathlib.Core.Option.{Option, none, some}
 use mathlib.Core.Path.{_≡_, refl, sym, ap, _∙_}
 use lib.Dec.{leb}
 use lib.ListN.{length, length-append}
 use lib.Seq.{sets, length-sets}
+use Rattle.reading.specs.Reader.{Reader}
 use Rattle.reading.proofs.Tables.{sets-append, sets-out}
 use Rattle.bits.specs.declared.Cursor.{Cursor}
 use Rattle.bits.specs.inner.Cursors.{position}
-use Rattle.requests.specs.Run.{Item, Run, ended}
+use Rattle.requests.specs.Requests.{Request, Requests, done, bind}
+use Rattle.requests.specs.Run.{Item, Run, ended, run}
 use Rattle.requests.specs.inner.Parts.{after, joined}
-use Rattle.residue_requests.specs.Listed.{listed}
+use Rattle.requests.proofs.Laws.{run-bind}
+use Rattle.residue_requests.proofs.AgainLaws.{numbers, numbers-append, numbers-long}
 use Rattle.codeword_list.specs.declared.Progress.{Progress}
 use Rattle.codeword_list.specs.declared.ListRead.{ListRead}
 use Rattle.codeword_list.specs.declared.ListRead.the-variants.{Whole, Cut, Full}
-use Rattle.codeword_list.specs.inner.ListRead.{Ending, all, cut, full, endingOf, endingBy, endingIn, ReadIntoList}
-
--- the numbers of items in the list
-abbrev pub numbers : List Item → List ℕ
-numbers l = map listed l
-
-numbers-append : (l m : List Item) → numbers (l ++ m) ≡ numbers l ++ numbers m
-numbers-append [] m = refl
-numbers-append (x ∷ l) m = ap (λ (t : List ℕ). listed x ∷ t) (numbers-append l m)
-
-pub numbers-length : (l : List Item) → length (numbers l) ≡ length l
-numbers-length [] = refl
-numbers-length (x ∷ l) = ap suc (numbers-length l)
+use Rattle.codeword_list.specs.inner.ListRead.{all, cut, full, endingOf, endingBy, endingIn, ReadIntoList}
 
 -- items before those of a run
 unfoldable pub itemsBefore : {A : Type 0} → List Item → Run A → Run A
@@ -105,7 +96,7 @@ module _ {A : Type 0} {r : Run A} {entry : List ℕ} {c₀ : ℕ} {rest : Run A}
   sofar-fits = let l = sofar-length in let f = p .fits in omega arith
 
   sofar-numbers : (l : List Item) → sets out c (numbers l) ≡ sets entry c₀ (numbers (p .items ++ l))
-  sofar-numbers l = rw (p .list, p .number, numbers-append, sets-append, numbers-length) refl
+  sofar-numbers l = rw (p .list, p .number, numbers-append, sets-append, numbers-long) refl
 
   -- what is read last answers for all
   pub sofar-last : {x : ListRead} {exit : List ℕ} → ReadIntoList rest out c x exit → ReadIntoList r entry c₀ x exit
@@ -168,7 +159,7 @@ module _ {A B : Type 0} where
             let n = length-append (first .items) l in
             let far : length out < c + length (first .items ++ l) = omega arith in
             let written = sets out c (numbers (first .items)) in
-            let past : length written ≤ c + length (numbers (first .items)) = omega (arith, length-sets out c (numbers (first .items)), numbers-length (first .items)) in
+            let past : length written ≤ c + length (numbers (first .items)) = omega (arith, length-sets out c (numbers (first .items)), numbers-long (first .items)) in
             record {
               ending = rw (lt-leb (c + length (first .items ++ l)) (length out) far);
               list = w .list ∙ sym (rw (numbers-append, sets-append) (sets-out (numbers l) written (c + length (numbers (first .items))) past));
@@ -198,7 +189,7 @@ alike-ending none (some b) at n e = let z : _≡_ {A = ℕ} 0 1 = cc in absurd (
 pub read-alike : {A B : Type 0} {r : Run A} {t : Run B} {out : List ℕ} {c : ℕ} {x : ListRead} {exit : List ℕ} → Alike r t → ReadIntoList r out c x exit → ReadIntoList t out c x exit
 unfolding endingIn
 read-alike {r = r} {t = t} {out} {c} a w =
-    let n : length (r .items) ≡ length (t .items) = sym (numbers-length (r .items)) ∙ ap length (a .numbers-are) ∙ numbers-length (t .items) in
+    let n : length (r .items) ≡ length (t .items) = sym (numbers-long (r .items)) ∙ ap length (a .numbers-are) ∙ numbers-long (t .items) in
     record {
       ending = w .ending ∙ rw (n, a .position-is, alike-ending (r .value) (t .value) (t .position) (c + length (t .items)) (a .came)) refl;
       list = w .list ∙ ap (sets out c) (a .numbers-are);
@@ -215,3 +206,12 @@ alike-joined {A = A} r f g e = go (r .value)
         let m = numbers-append (r .items) (g a (r .position) .items) in
         record { numbers-are = l ∙ ap (λ (t : List ℕ). numbers (r .items) ++ t) (b .numbers-are) ∙ sym m; position-is = b .position-is; came = b .came }
     go none = record { numbers-are = refl; position-is = refl; came = refl }
+
+-- a value that is made of a run's value
+pub alike-mapped : {A B : Type 0} (reads : Request → Reader ℕ) (s : List ℕ) (x : Requests A) (f : A → B) (k : ℕ) → Alike (run reads x s k) (run reads (bind x (λ a. done (f a))) s k)
+unfolding joined run
+alike-mapped {A = A} reads s x f k = rw (run-bind reads s x (λ a. done (f a)) k) (go (run reads x s k .items) (run reads x s k .position) (run reads x s k .value))
+  where
+    go : (l : List Item) (n : ℕ) (v : Option A) → Alike (ended l n v) (after l n v (λ a m. ended [] m (some (f a))))
+    go l n (some a) = record { numbers-are = ap numbers (sym (append-nil l)); position-is = refl; came = refl }
+    go l n none = record { numbers-are = refl; position-is = refl; came = refl }

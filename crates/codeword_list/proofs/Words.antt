@@ -8,7 +8,7 @@ use mathlib.Core.Bool.{Bool, true, false}
 use mathlib.Core.List.{List, [], _∷_}
 use mathlib.Core.Option.{some, none}
 use mathlib.Core.Path.{_≡_, refl, sym, ap, _∙_}
-use lib.ListN.{length, set, take, drop}
+use lib.ListN.{length, set}
 use lib.Seq.{set-out}
 use Rattle.reading.specs.Least.{one}
 use Rattle.reading.specs.Outcome.{Outcome, ok, bad}
@@ -24,7 +24,7 @@ use Rattle.codeword.specs.inner.Book.{Codebook}
 use Rattle.codeword.specs.inner.Claims.{Settled}
 use Rattle.book_codeword.specs.inner.Stored.{entriesOf, lengthsIn, dimensionsIn, BookStored}
 use Rattle.requests.specs.Requests.{vector, word, request, bind}
-use Rattle.requests.specs.Run.{read, Item, item, Run, ended, continued, run}
+use Rattle.requests.specs.Run.{read, item, Run, ended, continued, run}
 use Rattle.requests.specs.inner.Parts.{joined}
 use Rattle.requests.proofs.Laws.{run-bind}
 use Rattle.residue_requests.specs.Listed.{listed}

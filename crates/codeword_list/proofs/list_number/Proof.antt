@@ -3,8 +3,6 @@ use Rattle.codeword_list.proofs.Words.{asked}
 use borrow.Author.Needs.{needs}
 use Rattle.codeword_list.proofs.list_number.Statement.{statement}
 use Rattle.codeword_list.proofs.list_number.Tie as tie
-use Rattle.codeword_list.proofs.list_number.Reads as reads
-use Rattle.codeword_list.proofs.list_number.Lts as lts
 
 mul-result : tie.Need-mul-result
 mul-result c = search needs

@@ -6,14 +6,6 @@ use Rattle.codeword_list.proofs.Words.{dimensions-low, run-read}
 use borrow.Author.Needs.{needs}
 use Rattle.codeword_list.proofs.read_run.Statement.{statement}
 use Rattle.codeword_list.proofs.read_run.Tie as tie
-use Rattle.codeword_list.proofs.read_run.Reads as reads
-use Rattle.codeword_list.proofs.read_run.Lts as lts
-use Rattle.book_row.proofs.dimensions.Reads as dimensions-reads
-use Rattle.book_row.proofs.entries.Reads as entries-reads
-use Rattle.book_row.proofs.first_entry.Reads as first-entry-reads
-use Rattle.book_row.proofs.lone.Reads as lone-reads
-use Rattle.codeword_list.proofs.read_vectors.Reads as read-vectors-reads
-use Rattle.reading.proofs.widths.wide_u32.Reads as wide-u32-reads
 
 first-entry-requires : tie.Need-first-entry-requires
 first-entry-requires c κs = search needs

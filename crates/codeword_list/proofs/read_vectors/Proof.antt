@@ -6,10 +6,6 @@ use Rattle.codeword_list.proofs.Words.{VectorsLeft, looped}
 use borrow.Author.Needs.{needs}
 use Rattle.codeword_list.proofs.read_vectors.Statement.{statement}
 use Rattle.codeword_list.proofs.read_vectors.Tie as tie
-use Rattle.codeword_list.proofs.read_vectors.Reads as reads
-use Rattle.codeword_list.proofs.read_vectors.Lts as lts
-use Rattle.codeword.proofs.read_codeword.Reads as read-codeword-reads
-use Rattle.codeword_list.proofs.list_number.Reads as list-number-reads
 
 abbrev Inv-loop : tie.InvT-loop
 Inv-loop packet size dimensions lone lengths codewords out₀ at₀ count₀ left₀ out at count left =

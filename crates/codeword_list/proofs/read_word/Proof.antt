@@ -3,10 +3,6 @@ use Rattle.codeword_list.proofs.Words.{asked}
 use borrow.Author.Needs.{needs}
 use Rattle.codeword_list.proofs.read_word.Statement.{statement}
 use Rattle.codeword_list.proofs.read_word.Tie as tie
-use Rattle.codeword_list.proofs.read_word.Reads as reads
-use Rattle.codeword_list.proofs.read_word.Lts as lts
-use Rattle.book_codeword.proofs.read_entry.Reads as read-entry-reads
-use Rattle.codeword_list.proofs.list_number.Reads as list-number-reads
 
 read-entry-requires : tie.Need-read-entry-requires
 read-entry-requires c κs = search needs

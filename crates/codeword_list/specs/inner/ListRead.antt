@@ -8,7 +8,6 @@ use lib.Dec.{leb}
 use lib.ListN.{length}
 use lib.Seq.{sets}
 use Rattle.bits.specs.inner.Cursors.{position}
-use Rattle.requests.specs.Requests.{Role, word, Requests, done, ask}
 use Rattle.requests.specs.Run.{Run}
 use Rattle.residue_requests.specs.Listed.{listed}
 use Rattle.codeword_list.specs.declared.ListRead.{ListRead}

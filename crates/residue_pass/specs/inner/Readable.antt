@@ -1,6 +1,6 @@
 -- A residue and its books as they lie in the tables of a setup (docs/TABLES.md), and what is known of them where the tables are sound.
 use Prim.Native.Nat.{ℕ, zero, suc, _+_, _-_, _*_, _^_, _≤_, _<_}
-use mathlib.Core.List.{List, [], _∷_, _++_}
+use mathlib.Core.List.{List, [], _++_}
 use mathlib.Core.Path.{_≡_}
 use lib.ListN.{getD, drop}
 use Rattle.book_codeword.specs.inner.Stored.{dimensionsIn, BookStored}
