@@ -1,4 +1,0 @@
-pub mod LiveLaws
-pub mod ChannelLaws
-pub mod ExtentLaws
-pub mod PowerLaws
