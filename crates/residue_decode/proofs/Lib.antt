@@ -1,0 +1,4 @@
+pub mod LastLaws
+pub mod FirstLaws
+pub mod LaterLaws
+pub mod WholeLaws
