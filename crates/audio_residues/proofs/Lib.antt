@@ -1,0 +1,4 @@
+pub mod PowerLaws
+pub mod SubmapLaws
+pub mod RequestLaws
+pub mod WholeLaws
