@@ -1,0 +1,46 @@
+-- The floors of the channels and their curves depend on the floors that the channels have, and on no other. And what makes an X list readable: the row of a floor
+-- that lies in the table. Assumes nothing.
+use Prim.Native.Nat.{ℕ, zero, suc, _+_, _*_, _<_}
+use native.Mathlib.Omega.{arith}
+use mathlib.Core.List.{List, [], _∷_, _++_, map}
+use mathlib.Core.Path.{_≡_, refl, sym, ap, _∙_}
+use lib.Seq.{slice}
+use Rattle.reading.specs.Tabulate.{tabulate}
+use Rattle.floor.specs.Content.{Floor}
+use Rattle.floor.specs.inner.Valid.{ValidFloor}
+use Rattle.floor.proofs.Decoded as decoded
+use Rattle.floor.proofs.ValidLaws.{values-few}
+use Rattle.floor_row.proofs.Laws.{x-list-is}
+use Rattle.floor_values.specs.inner.Stored.{floorIn}
+use Rattle.mapping.specs.Content.{Mapping}
+use Rattle.floor_requests.specs.Requests.{FloorRead}
+use Rattle.audio.specs.Channels.{floorNumber, floorsOf}
+use Rattle.audio.specs.Curves.{curvesOf}
+use Rattle.audio_floors.specs.inner.Floors.{XListStored}
+
+map-last : (g : ℕ → Floor) (xs : List ℕ) (x : ℕ) → map g (xs ++ (x ∷ [])) ≡ map g xs ++ (g x ∷ [])
+map-last g [] x = refl
+map-last g (y ∷ xs) x = ap (λ (l : List Floor). g y ∷ l) (map-last g xs x)
+
+module _ (g h : ℕ → Floor) (m : Mapping) where
+  pub floors-agree : (channels : ℕ) → ((c : ℕ) → c < channels → g (floorNumber m c) ≡ h (floorNumber m c)) → floorsOf g m channels ≡ floorsOf h m channels
+  unfolding floorsOf tabulate
+  floors-agree zero e = refl
+  floors-agree (suc n) e =
+      let first : map g (tabulate (floorNumber m) n) ≡ map h (tabulate (floorNumber m) n) = floors-agree n (λ c l. e c (omega arith)) in
+      let last = e n (omega arith) in
+      map-last g (tabulate (floorNumber m) n) (floorNumber m n) ∙ (λ j. first j ++ (last j ∷ [])) ∙ sym (map-last h (tabulate (floorNumber m) n) (floorNumber m n))
+
+  pub curves-agree : (channels half : ℕ) (vs : List FloorRead) → ((c : ℕ) → c < channels → g (floorNumber m c) ≡ h (floorNumber m c))
+      → curvesOf half (floorsOf g m channels) vs ≡ curvesOf half (floorsOf h m channels) vs
+  curves-agree channels half vs e = ap (λ (fs : List Floor). curvesOf half fs vs) (floors-agree channels e)
+
+-- where the row of a floor lies, its X list can be read
+pub x-list-stored : (floors : List ℕ) (n books : ℕ) → ValidFloor books (floorIn floors n) → decoded.FloorStored floors (277 * n) (floorIn floors n) → XListStored floors n
+x-list-stored floors n books v l =
+    let few = values-few v in
+    let e = l .values in
+    record {
+      count = omega arith;
+      list = ap (λ (c : ℕ). slice (277 * n + 212) (277 * n + 212 + c) floors) (l .values) ∙ x-list-is l (omega arith);
+    }

@@ -1,0 +1,3 @@
+pub mod ChannelLaws
+pub mod FloorsLaws
+pub mod Agreement
