@@ -27,26 +27,6 @@ use Rattle.audio.specs.Channels.{submapOf, floorNumber, floorsOf, isUsed, coupl
 use Rattle.audio.specs.Packet.{mappingOf, channelFloors, residuesAfter, bodyRequests}
 use Rattle.audio_call.specs.inner.Body.{floorsIn, residuesIn, bodyIn}
 
--- functions that agree where they are asked
-map-same : (f g : ℕ → Floor) (number : ℕ → ℕ) (n : ℕ) → ((j : ℕ) → j < n → f (number j) ≡ g (number j)) → map f (tabulate number n) ≡ map g (tabulate number n)
-unfolding tabulate
-map-same f g number zero h = refl
-map-same f g number (suc n) h =
-    map-append f (tabulate number n) (number n ∷ [])
-    ∙ (λ i. map-same f g number n (λ j k. h j (omega arith)) i ++ (h n (omega arith) i ∷ []))
-    ∙ sym (map-append g (tabulate number n) (number n ∷ []))
-  where
-    map-append : (f : ℕ → Floor) (l m : List ℕ) → map f (l ++ m) ≡ map f l ++ map f m
-    map-append f [] m = refl
-    map-append f (x ∷ l) m = ap (λ (t : List Floor). f x ∷ t) (map-append f l m)
-
-all-same : (d : ℕ → ℕ) (f g : ℕ → Residue) (half : ℕ) (m : Mapping) (live : List Bool) (n : ℕ) (xs : List Submap)
-    → ((j : ℕ) → j < length xs → f (getD xs j noSubmap .residue) ≡ g (getD xs j noSubmap .residue)) → allRequests d f half m live n xs ≡ allRequests d g half m live n xs
-unfolding allRequests
-all-same d f g half m live n [] h = refl
-all-same d f g half m live n (x ∷ xs) h =
-    λ i. bind (submapRequests d half m live n (h 0 (omega arith) i)) (λ _. all-same d f g half m live (suc n) xs (λ j k. h (suc j) (omega arith)) i)
-
 module _ {limits : Limits} {channels : ℕ} {t : Tables} {c : Setup} (x : RowsReadable limits channels t c) (few : limits .«book_entries» ≤ 65536) (h : Head) (set-up : h .mode < length (c .modes)) where
   -- the number of the mode's mapping
   abbrev number : ℕ
@@ -67,7 +47,7 @@ module _ {limits : Limits} {channels : ℕ} {t : Tables} {c : Setup} (x : RowsRe
       let m = getD (c .mappings) number noMapping in
       let s = x .mappings number number-set-up in
       ap (λ (y : Mapping). floorsOf (floorIn (t .floors)) y channels) (s .content)
-      ∙ map-same (floorIn (t .floors)) (λ k. getD (c .floors) k noFloor) (floorNumber m) channels
+      ∙ floors-agree (floorIn (t .floors)) (λ k. getD (c .floors) k noFloor) m channels
       (λ j k. x .floors few (floorNumber m j) (s .floor-set-up (submapOf m j) (s .is .submap-set-up j k)) .content)
 
   pub residues-are : (vs : List FloorRead)
@@ -77,7 +57,7 @@ module _ {limits : Limits} {channels : ℕ} {t : Tables} {c : Setup} (x : RowsRe
       let m = getD (c .mappings) number noMapping in
       let s = x .mappings number number-set-up in
       (λ i. allRequests (x .dimensions i) (residueIn (t .residues) (t .plans)) (h .blocksize / 2) (s .content i) (coupled (s .content i .couplings) (map isUsed vs)) 0 (s .content i .submaps))
-      ∙ all-same (dimensionsOf c) (residueIn (t .residues) (t .plans)) (λ n. getD (c .residues) n noResidue) (h .blocksize / 2) m (coupled (m .couplings) (map isUsed vs)) 0 (m .submaps)
+      ∙ same-residues (dimensionsOf c) (residueIn (t .residues) (t .plans)) (λ n. getD (c .residues) n noResidue) (h .blocksize / 2) m (coupled (m .couplings) (map isUsed vs)) 0 (m .submaps)
       (λ j k. x .residues (getD (m .submaps) j noSubmap .residue) (s .residue-set-up j k) .content)
 
   -- THE BODY

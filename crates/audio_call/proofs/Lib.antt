@@ -7,3 +7,4 @@ pub mod PacketLaws
 pub mod HeadLaws
 pub mod AcceptedLaws
 pub mod SettleLaws
+pub mod BodyReadLaws

@@ -1,5 +1,5 @@
 -- The body of an audio packet by the tables, and what reading it leaves. Assumes nothing: these are definitions.
-use Prim.Native.Nat.{ℕ}
+use Prim.Native.Nat.{ℕ, _≤_, _<_}
 use mathlib.Core.Bool.{cond}
 use mathlib.Core.List.{List, map}
 use mathlib.Core.Path.{_≡_}
@@ -12,7 +12,10 @@ use Rattle.book_codeword.specs.inner.Stored.{dimensionsIn}
 use Rattle.floor.specs.Content.{Floor}
 use Rattle.floor_values.specs.inner.Stored.{floorIn}
 use Rattle.mapping_row.specs.inner.Readable.{mappingIn}
-use Rattle.residue_pass.specs.inner.Readable.{residueIn}
+use Rattle.residue.specs.inner.Decode.{headAt}
+use Rattle.residue.specs.inner.Heads.{headOf}
+use Rattle.residue.specs.declared.head.Head.{Head}
+use Rattle.residue_pass.specs.inner.Readable.{residueIn, ResidueReadable}
 use Rattle.requests.specs.Requests.{Requests, bind, each}
 use Rattle.requests.specs.Run.{Run}
 use Rattle.floor_requests.specs.Requests.{FloorRead, floorRequests}
@@ -21,6 +24,8 @@ use Rattle.codeword_list.specs.inner.ListRead.{Ending, full, endingOf, endingBy
 use Rattle.audio.specs.Channels.{floorsOf, isUsed, coupled, allRequests}
 use Rattle.audio.specs.Packet.{byChannel}
 use Rattle.audio.specs.Curves.{curvesOf}
+use Rattle.audio_floors.specs.inner.Floors.{FloorsReadable}
+use Rattle.audio_residues.specs.inner.Reading.{residueNumber}
 use Rattle.audio_call.specs.declared.body.BodyRead.{BodyRead}
 
 -- the floors of so many channels, by mapping number n
@@ -47,3 +52,11 @@ pub record BodyIs (r : Run Unit) (fs : List Floor) (vs : List FloorRead) (channe
   pub ending : endingOf (x .words) ≡ endingWords (length list) r
   pub curves : exit ≡ sets entry 0 (curvesOf half fs (byChannel channels vs))
   pub words : list′ ≡ sets list 0 (map listed (residueWords (r .items)))
+
+-- what is known of the tables where they are sound: mapping n, the floors of so many channels, the residues of its submaps
+pub record BodyReadable (mappings floors residues plans books lengths codewords : List ℕ) (n channels half : ℕ) : Type 0 where
+  pub floors-readable : FloorsReadable channels n mappings floors books lengths codewords
+  pub residue-is : (j : ℕ) → j < length (mappingIn mappings n .submaps) → (h : Head) → headOf h ≡ headAt residues (residueNumber (mappingIn mappings n) j)
+      → ResidueReadable books lengths codewords plans (residueNumber (mappingIn mappings n) j) h
+  pub channels-few : channels ≤ 255
+  pub half-few : half ≤ 4096

@@ -1,0 +1,151 @@
+-- The body of a packet by the tables, as the code asks it: floors, and then residues unless a floor was cut. Assumes nothing.
+use Prim.Native.Nat.{ℕ, zero, suc, _*_, _≤_, _<_}
+use native.Mathlib.Omega.{arith}
+use borrow.Author.Tests.{eqb-true}
+use mathlib.Core.Bool.{Bool, true, false, not}
+use mathlib.Core.List.{List, [], _∷_, _++_, map}
+use mathlib.Core.Option.{Option, none, some}
+use mathlib.Core.Path.{_≡_, refl, ap, sym, subst, _∙_}
+use lib.Dec.{eqb}
+use lib.ListN.{length, getD, take, length-map}
+use Rattle.reading.specs.Least.{one}
+use Rattle.reading.specs.Pad.{pad}
+use Rattle.reading.specs.Reader.{Reader}
+use Rattle.reading.specs.Tabulate.{tabulate}
+use Rattle.reading.proofs.Pads.{length-pad}
+use Rattle.reading.proofs.Tabulate.{tabulate-length}
+use Rattle.bits.specs.declared.Cursor.{Cursor}
+use Rattle.bits.specs.inner.Cursors.{position}
+use Rattle.book_codeword.specs.inner.Stored.{lengthsIn, dimensionsIn}
+use Rattle.floor.specs.Content.{Floor}
+use Rattle.floor_values.specs.inner.Stored.{floorIn}
+use Rattle.mapping_row.specs.inner.Readable.{mappingIn}
+use Rattle.residue_pass.specs.inner.Readable.{residueIn}
+use Rattle.requests.specs.Requests.{Request, Requests, done, bind, each}
+use Rattle.requests.specs.Run.{read, Run, run}
+use Rattle.requests.specs.Values.{wholeValues}
+use Rattle.requests.specs.inner.Parts.{joined}
+use Rattle.requests.proofs.Laws.{run-bind}
+use Rattle.requests.proofs.Values.{sequence}
+use Rattle.floor_requests.specs.Requests.{FloorRead, unused, values, floorRequests}
+use Rattle.residue_requests.proofs.KindLaws.{Both, both}
+use Rattle.codeword_list.specs.declared.ListRead.{ListRead}
+use Rattle.codeword_list.specs.declared.ListRead.the-variants as L
+use Rattle.codeword_list.specs.inner.ListRead.{endingOf, ReadIntoList}
+use Rattle.audio.specs.Channels.{floorNumber, floorsOf, isUsed, coupled, allRequests}
+use Rattle.audio.specs.Curves.{curvesOf}
+use Rattle.audio_channels.specs.inner.Live.{isLive, usedBools}
+use Rattle.audio_floors.specs.declared.FloorsRead.{FloorsRead}
+use Rattle.audio_floors.specs.inner.Floors.{isCut, flagsOf, curvesAt, FloorsAre}
+use Rattle.audio_residues.specs.inner.Reading.{submapsRun, ResiduesReadable}
+use Rattle.audio_call.specs.declared.body.BodyRead.{BodyRead}
+use Rattle.audio_call.specs.inner.Body.{floorsIn, residuesIn, bodyIn, endingWords, BodyIs, BodyReadable}
+use Rattle.audio_call.proofs.BodyWords.{Asks, all-ask}
+use Rattle.audio_call.proofs.BodyLaws.{cut-ending, cut-list, whole-ending, whole-list}
+
+some-is : {A : Type 0} {a b : A} → _≡_ {A = Option A} (some a) (some b) → a ≡ b
+some-is e = cc
+
+-- floors that are all whole are as many as were asked for
+all-long : (reads : Request → Reader ℕ) (s : List ℕ) (fs : List Floor) (k : ℕ) (vs : List FloorRead) → run reads (each floorRequests fs) s k .value ≡ some vs → length vs ≡ length fs
+unfolding each run
+all-long reads s [] k vs e = ap length (sym (some-is e))
+all-long reads s (f ∷ fs) k vs e =
+    let a = both (run reads (floorRequests f) s k) (λ v n. run reads (bind (each floorRequests fs) (λ l. done (v ∷ l))) s n)
+        (ap (λ (r : Run (List FloorRead)). r .value) (sym (run-bind reads s (floorRequests f) (λ v. bind (each floorRequests fs) (λ l. done (v ∷ l))) k)) ∙ e) in
+    let n = run reads (floorRequests f) s k .position in
+    let b = both (run reads (each floorRequests fs) s n) (λ l m. run reads (done (a .first ∷ l)) s m)
+        (ap (λ (r : Run (List FloorRead)). r .value) (sym (run-bind reads s (each floorRequests fs) (λ l. done (a .first ∷ l)) n)) ∙ a .second) in
+    let h = all-long reads s fs n (b .first) (b .came) in
+    ap length (sym (some-is (b .second))) ∙ ap suc h
+
+-- the flags of so many channels, back from their places
+back : (m : ℕ) (vs : List FloorRead) → length vs ≤ m → map isLive (take (length vs) (pad m (map (λ f. one (isUsed f)) vs))) ≡ map isUsed vs
+unfolding pad isUsed
+back m [] h = refl
+back zero (v ∷ vs) h = absurd (omega arith)
+back (suc m) (unused ∷ vs) h = ap (λ (l : List Bool). false ∷ l) (back m vs (omega arith))
+back (suc m) (values ys ∷ vs) h = ap (λ (l : List Bool). true ∷ l) (back m vs (omega arith))
+
+module _ (books lengths floors residues plans mappings : List ℕ) (n channels half : ℕ) (s : List ℕ) (k : ℕ) where
+  abbrev fs : List Floor
+  fs = floorsIn mappings floors n channels
+
+  abbrev lens : ℕ → List ℕ
+  lens = lengthsIn books lengths
+
+  abbrev floorsRun : Run (List FloorRead)
+  floorsRun = run (read lens) (each floorRequests fs) s k
+
+  abbrev whole : List FloorRead
+  whole = wholeValues (read lens) floorRequests fs s k
+
+  abbrev bodyRun : Run Unit
+  bodyRun = run (read lens) (bodyIn books floors residues plans mappings n channels half) s k
+
+  abbrev rest : List FloorRead → Requests Unit
+  rest vs = residuesIn books residues plans mappings n half vs
+
+  asks : (vs : List FloorRead) → Asks true (rest vs)
+  unfolding residuesIn
+  asks vs = all-ask (dimensionsIn books) (residueIn residues plans) half (mappingIn mappings n) (coupled (mappingIn mappings n .couplings) (map isUsed vs)) 0 (mappingIn mappings n .submaps)
+
+  module _ {r : FloorsRead} {entry exit : List ℕ} (f : FloorsAre lens channels half fs s k r entry exit) (list : List ℕ) where
+    -- a floor was cut
+    was-cut : r .cut ≡ true → floorsRun .value ≡ none
+    unfolding isCut
+    was-cut e = go (floorsRun .value) refl (sym (f .cut) ∙ e)
+      where
+        go : (v : Option (List FloorRead)) → floorsRun .value ≡ v → isCut v ≡ true → floorsRun .value ≡ none
+        go none q h = q
+        go (some vs) q h = let z : _≡_ {A = ℕ} 0 1 = cc in absurd (omega arith)
+
+    pub body-cut : r .cut ≡ true → BodyIs bodyRun fs whole channels half (record { used = r .used; words = L.Cut (record { at = r .at; count = 0 }) }) entry exit list list
+    unfolding bodyIn endingOf flagsOf curvesAt
+    body-cut e =
+        let v = was-cut e in
+        record {
+          used = f .used;
+          ending = rw (f .position) (sym (cut-ending lens s k fs rest asks v (length list)));
+          curves = f .curves;
+          words = cut-list lens s k fs rest asks v list;
+        }
+
+    -- none was
+    pub record AllWhole : Type 0 where
+      pub floors : List FloorRead
+      pub value : floorsRun .value ≡ some floors
+
+    was-whole : r .cut ≡ false → AllWhole
+    unfolding isCut
+    was-whole e = go (floorsRun .value) refl (sym (f .cut) ∙ e)
+      where
+        go : (v : Option (List FloorRead)) → floorsRun .value ≡ v → isCut v ≡ false → AllWhole
+        go none q h = let z : _≡_ {A = ℕ} 0 1 = cc in absurd (omega arith)
+        go (some vs) q h = record { floors = vs; value = q }
+
+    pub body-whole : channels ≤ 255 → r .cut ≡ false → {x : ListRead} {list′ : List ℕ}
+        → ReadIntoList (submapsRun books lengths residues plans half (mappingIn mappings n) (coupled (mappingIn mappings n .couplings) (usedBools channels (r .used))) 0 (mappingIn mappings n .submaps) s (position (r .at))) list 0 x list′
+        → BodyIs bodyRun fs whole channels half (record { used = r .used; words = x }) entry exit list list′
+    unfolding bodyIn flagsOf curvesAt usedBools floorsOf
+    body-whole few e {x} {list′} g =
+        let w = was-whole e in
+        let same = sequence lens floorRequests fs .whole s k (w .floors) (w .value) in
+        let maps = length-map (tabulate (floorNumber (mappingIn mappings n)) channels) (floorIn floors) in
+        let long : length (w .floors) ≡ channels = all-long (read lens) s fs k (w .floors) (w .value) ∙ maps ∙ tabulate-length (floorNumber (mappingIn mappings n)) channels in
+        let used : usedBools channels (r .used) ≡ map isUsed (w .floors) =
+            ap (usedBools channels) (f .used ∙ ap (λ (vs : List FloorRead). pad 255 (map (λ v. one (isUsed v)) vs)) same)
+            ∙ ap (λ (m : ℕ). usedBools m (pad 255 (map (λ v. one (isUsed v)) (w .floors)))) (sym long)
+            ∙ back 255 (w .floors) (omega arith) in
+        let read-all : ReadIntoList (run (read lens) (rest (w .floors)) s (floorsRun .position)) list 0 x list′ = go (usedBools channels (r .used)) (position (r .at)) used (f .position) g in
+        record {
+          used = f .used;
+          ending = read-all .ending ∙ whole-ending lens s k fs rest asks (w .value) (length list);
+          curves = f .curves;
+          words = read-all .list ∙ whole-list lens s k fs rest asks (w .value) list;
+        }
+      where
+        go : (l : List Bool) (p : ℕ) {vs : List FloorRead} → l ≡ map isUsed vs → p ≡ floorsRun .position
+            → ReadIntoList (submapsRun books lengths residues plans half (mappingIn mappings n) (coupled (mappingIn mappings n .couplings) l) 0 (mappingIn mappings n .submaps) s p) list 0 x list′
+            → ReadIntoList (run (read lens) (rest vs) s (floorsRun .position)) list 0 x list′
+        go l p a b y = ?
