@@ -135,16 +135,16 @@ words-listed : (books lengths s : List ℕ) (book live k : ℕ) (out : List ℕ)
     → (p .count ≡ c + live) × (ws ≡ entriesFrom exit (p .count - live) live)
 words-listed books lengths s book live k out c {x} {exit} w {p} q ws e =
     let items = classWordsRun books lengths book live [] s k .items in
-    let x = read-whole q (w .ending) in
+    let whole = read-whole q (w .ending) in
     let y = classes-read (read (lengthsIn books lengths)) s book live [] k e in
     let l = numbers-long items in
-    let n : p .count ≡ c + live = omega (arith, x .number, y .number) in
-    let f : c + length (numbers items) ≤ length out = omega (arith, x .number, x .fits) in
+    let n : p .count ≡ c + live = omega (arith, whole .number, y .number) in
+    let f : c + length (numbers items) ≤ length out = omega (arith, whole .number, whole .fits) in
     let low : c ≤ length out = omega arith in
     let t : length (take c out) ≡ c = omega (arith, length-take c out) in
     let tail = drop (c + length (numbers items)) out in
-    let laid : exit ≡ take c out ++ (numbers items ++ tail) = w .list ∙ sets-eq (numbers items) out c f ∙ append-assoc (take c out) (numbers items) tail in
-    let d : drop c exit ≡ numbers items ++ tail = ap (drop c) laid ∙ drop-at (take c out) (numbers items ++ tail) c t in
+    let list : exit ≡ take c out ++ (numbers items ++ tail) = w .list ∙ sets-eq (numbers items) out c f ∙ append-assoc (take c out) (numbers items) tail in
+    let d : drop c exit ≡ numbers items ++ tail = ap (drop c) list ∙ drop-at (take c out) (numbers items ++ tail) c t in
     let z : p .count - live ≡ c = omega arith in
     (n, rw z (y .words-are ∙ sym (entries-are items (y .kind) exit c tail d) ∙ ap (entriesFrom exit c) (y .number)))
 

@@ -1,4 +1,5 @@
-// Pass 0: class words and their groups of partitions, which call each other while partitions are left (001, "packet decode", steps 4 to 21; 01, "Limits").
+// Pass 0: class words and their groups of partitions, which call each other while the number of partitions left falls (001, "packet decode", steps 4 to 21;
+// 01, "The shape of some places").
 use super::partition;
 use codeword_list::ListRead;
 use codeword_list::Progress;
