@@ -6,7 +6,9 @@ use mathlib.Core.List.{List, [], _∷_, _++_, map}
 use mathlib.Core.Path.{_≡_, refl, sym, ap, _∙_}
 use lib.Seq.{slice}
 use Rattle.reading.specs.Tabulate.{tabulate}
+use Rattle.reading.proofs.Stored.{Stored}
 use Rattle.floor.specs.Content.{Floor}
+use Rattle.floor.specs.Layout.{floorRow}
 use Rattle.floor.specs.inner.Valid.{ValidFloor}
 use Rattle.floor.proofs.Decoded as decoded
 use Rattle.floor.proofs.ValidLaws.{values-few}
@@ -35,7 +37,7 @@ module _ (g h : ℕ → Floor) (m : Mapping) where
       → curvesOf half (floorsOf g m channels) vs ≡ curvesOf half (floorsOf h m channels) vs
   curves-agree channels half vs e = ap (λ (fs : List Floor). curvesOf half fs vs) (floors-agree channels e)
 
--- where the row of a floor lies, its X list can be read
+-- where the numbers of a floor's row lie, its X list can be read
 pub x-list-stored : (floors : List ℕ) (n books : ℕ) → ValidFloor books (floorIn floors n) → decoded.FloorStored floors (277 * n) (floorIn floors n) → XListStored floors n
 x-list-stored floors n books v l =
     let few = values-few v in
@@ -44,3 +46,8 @@ x-list-stored floors n books v l =
       count = omega arith;
       list = ap (λ (c : ℕ). slice (277 * n + 212) (277 * n + 212 + c) floors) (l .values) ∙ x-list-is l (omega arith);
     }
+
+pub row-x-list-stored : (floors : List ℕ) (n books : ℕ) (f : Floor) → ValidFloor books f → Stored floors (277 * n) (floorRow f) → XListStored floors n
+row-x-list-stored floors n books f v l =
+    let e : floorIn floors n ≡ f = unfold floorIn in decoded.floor-decoded-at (277 * n) books f v l in
+    x-list-stored floors n books (rw e v) (rw e (decoded.floor-stored f l))

@@ -141,7 +141,7 @@ module _ (floors books lengths codewords : List ℕ) (n : ℕ) (l : FloorStored 
   x-few : length (xList (floorIn floors n .rangebits) (floorIn floors n .xs)) ≤ 65
   x-few = let f = values-few (l .valid) in omega arith
 
-  pub count-few : {count : ℕ} → count ≡ getD floors (277 * n + 4) 0 → count ≤ 65
+  count-few : {count : ℕ} → count ≡ getD floors (277 * n + 4) 0 → count ≤ 65
   count-few e = let c = x .count in let f = x-few in omega arith
 
   pub count-within : {count : ℕ} → count ≡ getD floors (277 * n + 4) 0 → {long : ℕ} → long ≡ 65 → count ≤ long

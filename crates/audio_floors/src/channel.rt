@@ -75,11 +75,7 @@ fn no_curve(at: Cursor, cut: bool, out: &mut [u8]) -> ChannelRead
     ensures { λ r. ⌜ (r ≡ channelRead at cut 0) × (now (out .exit) ≡ replicate (length (now (out .entry))) 0) ⌝ }
 {
     draw_flat(out, 0, 0);
-    ChannelRead {
-        at,
-        cut,
-        used: 0,
-    }
+    ChannelRead { at, cut, used: 0 }
 }
 
 // The floor of a channel and its curve, which fills `out`.

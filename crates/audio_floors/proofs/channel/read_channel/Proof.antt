@@ -1,8 +1,7 @@
 -- `audio_floors::channel::read_channel` meets its contract, by ChannelLaws: a floor that is cut, unused or used. Assumes nothing.
-use native.Mathlib.Omega.{arith}
 use mathlib.Core.Path.{sym, _∙_}
 use lib.Seq.{length-take-le}
-use Rattle.audio_floors.proofs.ChannelLaws.{count-few, count-within, drawable, channel-used, of-cut, of-unused, values-cut, values-unused}
+use Rattle.audio_floors.proofs.ChannelLaws.{count-within, drawable, channel-used, of-cut, of-unused, values-cut, values-unused}
 use borrow.Author.Needs.{needs}
 use Rattle.audio_floors.proofs.channel.read_channel.Statement.{statement}
 use Rattle.audio_floors.proofs.channel.read_channel.Tie as tie
@@ -29,19 +28,47 @@ wide-u16-requires : tie.Need-wide-u16-requires
 wide-u16-requires c κs = search needs
 
 array-share-prefix-values : tie.Need-array-share-prefix-values
-array-share-prefix-values c = count-within _ _ _ _ _ (c .before .before .before .before .before .before .before .before .before .before .before .before .before .before .before .pre .0) (c .before .before .before .before .before .before .before .before .before .before .before .before .before .before .before .pre .1) (c .before .before .before .before .before .before .before .read-values .ensures .1) (c .wide-u16 .ensures ∙ c .before .x-count .ensures) (c .before .before .before .before .before .before .before .read-values .kept .1 .1 .1 .1 .1 .1 .1 .0)
+array-share-prefix-values c =
+    let at-x-count = c .before in
+    let at-read-values = at-x-count .before .before .before .before .before .before in
+    let at-pre = at-read-values .before .before .before .before .before .before .before .before in
+    count-within _ _ _ _ _ (at-pre .pre .0) (at-pre .pre .1) (at-read-values .read-values .ensures .1)
+    (c .wide-u16 .ensures ∙ at-x-count .x-count .ensures) (at-read-values .read-values .kept .1 .1 .1 .1 .1 .1 .1 .0)
 
 slice-aggregate-draw-floor : tie.Need-slice-aggregate-draw-floor
-slice-aggregate-draw-floor c = let f = count-few _ _ _ _ _ (c .before .before .before .before .before .before .before .before .before .before .before .before .before .before .before .before .pre .0) (c .before .before .before .before .before .before .before .before .before .before .before .before .before .before .before .before .pre .1) (c .before .before .before .before .before .before .before .before .read-values .ensures .1) (c .before .wide-u16 .ensures ∙ c .before .before .x-count .ensures) in let k = c .before .before .before .before .before .before .before .before .read-values .kept in sym (length-take-le _ _ (omega arith))
+slice-aggregate-draw-floor c =
+    let at-wide-u16 = c .before in
+    let at-x-count = at-wide-u16 .before in
+    let at-read-values = at-x-count .before .before .before .before .before .before in
+    let at-pre = at-read-values .before .before .before .before .before .before .before .before in
+    sym
+    (length-take-le _ _ (count-within _ _ _ _ _ (at-pre .pre .0) (at-pre .pre .1) (at-read-values .read-values .ensures .1) (at-wide-u16 .wide-u16 .ensures ∙ at-x-count .x-count .ensures) (at-read-values .read-values .kept .1 .1 .1 .1 .1 .1 .1 .0)))
 
 draw-floor-requires : tie.Need-draw-floor-requires
-draw-floor-requires c κs = drawable _ _ _ _ _ (c .before .before .before .before .before .before .before .before .before .before .before .before .before .before .before .before .before .pre .0) (c .before .before .before .before .before .before .before .before .before .before .before .before .before .before .before .before .before .pre .1) (c .before .before .before .before .before .before .before .before .before .read-values .ensures .1) _ _ (c .before .before .before .before .before .before .before .before .before .read-values .ensures .0) (c .before .before .before .before .before .before .step2 .given .1) (c .before .before .before .before .if1 .taken) (c .before .before .wide-u16 .ensures ∙ c .before .before .before .x-count .ensures)
+draw-floor-requires c κs =
+    let at-wide-u16 = c .before .before in
+    let at-x-count = at-wide-u16 .before in
+    let at-if1 = at-x-count .before in
+    let at-step2 = at-if1 .before .before in
+    let at-read-values = at-step2 .before .before .before in
+    let at-pre = at-read-values .before .before .before .before .before .before .before .before in
+    drawable _ _ _ _ _ (at-pre .pre .0) (at-pre .pre .1) (at-read-values .read-values .ensures .1) _ _ (at-read-values .read-values .ensures .0)
+    (at-step2 .step2 .given .1) (at-if1 .if1 .taken) (at-wide-u16 .wide-u16 .ensures ∙ at-x-count .x-count .ensures)
 
 same-length : tie.Need-same-length
 same-length c = search needs
 
 returns : tie.Need-returns
-returns c = channel-used _ _ _ _ _ (c .before .before .before .before .before .before .before .before .before .before .before .before .before .before .before .before .before .before .before .before .pre .0) (c .before .before .before .before .before .before .before .before .before .before .before .before .before .before .before .before .before .before .before .before .pre .1) (c .before .before .before .before .before .before .before .before .before .before .before .before .read-values .ensures .1) _ _ (c .before .before .before .before .before .before .before .before .before .before .before .before .read-values .ensures .0) (c .before .before .before .before .before .before .before .before .before .step2 .given .1) (c .before .before .before .before .before .before .before .if1 .taken) (c .before .before .before .before .before .wide-u16 .ensures ∙ c .before .before .before .before .before .before .x-count .ensures) (c .before .before .draw-floor .ensures)
+returns c =
+    let at-draw-floor = c .before .before in
+    let at-wide-u16 = at-draw-floor .before .before .before in
+    let at-x-count = at-wide-u16 .before in
+    let at-if1 = at-x-count .before in
+    let at-step2 = at-if1 .before .before in
+    let at-read-values = at-step2 .before .before .before in
+    let at-pre = at-read-values .before .before .before .before .before .before .before .before in
+    channel-used _ _ _ _ _ (at-pre .pre .0) (at-pre .pre .1) (at-read-values .read-values .ensures .1) _ _ (at-read-values .read-values .ensures .0)
+    (at-step2 .step2 .given .1) (at-if1 .if1 .taken) (at-wide-u16 .wide-u16 .ensures ∙ at-x-count .x-count .ensures) (at-draw-floor .draw-floor .ensures)
 
 no-curve-requires-2 : tie.Need-no-curve-requires-2
 no-curve-requires-2 c κs = search needs
@@ -50,13 +77,24 @@ same-length-2 : tie.Need-same-length-2
 same-length-2 c = search needs
 
 returns-2 : tie.Need-returns-2
-returns-2 c = of-cut _ _ _ _ _ (values-cut _ _ _ _ _ (c .before .before .before .before .before .before .before .before .before .read-values .ensures .0) (c .before .before .before .before .before .before .step .given .1)) (c .before .before .no-curve .ensures .0) (c .before .before .no-curve .ensures .1)
+returns-2 c =
+    let at-no-curve = c .before .before in
+    let at-step = at-no-curve .before .before .before .before in
+    let at-read-values = at-step .before .before .before in
+    of-cut _ _ _ _ _ (values-cut _ _ _ _ _ (at-read-values .read-values .ensures .0) (at-step .step .given .1)) (at-no-curve .no-curve .ensures .0)
+    (at-no-curve .no-curve .ensures .1)
 
 same-length-3 : tie.Need-same-length-3
 same-length-3 c = search needs
 
 returns-3 : tie.Need-returns-3
-returns-3 c = of-unused _ _ _ _ _ (values-unused _ _ _ _ _ (c .before .before .before .before .before .before .before .before .before .read-values .ensures .0) (c .before .before .before .before .before .before .step2 .given .1) (c .before .before .before .before .if1 .left)) (c .before .before .no-curve2 .ensures .0) (c .before .before .no-curve2 .ensures .1)
+returns-3 c =
+    let at-no-curve2 = c .before .before in
+    let at-if1 = at-no-curve2 .before .before in
+    let at-step2 = at-if1 .before .before in
+    let at-read-values = at-step2 .before .before .before in
+    of-unused _ _ _ _ _ (values-unused _ _ _ _ _ (at-read-values .read-values .ensures .0) (at-step2 .step2 .given .1) (at-if1 .if1 .left))
+    (at-no-curve2 .no-curve2 .ensures .0) (at-no-curve2 .no-curve2 .ensures .1)
 
 pub read-channel-spec : {M : Type 1} → statement M
 read-channel-spec =
