@@ -44,7 +44,8 @@ use std::{env, fs};
 const USAGE: &str = "\
 compare calls SEED COUNT                  random inputs, COUNT calls or more
 compare streams LIST FOLDER [...]         published streams of each list
-compare bench INPUT SIDE TIMES            one call so many times, SIDE library or second";
+compare bench INPUT SIDE TIMES            one call so many times, SIDE library or second
+compare bench FILE.ogg SIDE TIMES         all audio packets of a stream so many times";
 
 type Outcome = Result<(), Box<dyn Error>>;
 
