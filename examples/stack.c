@@ -35,15 +35,22 @@ static void write_setup(uint32_t residue_type, uint32_t passes) {
     put(1, 1);                                               /* the framing bit */
 }
 
+/* Both calls, the one that changes the tally where it lies and the one that takes it by value. */
 static void print_audio(uint32_t residue_type, uint32_t passes, size_t places) {
     const uint8_t audio[4] = {0x08}; /* type and window flags 0, a used floor of two Y, seven unused ones */
-    struct torchvalley_tally tally = {0};
+    const struct torchvalley_tally before = {.blocksize = 8192, .samples = 5};
+    struct torchvalley_tally tally = before;
     write_setup(residue_type, passes);
     uint32_t refusal = torchvalley_setup(identity, packet, (bits + 7) / 8, TABLES);
     struct torchvalley_audio_answer answer =
         torchvalley_audio(&tally, identity, TABLES, audio, sizeof audio, curves, sizeof curves, codewords, places);
-    printf("type %" PRIu32 ", %" PRIu32 " passes, %zu places: setup %" PRIu32 ", refusal %" PRIu32 ", codewords %" PRIu64 "\n", residue_type, passes,
+    struct torchvalley_audio_left left =
+        torchvalley_audio_by_value(before, identity, TABLES, audio, sizeof audio, curves, sizeof curves, codewords, places);
+    bool same = left.answer.refusal == answer.refusal && left.answer.codewords == answer.codewords && left.tally.blocksize == tally.blocksize &&
+                left.tally.samples == tally.samples;
+    printf("type %" PRIu32 ", %" PRIu32 " passes, %zu places: setup %" PRIu32 ", refusal %" PRIu32 ", codewords %" PRIu64, residue_type, passes,
            places, refusal, answer.refusal, answer.codewords);
+    printf(", samples %" PRIu64 ", by value %s\n", tally.samples, same ? "the same" : "others");
 }
 
 int main(void) {

@@ -80,9 +80,14 @@ impl<'a> Reader<'a> {
 
     /// Reads one packet on both sides by both calls, and gives the answer and the tally.
     pub fn read(&mut self, case: &Case) -> Result<(AudioAnswer, Tally), String> {
+        self.read_by(&[Call::Audio, Call::AudioByValue], case)
+    }
+
+    /// The same by one of the calls, or by both.
+    pub fn read_by(&mut self, calls: &[Call], case: &Case) -> Result<(AudioAnswer, Tally), String> {
         let (answer, tally, reason) = self.second(case);
         let expected = Left { answer, tally: vec![tally], differences: Vec::new() };
-        for call in [Call::Audio, Call::AudioByValue] {
+        for &call in calls {
             let left = self.library(call, case);
             let given = |left: Left| Given { answer: Answer::Number(left.answer.refusal), left };
             self.report.compare(call, &given(left), &given(expected.clone()), || in_full(case))?;

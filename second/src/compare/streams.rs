@@ -8,7 +8,7 @@ use crate::floor::Points;
 use crate::identification::in_library_form;
 use crate::lent::{Places, Rooms};
 use crate::library::Tally;
-use crate::report::Report;
+use crate::report::{Call, Report};
 use crate::{codeword, codewords, enter_lengths, floor, identification, setup, setup_sound, sound};
 use second::audio::floor_values;
 use second::generate::random::Random;
@@ -34,7 +34,7 @@ pub struct Seen {
 }
 
 /// Bytes of each stream's packets that are cut after every byte.
-const CUT_BYTES: usize = 240;
+const CUT_BYTES: usize = 160;
 
 /// Compares on all streams of a list that are at hand.
 pub fn list(list: &str, folder: &Path, report: &mut Report, seen: &mut Seen) -> Result<(), String> {
@@ -117,8 +117,8 @@ fn setup_packet(
     Ok(Some(Held::new(identity, content)))
 }
 
-/// The packet in the tool's room; now and then in exact room and less, and with other tallies.
-/// Gives the tally after it.
+/// The packet in the tool's room; now and then also with the tally by value, and in exact room
+/// and less, with other tallies, identities and tables. Gives the tally after it.
 fn audio_packet(
     held: &Held,
     tally: Tally,
@@ -126,8 +126,9 @@ fn audio_packet(
     random: &mut Random,
     reader: &mut Reader,
 ) -> Result<Tally, String> {
-    let (answer, after) = reader.read(&held.case(tally, packet, TOOL))?;
-    if random.one_in(32) {
+    let calls = if random.one_in(4) { &[Call::Audio, Call::AudioByValue][..] } else { &[Call::Audio] };
+    let (answer, after) = reader.read_by(calls, &held.case(tally, packet, TOOL))?;
+    if random.one_in(64) {
         rooms(held, tally, packet, &answer, random, reader)?;
         tallies(held, packet, &answer, random, reader)?;
         unsound(held, tally, packet, random, reader)?;
