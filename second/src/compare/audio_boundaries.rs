@@ -220,7 +220,8 @@ const LONE: [Lone; 15] = [
 const LARGE: identification::Identity =
     identification::Identity { channels: 8, block_sizes: [8_192, 8_192], ..IDENTITY };
 
-/// Lone entries take no bits: a packet of floors alone asks for any number of places.
+/// Lone entries take no bits: a packet of floors alone asks for any number of places. Where it
+/// is cut in a floor, it asks for none.
 fn lone_entries(reader: &mut Reader) -> Result<(), String> {
     for lone in &LONE {
         for (entries, used) in [(1, 8), (3, 1)] {
@@ -237,6 +238,10 @@ fn lone_entries(reader: &mut Reader) -> Result<(), String> {
                 let case = held.case(Tally::default(), &packet, Places { words, ..TOOL });
                 let number = if words < lone.words { 17 } else { 0 };
                 expect(&format!("{} words of lone entries", lone.words), number, &case, reader)?;
+            }
+            for length in 1..packet.len() {
+                let case = held.case(Tally::default(), &packet[..length], Places { words: 0, ..TOOL });
+                expect("lone entries behind a cut floor", 0, &case, reader)?;
             }
         }
     }
@@ -279,7 +284,7 @@ fn channels_and_submaps(random: &mut Random, reader: &mut Reader) -> Result<(), 
         vec![(1, 0), (3, 2), (1, 3), (1, 0), (0, 2)],
         (0..256).map(|step| if step < 255 { (3, 1) } else { (1, 2) }).collect(),
     ];
-    let multiplexes = [vec![], vec![0, 1, 0, 1], vec![15; 4], vec![7, 0, 7, 15]];
+    let multiplexes = [vec![], vec![0, 1, 0, 1], vec![2, 1, 0, 1], vec![14; 4], vec![7, 0, 7, 14]];
     for couplings in chains {
         for multiplex in &multiplexes {
             for residue_type in 0..3 {
@@ -290,6 +295,9 @@ fn channels_and_submaps(random: &mut Random, reader: &mut Reader) -> Result<(), 
                     let room = Places { words: 400, ..TOOL };
                     let (answer, tally) = reader.read(&held.case(Tally::default(), &packet, room))?;
                     rooms(held, tally, &packet, &answer, random, reader)?;
+                    for most in [packet.len(), packet.len().min(9)] {
+                        reader.read(&held.case(tally, &packet[..random.place(most)], room))?;
+                    }
                 }
             }
         }
@@ -299,23 +307,27 @@ fn channels_and_submaps(random: &mut Random, reader: &mut Reader) -> Result<(), 
 
 fn mapping(couplings: Vec<(u8, u8)>, multiplex: Vec<u8>) -> Mapping {
     let count = multiplex.iter().max().map_or(1, |&last| last + 1);
-    let submaps = (0..count).map(|submap| Submap { floor: 0, residue: submap % 2 }).collect();
+    let submaps = (0..count).map(|submap| Submap { floor: 0, residue: submap % 3 }).collect();
     Mapping { couplings, multiplex, submaps }
 }
 
-/// Two residues of one type, class words of two digits; the second begins late and ends past
-/// every block.
+/// Three residues of one type. The first has class words of two digits; so has the last, which
+/// begins late and ends past every block. The one between them has lone entries alone, which
+/// are not read behind a cut either.
 fn chained(residue_type: u32, mapping: Mapping) -> Result<Setup, String> {
     let mut plan = vec![[None; PASSES]; 2];
     plan[0][0] = Some(1);
     plan[1][1] = Some(1);
     plan[1][7] = Some(1);
+    let mut lone_plan = vec![[None; PASSES]];
+    lone_plan[0][2] = Some(2);
     let first = Residue { residue_type, begin: 3, end: 61, partition_size: 8, class_book: 0, plan };
-    let second = Residue { begin: 20, end: 0xFF_FFFF, partition_size: 6, ..first.clone() };
+    let lone = Residue { class_book: 2, plan: lone_plan, ..first.clone() };
+    let last = Residue { begin: 20, end: 0xFF_FFFF, partition_size: 6, ..first.clone() };
     Ok(Setup {
-        books: vec![book(2, vec![2, 2, 3, 3, 2])?, book(2, vec![1, 2, 3, 3])?],
+        books: vec![book(2, vec![2, 2, 3, 3, 2])?, book(2, vec![1, 2, 3, 3])?, lone_book(4, 2)?],
         floors: vec![plain_floor()?],
-        residues: vec![first, second],
+        residues: vec![first, lone, last],
         mappings: vec![mapping],
         modes: vec![Mode { long_block: true, mapping: 0 }],
     })
