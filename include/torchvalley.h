@@ -120,7 +120,7 @@ struct torchvalley_codeword torchvalley_codeword(struct torchvalley_identity ide
                                                  const uint8_t *mappings, size_t mappings_length, const uint8_t *modes, size_t modes_length,
                                                  uint32_t book, const uint8_t *packet, size_t packet_length, size_t byte, uint8_t bit);
 
-/* How far a stream has come. Both numbers are 0 before its first audio packet, and after a setup packet again. */
+/* How far a stream has come. The caller sets both numbers to 0 before its first audio packet. */
 struct torchvalley_tally {
     uint32_t blocksize; /* the block size of the last accepted audio packet */
     uint64_t samples;   /* the samples finished so far */
