@@ -26,6 +26,7 @@ pub fn boundaries(random: &mut Random, report: &mut Report) -> Result<(), String
     around_small_packets(random, reader)?;
     tables_and_identities(reader)?;
     lone_entries(reader)?;
+    ranges(reader)?;
     channels_and_submaps(random, reader)?;
     largest(random, reader)?;
     every_cut(random, reader)
@@ -273,6 +274,48 @@ impl Lone {
     }
 }
 
+/// Begin and end on both sides of half a block and of a submap's whole size, with class words
+/// that take no bits: one for each partition.
+fn ranges(reader: &mut Reader) -> Result<(), String> {
+    let identity = &identification::Identity { channels: 4, block_sizes: [64, 64], ..IDENTITY };
+    let packet = pack(&[(0, 1), (0, 2), (1, 1), (9, 8), (99, 8), (0, 1), (1, 1), (7, 8), (77, 8), (0, 1)]);
+    let bounds = [0, 1, 31, 32, 33, 63, 64, 65, 127, 128, 129, 0xFF_FFFF];
+    for residue_type in 0..3 {
+        // One vector of four channels, or two vectors, which are live.
+        let (size, vectors) = if residue_type == 2 { (128, 1) } else { (32, 2) };
+        for begin in bounds {
+            for end in bounds.into_iter().filter(|&end| end >= begin) {
+                for partition_size in [1, 3] {
+                    let range = Residue { begin, end, partition_size, ..lone_residue(residue_type) };
+                    let held = &Held::new(identity, one_of_each(range)?);
+                    let partitions = (end.min(size) - begin.min(size)) / partition_size;
+                    let (answer, _) = reader.read(&held.case(Tally::default(), &packet, TOOL))?;
+                    if answer.codewords != u64::from(vectors * partitions) {
+                        return Err(format!("both read {} words in {begin} to {end}", answer.codewords));
+                    }
+                }
+            }
+        }
+    }
+    Ok(())
+}
+
+/// Class words of book 0 alone.
+fn lone_residue(residue_type: u32) -> Residue {
+    Residue { residue_type, begin: 0, end: 0, partition_size: 1, class_book: 0, plan: vec![[None; PASSES]] }
+}
+
+/// One long mode, one submap, nothing coupled, one lone entry.
+fn one_of_each(residue: Residue) -> Result<Setup, String> {
+    Ok(Setup {
+        books: vec![lone_book(1, 1)?],
+        floors: vec![plain_floor()?],
+        residues: vec![residue],
+        mappings: vec![mapping(Vec::new(), Vec::new())],
+        modes: vec![Mode { long_block: true, mapping: 0 }],
+    })
+}
+
 /// Four channels of which any may have a floor, coupled in chains, in submaps of which some
 /// have no channel, by each type of residue.
 fn channels_and_submaps(random: &mut Random, reader: &mut Reader) -> Result<(), String> {
@@ -311,21 +354,24 @@ fn mapping(couplings: Vec<(u8, u8)>, multiplex: Vec<u8>) -> Mapping {
     Mapping { couplings, multiplex, submaps }
 }
 
-/// Three residues of one type. The first has class words of two digits; so has the last, which
-/// begins late and ends past every block. The one between them has lone entries alone, which
-/// are not read behind a cut either.
+/// Three residues of one type. The first has class words of two digits, and two vector books
+/// in pass 0, so that the order of partitions and vectors shows; so has the last, which begins
+/// late and ends past every block. The one between them has lone entries alone, which are not
+/// read behind a cut either.
 fn chained(residue_type: u32, mapping: Mapping) -> Result<Setup, String> {
     let mut plan = vec![[None; PASSES]; 2];
     plan[0][0] = Some(1);
+    plan[1][0] = Some(3);
     plan[1][1] = Some(1);
-    plan[1][7] = Some(1);
+    plan[1][7] = Some(3);
     let mut lone_plan = vec![[None; PASSES]];
     lone_plan[0][2] = Some(2);
     let first = Residue { residue_type, begin: 3, end: 61, partition_size: 8, class_book: 0, plan };
     let lone = Residue { class_book: 2, plan: lone_plan, ..first.clone() };
     let last = Residue { begin: 20, end: 0xFF_FFFF, partition_size: 6, ..first.clone() };
+    let vector_books = [book(2, vec![1, 2, 3, 3])?, lone_book(4, 2)?, book(1, vec![3, 2, 3, 2, 2])?];
     Ok(Setup {
-        books: vec![book(2, vec![2, 2, 3, 3, 2])?, book(2, vec![1, 2, 3, 3])?, lone_book(4, 2)?],
+        books: [vec![book(2, vec![2, 2, 3, 3, 2])?], vector_books.to_vec()].concat(),
         floors: vec![plain_floor()?],
         residues: vec![first, lone, last],
         mappings: vec![mapping],
