@@ -44,7 +44,7 @@ fn small() -> Result<Setup, String> {
     base().read().map_err(|refusal| format!("{refusal:?}"))
 }
 
-/// The small setup's floor in 23 bits: two Y, then the master book's entry 1, so that the
+/// The small setup's floor in 20 bits: two Y, then the master book's entry 1, so that the
 /// first value has no book and the second has book 1; its entry 0.
 const FLOOR: [(u32, u32); 5] = [(1, 1), (200, 8), (100, 8), (1, 1), (0, 2)];
 
@@ -198,23 +198,34 @@ struct Lone {
     words: usize,
 }
 
-#[rustfmt::skip]
+/// Class words alone, as many as eight channels of the largest block can have.
+const CLASS_WORDS: Lone = Lone {
+    residue_type: 2,
+    end: 0xFF_FFFF,
+    partition_size: 1,
+    class_dimensions: 1,
+    passes: 0,
+    vector_dimensions: 1,
+    words: 32_768,
+};
+
+/// The tool's places and one more, in several ways, and the most there are.
 const LONE: [Lone; 15] = [
-    Lone { residue_type: 2, end: 16_384, partition_size: 1, class_dimensions: 1, passes: 0, vector_dimensions: 1, words: 16_384 },
-    Lone { residue_type: 2, end: 16_385, partition_size: 1, class_dimensions: 1, passes: 0, vector_dimensions: 1, words: 16_385 },
-    Lone { residue_type: 2, end: 32_768, partition_size: 1, class_dimensions: 1, passes: 0, vector_dimensions: 1, words: 32_768 },
-    Lone { residue_type: 2, end: 0xFF_FFFF, partition_size: 1, class_dimensions: 1, passes: 0, vector_dimensions: 1, words: 32_768 },
-    Lone { residue_type: 2, end: 8_192, partition_size: 1, class_dimensions: 1, passes: 1, vector_dimensions: 1, words: 16_384 },
-    Lone { residue_type: 2, end: 16_383, partition_size: 1, class_dimensions: 65_535, passes: 1, vector_dimensions: 1, words: 16_384 },
-    Lone { residue_type: 2, end: 16_384, partition_size: 1, class_dimensions: 65_535, passes: 1, vector_dimensions: 1, words: 16_385 },
-    Lone { residue_type: 2, end: 32_768, partition_size: 32_768, class_dimensions: 1, passes: 1, vector_dimensions: 1, words: 32_769 },
-    Lone { residue_type: 2, end: 24_576, partition_size: 3, class_dimensions: 1, passes: 1, vector_dimensions: 3, words: 16_384 },
-    Lone { residue_type: 2, end: 24_579, partition_size: 3, class_dimensions: 1, passes: 1, vector_dimensions: 3, words: 16_386 },
-    Lone { residue_type: 2, end: 0xFF_FFFF, partition_size: 1 << 24, class_dimensions: 1, passes: 8, vector_dimensions: 1, words: 0 },
-    Lone { residue_type: 0, end: 2_048, partition_size: 1, class_dimensions: 1, passes: 0, vector_dimensions: 1, words: 16_384 },
-    Lone { residue_type: 0, end: 0xFF_FFFF, partition_size: 1, class_dimensions: 1, passes: 8, vector_dimensions: 1, words: MOST_WORDS },
-    Lone { residue_type: 1, end: 0xFF_FFFF, partition_size: 1, class_dimensions: 1, passes: 8, vector_dimensions: 1, words: MOST_WORDS },
-    Lone { residue_type: 2, end: 0xFF_FFFF, partition_size: 1, class_dimensions: 1, passes: 8, vector_dimensions: 1, words: MOST_WORDS },
+    CLASS_WORDS,
+    Lone { end: 32_768, ..CLASS_WORDS },
+    Lone { end: 16_384, words: 16_384, ..CLASS_WORDS },
+    Lone { end: 16_385, words: 16_385, ..CLASS_WORDS },
+    Lone { end: 8_192, passes: 1, words: 16_384, ..CLASS_WORDS },
+    Lone { end: 16_383, class_dimensions: 65_535, passes: 1, words: 16_384, ..CLASS_WORDS },
+    Lone { end: 16_384, class_dimensions: 65_535, passes: 1, words: 16_385, ..CLASS_WORDS },
+    Lone { partition_size: 32_768, passes: 1, words: 32_769, ..CLASS_WORDS },
+    Lone { end: 24_576, partition_size: 3, passes: 1, vector_dimensions: 3, words: 16_384, ..CLASS_WORDS },
+    Lone { end: 24_579, partition_size: 3, passes: 1, vector_dimensions: 3, words: 16_386, ..CLASS_WORDS },
+    Lone { partition_size: 1 << 24, passes: 8, words: 0, ..CLASS_WORDS },
+    Lone { residue_type: 0, end: 2_048, words: 16_384, ..CLASS_WORDS },
+    Lone { residue_type: 0, passes: 8, words: MOST_WORDS, ..CLASS_WORDS },
+    Lone { residue_type: 1, passes: 8, words: MOST_WORDS, ..CLASS_WORDS },
+    Lone { passes: 8, words: MOST_WORDS, ..CLASS_WORDS },
 ];
 
 /// Eight channels, blocks of 8,192 alone.
