@@ -1,35 +1,11 @@
 /* A small setup packet, read into the ten tables, and codewords by a book of them, through the C interface. `examples/run` builds it. */
+#include "tables.h"
+#include "writer.h"
 #include <inttypes.h>
 #include <stdio.h>
 #include <torchvalley.h>
 
-/* Each list has its fixed need. 274 KiB are much for a stack, so the program has one set of them. */
-static struct {
-    uint32_t counts[5], books[2816];
-    uint8_t lengths[16384];
-    uint32_t codewords[16384];
-    uint16_t multiplicands[16384], floors[17728];
-    uint32_t residues[384];
-    uint16_t plans[32768];
-    uint8_t mappings[51456], modes[128];
-} tables;
-
-/* The ten lists, as pointer and length, in the order of the calls. */
-#define LIST(name) tables.name, sizeof tables.name / sizeof tables.name[0]
-#define TABLES LIST(counts), AFTER_COUNTS
-#define AFTER_COUNTS                                                                                                                                 \
-    LIST(books), LIST(lengths), LIST(codewords), LIST(multiplicands), LIST(floors), LIST(residues), LIST(plans), LIST(mappings), LIST(modes)
-
 static const struct torchvalley_identity identity = {.channels = 1, .rate = 8000, .blocksize0 = 256, .blocksize1 = 2048};
-
-static uint8_t packet[64];
-static size_t bits;
-
-/* A field, from its low bit up, into the lowest free bits of the packet. */
-static void put(uint32_t value, unsigned width) {
-    for (unsigned i = 0; i < width; i++, bits++)
-        packet[bits / 8] |= (value >> i & 1) << bits % 8;
-}
 
 /* One of each kind; book 0 has four entries, of lengths 1, 2, 3 and 3. Counts and lengths are written less one. */
 static void write_packet(void) {

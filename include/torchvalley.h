@@ -120,6 +120,75 @@ struct torchvalley_codeword torchvalley_codeword(struct torchvalley_identity ide
                                                  const uint8_t *mappings, size_t mappings_length, const uint8_t *modes, size_t modes_length,
                                                  uint32_t book, const uint8_t *packet, size_t packet_length, size_t byte, uint8_t bit);
 
+/* How far a stream has come. The caller sets both numbers to 0 before its first audio packet. */
+struct torchvalley_tally {
+    uint32_t blocksize; /* the block size of the last accepted audio packet */
+    uint64_t samples;   /* the samples finished so far */
+};
+
+/* Where the window of a block rises and falls, in samples of the block. */
+struct torchvalley_window {
+    uint32_t left_start;
+    uint32_t left_end;
+    uint32_t right_start;
+    uint32_t right_end;
+};
+
+struct torchvalley_audio_answer {
+    /* 0 where the packet is accepted. Else why it is sent back, and all below is zero:
+     *    1  the packet ends before a bit that is needed for type, mode or window flags; a packet of no bytes does
+     *   15  the first bit is 1: no audio packet
+     *   16  there is no such mode
+     *   17  `curves` or `codewords` has too few places
+     *   18  identity or tables are not sound, a table shorter than its fixed need among them; or the tally is not
+     *   19  the samples would pass 18446744073709551615
+     * 18 goes before all others; then 1, 15 and 16 as they come in reading order; then 17, and 19 last. */
+    uint32_t refusal;
+    uint32_t mode;      /* the number of the mode */
+    uint32_t blocksize; /* the samples of the block, n below */
+    uint32_t previous;  /* the window flags: 1 where the block before, or after, is long; both 0 in a short block */
+    uint32_t next;
+    struct torchvalley_window window;
+    uint64_t samples;   /* the samples that this packet finishes; none for the first of a stream */
+    uint64_t codewords; /* how many codewords the residues have */
+    uint8_t used[255];  /* for each channel 1 where its floor is used, else 0; zeros behind the last channel */
+};
+
+/* Reads an audio packet of a stream, by the tables that its setup packet left, and brings the tally up to date where it lies.
+ *
+ * The tally is sound when both its numbers are 0, or its block size is one of the identity's two. It is read and written, and shares no byte with a
+ * list of the call.
+ *
+ * `curves` needs n/2 bytes for each channel and gets the curves of the floors, channel after channel, zeros for an unused floor. `codewords` needs a
+ * place for each codeword of the residues and gets them in reading order: twice the number of the entry, plus 1 where it names a vector and not a
+ * class word. Places behind what is written are 0. Curves never need more than 32,768 bytes, nor codewords more than 294,912 places.
+ *
+ * A refused packet leaves the tally as it stood, and both outputs all zero. A packet that ends after its window flags is accepted: a floor that is not
+ * there whole is unused, as are those of later channels, and the codewords are those before the end. Bits after the last needed one are ignored. */
+struct torchvalley_audio_answer torchvalley_audio(struct torchvalley_tally *tally, struct torchvalley_identity identity, const uint32_t *counts,
+                                                  size_t counts_length, const uint32_t *books, size_t books_length, const uint8_t *lengths,
+                                                  size_t lengths_length, const uint32_t *table_codewords, size_t table_codewords_length,
+                                                  const uint16_t *multiplicands, size_t multiplicands_length, const uint16_t *floors,
+                                                  size_t floors_length, const uint32_t *residues, size_t residues_length, const uint16_t *plans,
+                                                  size_t plans_length, const uint8_t *mappings, size_t mappings_length, const uint8_t *modes,
+                                                  size_t modes_length, const uint8_t *packet, size_t packet_length, uint8_t *curves,
+                                                  size_t curves_length, uint32_t *codewords, size_t codewords_length);
+
+/* An audio answer, and the tally after the packet: as it stood where that was refused. */
+struct torchvalley_audio_left {
+    struct torchvalley_tally tally;
+    struct torchvalley_audio_answer answer;
+};
+
+/* The same with the tally by value. */
+struct torchvalley_audio_left torchvalley_audio_by_value(
+    struct torchvalley_tally tally, struct torchvalley_identity identity, const uint32_t *counts, size_t counts_length, const uint32_t *books,
+    size_t books_length, const uint8_t *lengths, size_t lengths_length, const uint32_t *table_codewords, size_t table_codewords_length,
+    const uint16_t *multiplicands, size_t multiplicands_length, const uint16_t *floors, size_t floors_length, const uint32_t *residues,
+    size_t residues_length, const uint16_t *plans, size_t plans_length, const uint8_t *mappings, size_t mappings_length, const uint8_t *modes,
+    size_t modes_length, const uint8_t *packet, size_t packet_length, uint8_t *curves, size_t curves_length, uint32_t *codewords,
+    size_t codewords_length);
+
 /* Enters lengths one by one into a space of codewords, at first empty. `lengths` has `count` of them, any bytes; `answers` gets a number for each, in
  * order: the lowest codeword of that length that is free, whose leftmost bit is the highest of as many bits as the length says, and which is free no
  * more; or 4294967296, a refusal, which changes nothing, where the length asks for more code space than is free or is not 1 to 32. Places of

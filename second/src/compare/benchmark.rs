@@ -4,10 +4,12 @@
 //! The lent lists are not cleared between calls: what a call clears itself is part of it.
 //! The second program makes new lists where it gives any.
 
+use crate::audio::{Held, TOOL};
 use crate::floor::{random_floor, Points};
 use crate::identification::in_library_form;
-use crate::lent::TablesMut;
+use crate::lent::{OutputsMut, TablesMut};
 use crate::{codewords, library};
+use second::audio;
 use second::book::verdict;
 use second::floor::{curve, final_y, range};
 use second::generate::content::complete_lengths;
@@ -70,6 +72,7 @@ fn call(input: &str, side: Side) -> Result<Box<dyn FnMut()>, Box<dyn Error>> {
         "curve4096" => curve_call(side, 4_096),
         "setup" => setup_call(side)?,
         "setup_sound" => setup_sound_call(side)?,
+        _ if input.ends_with(".ogg") => audio_packets_call(side, input)?,
         _ => return Err(format!("no input {input}").into()),
     })
 }
@@ -169,21 +172,55 @@ fn curve_call(side: Side, half: usize) -> Box<dyn FnMut()> {
     }
 }
 
+/// A stream's packets.
+struct Packets {
+    identity: Identity,
+    setup: Vec<u8>,
+    audio: Vec<Vec<u8>>,
+}
+
+fn packets(path: &str) -> Result<Packets, Box<dyn Error>> {
+    let file = fs::read(path).map_err(|fault| format!("{path}: {fault}"))?;
+    let packets = ogg::packets(&file)?;
+    let of_kind = |wanted| -> Result<Vec<Vec<u8>>, String> {
+        let kinds = ogg::kinds(&packets)?;
+        let found = kinds.into_iter().filter(|&(kind, _)| kind == wanted);
+        Ok(found.map(|(_, packet)| packet.body.clone()).collect())
+    };
+    let first = of_kind(Kind::Identification)?.into_iter().next().ok_or("no identification")?;
+    let identity = identification(&first).map_err(|fault| format!("{fault:?}"))?;
+    let setup = of_kind(Kind::Setup)?.into_iter().next().ok_or("no setup")?;
+    Ok(Packets { identity, setup, audio: of_kind(Kind::Audio)? })
+}
+
 /// Identity and setup packet of the stereo stream.
 fn stereo() -> Result<(Identity, Vec<u8>), Box<dyn Error>> {
-    let file = fs::read(STREAM).map_err(|fault| format!("{STREAM}: {fault}"))?;
-    let packets = ogg::packets(&file)?;
-    let mut identity = None;
-    for (kind, packet) in ogg::kinds(&packets)? {
-        match (kind, identity) {
-            (Kind::Identification, _) => {
-                identity = Some(identification(&packet.body).map_err(|fault| format!("{fault:?}"))?);
+    let Packets { identity, setup, .. } = packets(STREAM)?;
+    Ok((identity, setup))
+}
+
+/// One call reads all audio packets of a stream in order, into the tool's outputs.
+fn audio_packets_call(side: Side, path: &str) -> Result<Box<dyn FnMut()>, Box<dyn Error>> {
+    let Packets { identity, setup: setup_packet, audio: packets } = packets(path)?;
+    let content = setup(&identity, &setup_packet, &Limits::BASE).map_err(|fault| format!("{fault:?}"))?;
+    let (mut curves, mut words) = (vec![0; TOOL.curves], vec![0; TOOL.words]);
+    let held = Held::new(&identity, content.clone());
+    Ok(match side {
+        Side::Library => Box::new(move || {
+            let mut tally = library::Tally::default();
+            for packet in black_box(&packets) {
+                let lent = OutputsMut { curves: black_box(&mut curves), words: black_box(&mut words) };
+                black_box(library::audio(&mut tally, held.identity, &held.tables, packet, lent));
             }
-            (Kind::Setup, Some(identity)) => return Ok((identity, packet.body.clone())),
-            _ => {}
-        }
-    }
-    Err(format!("{STREAM} has no setup").into())
+        }),
+        Side::Second => Box::new(move || {
+            let mut tally = audio::Tally::default();
+            for packet in black_box(&packets) {
+                let (curves, words) = (black_box(&mut curves), black_box(&mut words));
+                black_box(audio::audio(&identity, &content, &mut tally, packet, curves, words)).ok();
+            }
+        }),
+    })
 }
 
 /// The library clears and fills tables of the fixed need; the second program makes content.

@@ -5,6 +5,12 @@ use std::fmt::Debug;
 
 const GUARD: usize = 16;
 
+/// What lent places hold before a call with this packet, as far as they are wide.
+pub fn filling(packet: &[u8]) -> u32 {
+    const FILLINGS: [u32; 3] = [0xA5A5_A5A5, u32::MAX, 0x0101_0101];
+    FILLINGS[packet.len() % FILLINGS.len()]
+}
+
 /// Lends `places` places that hold `filling` and gives what the call left there. Where it
 /// wrote beside them, the guards are given too: a list of another length than any answer
 /// has.
@@ -52,6 +58,44 @@ impl<'a> From<&'a mut Tables> for TablesMut<'a> {
             mappings: &mut tables.mappings,
             modes: &mut tables.modes,
         }
+    }
+}
+
+/// The two outputs of the audio call, to be written.
+#[derive(Debug)]
+pub struct OutputsMut<'a> {
+    pub curves: &'a mut [u8],
+    pub words: &'a mut [u32],
+}
+
+/// How many places each output has.
+#[derive(Clone, Copy, Debug, PartialEq, Eq)]
+pub struct Places {
+    pub curves: usize,
+    pub words: usize,
+}
+
+/// What the two outputs are lent from, kept from call to call.
+#[derive(Debug, Default)]
+pub struct Outputs {
+    curves: Room<u8>,
+    words: Room<u32>,
+}
+
+impl Outputs {
+    /// Both outputs, full of another number than 0.
+    pub fn lend(&mut self, places: Places, filling: u32) -> OutputsMut<'_> {
+        OutputsMut {
+            curves: self.curves.lend(places.curves, filling as u8),
+            words: self.words.lend(places.words, filling),
+        }
+    }
+
+    /// Where the outputs lent last are not these; of each the first place.
+    pub fn differences(&self, curves: &[u8], words: &[u32]) -> Vec<String> {
+        let curves = self.curves.difference(curves).map(|difference| format!("curves {difference}"));
+        let words = self.words.difference(words).map(|difference| format!("words {difference}"));
+        curves.into_iter().chain(words).collect()
     }
 }
 
@@ -107,7 +151,7 @@ impl Rooms {
     }
 }
 
-/// One table between guards.
+/// One list between guards.
 #[derive(Debug, Default)]
 struct Room<T> {
     list: Vec<T>,

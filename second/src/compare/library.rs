@@ -5,8 +5,9 @@
 
 #![allow(unsafe_code)]
 
-use crate::lent::TablesMut;
+use crate::lent::{OutputsMut, TablesMut};
 use second::tables::Tables;
+use std::fmt;
 
 /// As the library has it: block sizes apart, channels of 32 bits.
 #[repr(C)]
@@ -36,6 +37,59 @@ pub struct CodewordAnswer {
     pub entry: u32,
     pub byte: usize,
     pub bit: u8,
+}
+
+/// How far a stream has come, as the library has it.
+#[repr(C)]
+#[derive(Clone, Copy, Debug, Default, PartialEq, Eq)]
+pub struct Tally {
+    pub blocksize: u32,
+    pub samples: u64,
+}
+
+#[repr(C)]
+#[derive(Clone, Copy, Debug, Default, PartialEq, Eq)]
+pub struct Window {
+    pub left_start: u32,
+    pub left_end: u32,
+    pub right_start: u32,
+    pub right_end: u32,
+}
+
+/// A place for each channel that a packet could name.
+#[repr(transparent)]
+#[derive(Clone, Copy, PartialEq, Eq)]
+pub struct Used(pub [u8; 255]);
+
+impl fmt::Debug for Used {
+    /// Without the zeros at the end.
+    fn fmt(&self, f: &mut fmt::Formatter) -> fmt::Result {
+        let end = self.0.iter().rposition(|&used| used != 0).map_or(0, |last| last + 1);
+        self.0[..end].fmt(f)
+    }
+}
+
+/// Flags are numbers; all zero beside a refusal.
+#[repr(C)]
+#[derive(Clone, Copy, Debug, PartialEq, Eq)]
+pub struct AudioAnswer {
+    pub refusal: u32,
+    pub mode: u32,
+    pub blocksize: u32,
+    pub previous: u32,
+    pub next: u32,
+    pub window: Window,
+    pub samples: u64,
+    pub codewords: u64,
+    pub used: Used,
+}
+
+/// What the call with the tally by value gives.
+#[repr(C)]
+#[derive(Clone, Copy, Debug, PartialEq, Eq)]
+pub struct AudioLeft {
+    pub tally: Tally,
+    pub answer: AudioAnswer,
 }
 
 #[link(name = "torchvalley", kind = "static")]
@@ -142,6 +196,66 @@ extern "C" {
         byte: usize,
         bit: u8,
     ) -> CodewordAnswer;
+    fn torchvalley_audio(
+        tally: *mut Tally,
+        identity: Identity,
+        counts: *const u32,
+        counts_length: usize,
+        books: *const u32,
+        books_length: usize,
+        lengths: *const u8,
+        lengths_length: usize,
+        codewords: *const u32,
+        codewords_length: usize,
+        multiplicands: *const u16,
+        multiplicands_length: usize,
+        floors: *const u16,
+        floors_length: usize,
+        residues: *const u32,
+        residues_length: usize,
+        plans: *const u16,
+        plans_length: usize,
+        mappings: *const u8,
+        mappings_length: usize,
+        modes: *const u8,
+        modes_length: usize,
+        packet: *const u8,
+        packet_length: usize,
+        curves: *mut u8,
+        curves_length: usize,
+        words: *mut u32,
+        words_length: usize,
+    ) -> AudioAnswer;
+    fn torchvalley_audio_by_value(
+        tally: Tally,
+        identity: Identity,
+        counts: *const u32,
+        counts_length: usize,
+        books: *const u32,
+        books_length: usize,
+        lengths: *const u8,
+        lengths_length: usize,
+        codewords: *const u32,
+        codewords_length: usize,
+        multiplicands: *const u16,
+        multiplicands_length: usize,
+        floors: *const u16,
+        floors_length: usize,
+        residues: *const u32,
+        residues_length: usize,
+        plans: *const u16,
+        plans_length: usize,
+        mappings: *const u8,
+        mappings_length: usize,
+        modes: *const u8,
+        modes_length: usize,
+        packet: *const u8,
+        packet_length: usize,
+        curves: *mut u8,
+        curves_length: usize,
+        words: *mut u32,
+        words_length: usize,
+    ) -> AudioLeft;
 }
 
 pub fn identification(packet: &[u8]) -> IdentityAnswer {
@@ -229,11 +343,11 @@ pub fn setup(identity: Identity, packet: &[u8], tables: TablesMut) -> u32 {
     }
 }
 
-/// A call of an identity and the ten tables, each by pointer and length, and what else it takes.
+/// A call with the ten tables, each by pointer and length, between what else it takes.
 macro_rules! with_tables {
-    ($call:ident, $identity:expr, $tables:expr $(, $other:expr)*) => {
+    ($call:ident, [$($first:expr),*], $tables:expr, [$($other:expr),*]) => {
         $call(
-            $identity,
+            $($first,)*
             $tables.counts.as_ptr(),
             $tables.counts.len(),
             $tables.books.as_ptr(),
@@ -261,7 +375,7 @@ macro_rules! with_tables {
 
 pub fn setup_sound(identity: Identity, tables: &Tables) -> bool {
     // SAFETY: as above; nothing is written.
-    unsafe { with_tables!(torchvalley_setup_sound, identity, tables) }
+    unsafe { with_tables!(torchvalley_setup_sound, [identity], tables, []) }
 }
 
 pub fn codeword(
@@ -274,6 +388,63 @@ pub fn codeword(
 ) -> CodewordAnswer {
     // SAFETY: as above; nothing is written.
     unsafe {
-        with_tables!(torchvalley_codeword, identity, tables, book, packet.as_ptr(), packet.len(), byte, bit)
+        with_tables!(
+            torchvalley_codeword,
+            [identity],
+            tables,
+            [book, packet.as_ptr(), packet.len(), byte, bit]
+        )
+    }
+}
+
+pub fn audio(
+    tally: &mut Tally,
+    identity: Identity,
+    tables: &Tables,
+    packet: &[u8],
+    lent: OutputsMut,
+) -> AudioAnswer {
+    let OutputsMut { curves, words } = lent;
+    // SAFETY: as above; the tally is one of its kind, both outputs are slices of their own.
+    unsafe {
+        with_tables!(
+            torchvalley_audio,
+            [tally, identity],
+            tables,
+            [
+                packet.as_ptr(),
+                packet.len(),
+                curves.as_mut_ptr(),
+                curves.len(),
+                words.as_mut_ptr(),
+                words.len()
+            ]
+        )
+    }
+}
+
+pub fn audio_by_value(
+    tally: Tally,
+    identity: Identity,
+    tables: &Tables,
+    packet: &[u8],
+    lent: OutputsMut,
+) -> AudioLeft {
+    let OutputsMut { curves, words } = lent;
+    // SAFETY: as above; both outputs are slices of their own.
+    unsafe {
+        with_tables!(
+            torchvalley_audio_by_value,
+            [tally, identity],
+            tables,
+            [
+                packet.as_ptr(),
+                packet.len(),
+                curves.as_mut_ptr(),
+                curves.len(),
+                words.as_mut_ptr(),
+                words.len()
+            ]
+        )
     }
 }

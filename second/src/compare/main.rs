@@ -10,13 +10,16 @@
 //! | `torchvalley_setup` | [`setup`] |
 //! | `torchvalley_setup_sound` | [`setup_sound`] |
 //! | `torchvalley_codeword` | [`codeword`] |
+//! | `torchvalley_audio`, `torchvalley_audio_by_value` | [`audio`], [`audio_boundaries`] |
 //!
 //! A call that joins the library is declared in [`library`], gets a case in
 //! [`report::Call`] with its answers, a module with `round`, and its place in [`rounds`]
-//! and in [`streams`]: the audio call where floors are taken from its packets.
+//! and in [`streams`].
 
 #![deny(unsafe_code)]
 
+mod audio;
+mod audio_boundaries;
 mod benchmark;
 mod codeword;
 mod codewords;
@@ -41,7 +44,8 @@ use std::{env, fs};
 const USAGE: &str = "\
 compare calls SEED COUNT                  random inputs, COUNT calls or more
 compare streams LIST FOLDER [...]         published streams of each list
-compare bench INPUT SIDE TIMES            one call so many times, SIDE library or second";
+compare bench INPUT SIDE TIMES            one call so many times, SIDE library or second
+compare bench FILE.ogg SIDE TIMES         all audio packets of a stream so many times";
 
 type Outcome = Result<(), Box<dyn Error>>;
 
@@ -86,6 +90,7 @@ fn rounds(seed: u64, count: u64, report: &mut Report) -> Result<u64, String> {
     codewords::boundaries(report).map_err(with_seed(seed))?;
     setup::boundaries(&mut Random::new(seed), report).map_err(with_seed(seed))?;
     codeword::boundaries(&mut Random::new(seed), report).map_err(with_seed(seed))?;
+    audio_boundaries::boundaries(&mut Random::new(seed), report).map_err(with_seed(seed))?;
     let mut rounds = 0;
     while rounds == 0 || report.calls() < count {
         let seed = seed.wrapping_add(rounds);
@@ -101,7 +106,8 @@ fn round(random: &mut Random, report: &mut Report) -> Result<(), String> {
     enter_lengths::round(random, report)?;
     codewords::round(random, report)?;
     floor::round(random, report)?;
-    setup::round(random, report)
+    setup::round(random, report)?;
+    audio::round(random, report)
 }
 
 fn streams_of(lists: &[&str]) -> Outcome {
@@ -110,10 +116,11 @@ fn streams_of(lists: &[&str]) -> Outcome {
     for pair in lists.chunks_exact(2) {
         streams::list(&fs::read_to_string(pair[0])?, Path::new(pair[1]), report, &mut seen)?;
     }
-    let streams::Seen { streams, absent, setups, setups_accepted, books, floors } = seen;
+    let streams::Seen { streams, absent, setups, setups_accepted, books, floors, packets, cuts } = seen;
     println!(
         "compare: streams {streams}, not at hand {absent}, setups {setups} ({setups_accepted} accepted), \
-         books {books}, floors {floors}, no difference"
+         books {books}, audio packets {packets}, of these cut after every byte {cuts}, floors {floors}, \
+         no difference"
     );
     println!("{report}");
     Ok(())

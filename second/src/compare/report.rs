@@ -11,6 +11,41 @@ pub enum Answer {
     Holds(bool),
     /// Of many answers in one list: a codeword was handed out, or refused.
     Within(bool),
+    /// A number that can be given for several reasons, with the one that applies.
+    Because(Reason),
+}
+
+/// Why an audio packet is refused with 17 or 18 (01).
+#[derive(Clone, Copy, Debug, PartialEq, Eq, PartialOrd, Ord)]
+pub enum Reason {
+    FewCurves,
+    FewWords,
+    Identity,
+    ShortTables,
+    Tables,
+    Tally,
+}
+
+impl Reason {
+    const ALL: [Reason; 6] = [
+        Reason::FewCurves,
+        Reason::FewWords,
+        Reason::Identity,
+        Reason::ShortTables,
+        Reason::Tables,
+        Reason::Tally,
+    ];
+
+    fn name(self) -> &'static str {
+        match self {
+            Reason::FewCurves => "17 curves",
+            Reason::FewWords => "17 words",
+            Reason::Identity => "18 identity",
+            Reason::ShortTables => "18 too short",
+            Reason::Tables => "18 tables",
+            Reason::Tally => "18 tally",
+        }
+    }
 }
 
 impl fmt::Display for Answer {
@@ -20,6 +55,7 @@ impl fmt::Display for Answer {
             Answer::Holds(holds) => f.pad(&holds.to_string()),
             Answer::Within(true) => f.pad("word"),
             Answer::Within(false) => f.pad("refused"),
+            Answer::Because(reason) => f.pad(reason.name()),
         }
     }
 }
@@ -36,10 +72,12 @@ pub enum Call {
     Setup,
     SetupSound,
     Codeword,
+    Audio,
+    AudioByValue,
 }
 
 impl Call {
-    pub const ALL: [Call; 9] = [
+    pub const ALL: [Call; 11] = [
         Call::Identification,
         Call::IdentitySound,
         Call::EnterLengths,
@@ -49,6 +87,8 @@ impl Call {
         Call::Setup,
         Call::SetupSound,
         Call::Codeword,
+        Call::Audio,
+        Call::AudioByValue,
     ];
 
     pub fn name(self) -> &'static str {
@@ -62,6 +102,8 @@ impl Call {
             Call::Setup => "setup",
             Call::SetupSound => "setup_sound",
             Call::Codeword => "codeword",
+            Call::Audio => "audio",
+            Call::AudioByValue => "audio_by_value",
         }
     }
 
@@ -77,6 +119,10 @@ impl Call {
             Call::Codewords => [0, 7, 8, 17].map(Answer::Number).to_vec(),
             Call::Setup => [0, 1, 2, 5, 6, 7, 8, 9, 10, 11, 12, 13, 14, 17, 18].map(Answer::Number).to_vec(),
             Call::Codeword => [0, 1, 11, 18].map(Answer::Number).to_vec(),
+            Call::Audio | Call::AudioByValue => {
+                let numbers = [0, 1, 15, 16, 17, 18, 19].map(Answer::Number);
+                [&numbers[..], &Reason::ALL.map(Answer::Because)].concat()
+            }
             Call::IdentitySound | Call::FloorPoints | Call::FloorCurve | Call::SetupSound => {
                 [true, false].map(Answer::Holds).to_vec()
             }
@@ -133,6 +179,13 @@ impl Report {
         }
     }
 
+    /// Counts the reason that the second program has for a number on which both sides agree.
+    pub fn count_reason(&mut self, call: Call, reason: Reason) {
+        for times in self.given.entry((call, Answer::Because(reason))).or_default() {
+            *times += 1;
+        }
+    }
+
     /// Answers that a side has not given twice.
     pub fn missing(&self) -> Vec<String> {
         let pairs = Call::ALL.into_iter().flat_map(|call| call.answers().into_iter().map(move |a| (call, a)));
@@ -143,9 +196,9 @@ impl Report {
 
 impl fmt::Display for Report {
     fn fmt(&self, f: &mut fmt::Formatter) -> fmt::Result {
-        write!(f, "{:<16}{:>7}{:>12}{:>12}", "call", "answer", "library", "second")?;
+        write!(f, "{:<16}{:>13}{:>12}{:>12}", "call", "answer", "library", "second")?;
         for ((call, answer), [library, second]) in &self.given {
-            write!(f, "\n{:<16}{answer:>7}{library:>12}{second:>12}", call.name())?;
+            write!(f, "\n{:<16}{answer:>13}{library:>12}{second:>12}", call.name())?;
         }
         Ok(())
     }

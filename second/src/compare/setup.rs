@@ -1,7 +1,7 @@
 //! The setup call: its number and every place of the ten tables, zeros on a refusal.
 
 use crate::identification::in_library_form;
-use crate::lent::Rooms;
+use crate::lent::{filling, Rooms};
 use crate::library::{self, Identity};
 use crate::report::{hex, Answer, Call, Given, Report};
 use crate::{codeword, setup_sound, sound};
@@ -13,9 +13,6 @@ use second::limits::Limits;
 use second::setup::{setup, Setup};
 use second::tables::{tables, Tables, COUNT, NAMES, NEEDS};
 use second::write::{write_setup, Written};
-
-/// What lent places hold before a call, as far as they are wide.
-const FILLINGS: [u32; 3] = [0xA5A5_A5A5, u32::MAX, 0x0101_0101];
 
 /// What both sides said to a packet.
 #[derive(Debug)]
@@ -41,8 +38,7 @@ pub fn packet_into(
     rooms: &mut Rooms,
     report: &mut Report,
 ) -> Result<Said, String> {
-    let filling = FILLINGS[packet.len() % FILLINGS.len()];
-    let number = library::setup(identity, packet, rooms.lend(places, filling));
+    let number = library::setup(identity, packet, rooms.lend(places, filling(packet)));
     let (second_number, content) = match second_answer(&identity, packet, places) {
         Ok(content) => (0, Some(content)),
         Err(number) => (number, None),
@@ -88,7 +84,7 @@ pub fn round(random: &mut Random, report: &mut Report) -> Result<(), String> {
 }
 
 /// So many of a list, picked at random, or all of a shorter one.
-fn some<T>(mut list: Vec<T>, most: usize, random: &mut Random) -> Vec<T> {
+pub fn some<T>(mut list: Vec<T>, most: usize, random: &mut Random) -> Vec<T> {
     random.shuffle(&mut list);
     list.truncate(most);
     list

@@ -188,6 +188,16 @@ fn change_and_ask(
     random: &mut Random,
     report: &mut Report,
 ) -> Result<bool, String> {
+    let (table, place, old) = change(tables, content, random);
+    let new = tables.number(table, place);
+    let answer =
+        ask(identity, tables, report, || format!("{} at {place} was {old:x}, is {new:x}", NAMES[table]));
+    tables.set(table, place, old);
+    answer
+}
+
+/// Puts another number into one place, or the same; gives table, place and what was there.
+pub fn change(tables: &mut Tables, content: &Setup, random: &mut Random) -> (usize, usize, u32) {
     let (table, place) = place_to_change(tables, content, random);
     let old = tables.number(table, place);
     let new = match random.below(8) {
@@ -201,10 +211,7 @@ fn change_and_ask(
         _ => random.next_u64() as u32,
     };
     tables.set(table, place, new);
-    let answer =
-        ask(identity, tables, report, || format!("{} at {place} was {old:x}, is {new:x}", NAMES[table]));
-    tables.set(table, place, old);
-    answer
+    (table, place, old)
 }
 
 /// Mostly a place that content fills and that is not 0, else one behind it or any.
