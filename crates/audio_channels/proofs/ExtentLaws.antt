@@ -2,7 +2,6 @@
 use Prim.Native.Nat.{ℕ, _-_, _*_, _/_, _≤_, _<_, min}
 use native.Mathlib.Nat.{mul-le-mul, zero-div}
 use native.Mathlib.Omega.{arith}
-use borrow.Author.Needs.{needs}
 use borrow.Author.Tests.{eq-eqb, ne-eqb}
 use mathlib.Core.Bool.{Bool}
 use mathlib.Core.List.{List}
@@ -60,5 +59,3 @@ extent-is {half} m channels live submap h a b c d =
       vectors-are = c ∙ ap (vectorCount (headResidue h)) b;
       partitions-are = d ∙ ap (λ (k : ℕ). partitionCount (headResidue h) (vectorSize (headResidue h) half k)) a;
     }
-
-pub ruleset extents = (needs, of-size, no-partition, partitions-are, product-fits, size-all, size-one, vector-if-any, vector-each)

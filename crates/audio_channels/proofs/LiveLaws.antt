@@ -192,7 +192,11 @@ module _ (used : List ℕ) (channels : ℕ) (t : List ℕ) (n : ℕ) (long : len
         let cs = mappingIn t n .couplings in
         rw (w .flags, take-all i cs (omega (arith, p .steps, s)))
 
-pub ruleset stepping = (needs, steps-start, step-few, magnitude-in, angle-in, steps-next, steps-done)
+pub ruleset stepping = (needs, steps-start, step-few, magnitude-in, angle-in)
+
+map-one : {A : Type 0} (f : A → Bool) (l : List A) → map (λ x. one (f x)) l ≡ map one (map f l)
+map-one f [] = refl
+map-one f (x ∷ l) = ap (λ (t : List ℕ). one (f x) ∷ t) (map-one f l)
 
 -- THE FLAGS THAT BYTES HOLD are those they were made of
 pub used-bytes : (l : List Bool) → length l ≤ 255 → usedBools (length l) (liveBytes l) ≡ l
@@ -208,3 +212,10 @@ used-bytes l h =
 pub bytes-long : (l : List Bool) → length (liveBytes l) ≡ 255
 unfolding liveBytes
 bytes-long l = length-pad 255 (map one l)
+
+-- so where each byte tells what f tells of an item, the flags are what f tells
+pub used-of : {A : Type 0} (f : A → Bool) (l : List A) → length l ≤ 255 → usedBools (length l) (pad 255 (map (λ x. one (f x)) l)) ≡ map f l
+unfolding liveBytes
+used-of f l h =
+    let long = length-map l f in
+    rw (map-one f l) (ap (λ (n : ℕ). usedBools n (pad 255 (map one (map f l)))) (sym long) ∙ used-bytes (map f l) (omega arith))

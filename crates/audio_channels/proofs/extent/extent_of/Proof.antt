@@ -1,5 +1,5 @@
 -- `audio_channels::extent::extent_of` meets its contract, by ExtentLaws. Assumes nothing.
-use Rattle.audio_channels.proofs.ExtentLaws.{extents}
+use Rattle.audio_channels.proofs.ExtentLaws.{of-size}
 use borrow.Author.Needs.{needs}
 use Rattle.audio_channels.proofs.extent.extent_of.Statement.{statement}
 use Rattle.audio_channels.proofs.extent.extent_of.Tie as tie
@@ -17,7 +17,7 @@ partition-count-requires : tie.Need-partition-count-requires
 partition-count-requires c κs = search needs
 
 returns : tie.Need-returns
-returns c = search extents
+returns c = search (needs, of-size)
 
 pub extent-of-spec : {M : Type 1} → statement M
 extent-of-spec =

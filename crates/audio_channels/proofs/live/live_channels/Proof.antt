@@ -2,7 +2,7 @@
 use Prim.Native.Nat.{_-_}
 use Rattle.mapping_row.specs.inner.Readable.{mappingIn}
 use Rattle.audio_channels.specs.inner.Live.{usedBools}
-use Rattle.audio_channels.proofs.LiveLaws.{Steps, steps-next, stepping}
+use Rattle.audio_channels.proofs.LiveLaws.{Steps, steps-next, steps-done, stepping}
 use borrow.Author.Needs.{needs}
 use Rattle.audio_channels.proofs.live.live_channels.Statement.{statement}
 use Rattle.audio_channels.proofs.live.live_channels.Tie as tie
@@ -59,7 +59,7 @@ loop-again c =
     (at-magnitude .magnitude .ensures) (at-first .wide-u8 .ensures) (at-angle .angle .ensures) (at-second .«wide-u82» .ensures) (c .couple .ensures)
 
 returns : tie.Need-returns Inv-loop μ-loop
-returns c = search stepping
+returns c = search (needs, steps-done)
 
 pub live-channels-spec : {M : Type 1} → statement M
 live-channels-spec =
