@@ -36,7 +36,7 @@ use Rattle.audio.specs.Channels.{floorNumber, floorsOf, isUsed, coupled, allReq
 use Rattle.audio.specs.Curves.{curvesOf}
 use Rattle.audio_channels.specs.inner.Live.{isLive, usedBools}
 use Rattle.audio_floors.specs.declared.FloorsRead.{FloorsRead}
-use Rattle.audio_floors.specs.inner.Floors.{isCut, flagsOf, curvesAt, FloorsAre}
+use Rattle.audio_floors.specs.inner.Floors.{isCut, FloorsAre}
 use Rattle.audio_residues.specs.inner.Reading.{submapsRun, ResiduesReadable}
 use Rattle.audio_call.specs.declared.body.BodyRead.{BodyRead}
 use Rattle.audio_call.specs.inner.Body.{floorsIn, residuesIn, bodyIn, endingWords, BodyIs, BodyReadable}
@@ -101,7 +101,7 @@ module _ (books lengths floors residues plans mappings : List ℕ) (n channels h
         go (some vs) q h = let z : _≡_ {A = ℕ} 0 1 = cc in absurd (omega arith)
 
     pub body-cut : r .cut ≡ true → BodyIs bodyRun fs whole channels half (record { used = r .used; words = L.Cut (record { at = r .at; count = 0 }) }) entry exit list list
-    unfolding bodyIn endingOf flagsOf curvesAt
+    unfolding bodyIn endingOf
     body-cut e =
         let v = was-cut e in
         record {
@@ -127,7 +127,7 @@ module _ (books lengths floors residues plans mappings : List ℕ) (n channels h
     pub body-whole : channels ≤ 255 → r .cut ≡ false → {x : ListRead} {list′ : List ℕ}
         → ReadIntoList (submapsRun books lengths residues plans half (mappingIn mappings n) (coupled (mappingIn mappings n .couplings) (usedBools channels (r .used))) 0 (mappingIn mappings n .submaps) s (position (r .at))) list 0 x list′
         → BodyIs bodyRun fs whole channels half (record { used = r .used; words = x }) entry exit list list′
-    unfolding bodyIn flagsOf curvesAt usedBools floorsOf
+    unfolding bodyIn usedBools floorsOf residuesIn
     body-whole few e {x} {list′} g =
         let w = was-whole e in
         let same = sequence lens floorRequests fs .whole s k (w .floors) (w .value) in
@@ -148,4 +148,6 @@ module _ (books lengths floors residues plans mappings : List ℕ) (n channels h
         go : (l : List Bool) (p : ℕ) {vs : List FloorRead} → l ≡ map isUsed vs → p ≡ floorsRun .position
             → ReadIntoList (submapsRun books lengths residues plans half (mappingIn mappings n) (coupled (mappingIn mappings n .couplings) l) 0 (mappingIn mappings n .submaps) s p) list 0 x list′
             → ReadIntoList (run (read lens) (rest vs) s (floorsRun .position)) list 0 x list′
-        go l p a b y = ?
+        go l p a b y =
+            subst (λ (q : ℕ). ReadIntoList (run (read lens) (rest _) s q) list 0 x list′) b
+            (subst (λ (m : List Bool). ReadIntoList (submapsRun books lengths residues plans half (mappingIn mappings n) (coupled (mappingIn mappings n .couplings) m) 0 (mappingIn mappings n .submaps) s p) list 0 x list′) a y)

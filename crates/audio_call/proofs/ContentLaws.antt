@@ -25,6 +25,8 @@ use Rattle.audio.specs.declared.Head.{Head}
 use Rattle.audio.specs.Head.{modeAt}
 use Rattle.audio.specs.Channels.{submapOf, floorNumber, floorsOf, isUsed, coupled, submapRequests, allRequests}
 use Rattle.audio.specs.Packet.{mappingOf, channelFloors, residuesAfter, bodyRequests}
+use Rattle.audio_floors.proofs.Agreement.{floors-agree}
+use Rattle.audio_residues.proofs.RequestLaws.{same-residues}
 use Rattle.audio_call.specs.inner.Body.{floorsIn, residuesIn, bodyIn}
 
 module _ {limits : Limits} {channels : ℕ} {t : Tables} {c : Setup} (x : RowsReadable limits channels t c) (few : limits .«book_entries» ≤ 65536) (h : Head) (set-up : h .mode < length (c .modes)) where
