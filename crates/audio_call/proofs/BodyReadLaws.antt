@@ -113,8 +113,8 @@ module _ (books lengths floors residues plans mappings : List ℕ) (n channels h
 
     -- none was
     pub record AllWhole : Type 0 where
-      pub floors : List FloorRead
-      pub value : floorsRun .value ≡ some floors
+      pub read-floors : List FloorRead
+      pub value : floorsRun .value ≡ some read-floors
 
     was-whole : r .cut ≡ false → AllWhole
     unfolding isCut
@@ -122,7 +122,7 @@ module _ (books lengths floors residues plans mappings : List ℕ) (n channels h
       where
         go : (v : Option (List FloorRead)) → floorsRun .value ≡ v → isCut v ≡ false → AllWhole
         go none q h = let z : _≡_ {A = ℕ} 0 1 = cc in absurd (omega arith)
-        go (some vs) q h = record { floors = vs; value = q }
+        go (some vs) q h = record { read-floors = vs; value = q }
 
     pub body-whole : channels ≤ 255 → r .cut ≡ false → {x : ListRead} {list′ : List ℕ}
         → ReadIntoList (submapsRun books lengths residues plans half (mappingIn mappings n) (coupled (mappingIn mappings n .couplings) (usedBools channels (r .used))) 0 (mappingIn mappings n .submaps) s (position (r .at))) list 0 x list′
@@ -130,14 +130,14 @@ module _ (books lengths floors residues plans mappings : List ℕ) (n channels h
     unfolding bodyIn usedBools floorsOf residuesIn
     body-whole few e {x} {list′} g =
         let w = was-whole e in
-        let same = sequence lens floorRequests fs .whole s k (w .floors) (w .value) in
+        let same = sequence lens floorRequests fs .whole s k (w .read-floors) (w .value) in
         let maps = length-map (tabulate (floorNumber (mappingIn mappings n)) channels) (floorIn floors) in
-        let long : length (w .floors) ≡ channels = all-long (read lens) s fs k (w .floors) (w .value) ∙ maps ∙ tabulate-length (floorNumber (mappingIn mappings n)) channels in
-        let used : usedBools channels (r .used) ≡ map isUsed (w .floors) =
+        let long : length (w .read-floors) ≡ channels = all-long (read lens) s fs k (w .read-floors) (w .value) ∙ maps ∙ tabulate-length (floorNumber (mappingIn mappings n)) channels in
+        let used : usedBools channels (r .used) ≡ map isUsed (w .read-floors) =
             ap (usedBools channels) (f .used ∙ ap (λ (vs : List FloorRead). pad 255 (map (λ v. one (isUsed v)) vs)) same)
-            ∙ ap (λ (m : ℕ). usedBools m (pad 255 (map (λ v. one (isUsed v)) (w .floors)))) (sym long)
-            ∙ back 255 (w .floors) (omega arith) in
-        let read-all : ReadIntoList (run (read lens) (rest (w .floors)) s (floorsRun .position)) list 0 x list′ = go (usedBools channels (r .used)) (position (r .at)) used (f .position) g in
+            ∙ ap (λ (m : ℕ). usedBools m (pad 255 (map (λ v. one (isUsed v)) (w .read-floors)))) (sym long)
+            ∙ back 255 (w .read-floors) (omega arith) in
+        let read-all : ReadIntoList (run (read lens) (rest (w .read-floors)) s (floorsRun .position)) list 0 x list′ = go (usedBools channels (r .used)) (position (r .at)) (w .read-floors) used (f .position) g in
         record {
           used = f .used;
           ending = read-all .ending ∙ whole-ending lens s k fs rest asks (w .value) (length list);
@@ -145,9 +145,9 @@ module _ (books lengths floors residues plans mappings : List ℕ) (n channels h
           words = read-all .list ∙ whole-list lens s k fs rest asks (w .value) list;
         }
       where
-        go : (l : List Bool) (p : ℕ) {vs : List FloorRead} → l ≡ map isUsed vs → p ≡ floorsRun .position
+        go : (l : List Bool) (p : ℕ) (vs : List FloorRead) → l ≡ map isUsed vs → p ≡ floorsRun .position
             → ReadIntoList (submapsRun books lengths residues plans half (mappingIn mappings n) (coupled (mappingIn mappings n .couplings) l) 0 (mappingIn mappings n .submaps) s p) list 0 x list′
             → ReadIntoList (run (read lens) (rest vs) s (floorsRun .position)) list 0 x list′
-        go l p a b y =
-            subst (λ (q : ℕ). ReadIntoList (run (read lens) (rest _) s q) list 0 x list′) b
+        go l p vs a b y =
+            subst (λ (q : ℕ). ReadIntoList (run (read lens) (rest vs) s q) list 0 x list′) b
             (subst (λ (m : List Bool). ReadIntoList (submapsRun books lengths residues plans half (mappingIn mappings n) (coupled (mappingIn mappings n .couplings) m) 0 (mappingIn mappings n .submaps) s p) list 0 x list′) a y)

@@ -37,6 +37,7 @@ use Rattle.audio.specs.Packet.{Audio, mappingOf, byChannel, channelFloors, body
 use Rattle.audio.specs.Tally.{tallySound, counted}
 use Rattle.audio.specs.Curves.{curvesOf}
 use Rattle.audio.specs.Call.{Room, Accepted, judged, accepted}
+use Rattle.audio_floors.proofs.Agreement.{flags-agree, whole-few}
 use Rattle.audio_call.specs.declared.body.BodyRead.{BodyRead}
 use Rattle.audio_call.specs.declared.judge.Judged.{Judged}
 use Rattle.audio_call.specs.inner.Body.{endingWords, BodyIs}
@@ -96,29 +97,8 @@ module _ (room : ℕ) (r : Run Unit) where
       go true q none h = let z : _≡_ {A = ℕ} 0 1 = cc in absurd (omega arith)
       go false q v h = q
 
--- there are no more whole floors than floors
-few-values : (reads : Request → Reader ℕ) (s : List ℕ) (fs : List Floor) (k : ℕ) → length (wholeValues reads floorRequests fs s k) ≤ length fs
-unfolding wholeValues
-few-values reads s [] k = omega arith
-few-values reads s (f ∷ fs) k =
-    let n = run reads (floorRequests f) s k .position in
-    go (run reads (floorRequests f) s k .value) (wholeValues reads floorRequests fs s n) (few-values reads s fs n)
-  where
-    go : (v : Option FloorRead) (l : List FloorRead) → length l ≤ length fs → length (unlessCut v l) ≤ suc (length fs)
-    go (some a) l h = omega arith
-    go none l h = omega arith
-
 pub bad-ok : {A : Type 0} {z : Refusal} {a : A} → bad z ≡ ok a → ⊥
 bad-ok e = let z : _≡_ {A = ℕ} 0 1 = cc in omega arith
-
--- floors behind a cut are unused: in the answer they are zeros, as what lies behind the last channel is
-unused-padded : (m n : ℕ) (vs : List FloorRead) → length vs ≤ n → pad m (map (λ f. one (isUsed f)) vs) ≡ pad m (map (λ f. one (isUsed f)) (byChannel n vs))
-unfolding pad byChannel isUsed
-unused-padded zero n vs h = refl
-unused-padded (suc m) zero [] h = refl
-unused-padded (suc m) zero (v ∷ vs) h = absurd (omega arith)
-unused-padded (suc m) (suc n) [] h = ap (λ (l : List ℕ). 0 ∷ l) (unused-padded m n [] (omega arith))
-unused-padded (suc m) (suc n) (v ∷ vs) h = ap (λ (l : List ℕ). one (isUsed v) ∷ l) (unused-padded m n vs (omega arith))
 
 module _ (i : Identity) (c : Setup) (t : Tally) (s : List ℕ) (h : Head) (k : ℕ) where
   abbrev whole : Audio
@@ -139,7 +119,7 @@ module _ (i : Identity) (c : Setup) (t : Tally) (s : List ℕ) (h : Head) (k : �
   few-floors : length floors ≤ i .channels
   unfolding channelFloors floorsOf
   few-floors =
-      let few = few-values (read (lengthsOf c)) s (channelFloors (i .channels) c h) k in
+      let few = whole-few (read (lengthsOf c)) s (channelFloors (i .channels) c h) k in
       let maps = length-map (tabulate (floorNumber (mappingOf c h)) (i .channels)) (λ (n : ℕ). getD (c .floors) n noFloor) in
       let all = tabulate-length (floorNumber (mappingOf c h)) (i .channels) in
       omega arith
@@ -206,7 +186,7 @@ module _ (i : Identity) (c : Setup) (t : Tally) (s : List ℕ) (h : Head) (k : �
       read-is {r} {n} f a = go (counted t (h .blocksize) (body .position)) (all-words fits (f .0)) (a (body .position))
         where
           used-are : x .used ≡ pad 255 (map (λ g. one (isUsed g)) (byChannel (i .channels) floors))
-          used-are = b .used ∙ unused-padded 255 (i .channels) floors few-floors
+          used-are = b .used ∙ sym (flags-agree 255 (i .channels) floors few-floors)
 
           same : (y : Accepted) → whole ≡ y .packet → curvesOf (h .blocksize / 2) (channelFloors (i .channels) c h) (byChannel (i .channels) floors) ≡ curvesBy (i .channels) c y
           same y e = ap (λ (q : Audio). curvesOf (q .head .blocksize / 2) (channelFloors (i .channels) c (q .head)) (q .floors)) e
