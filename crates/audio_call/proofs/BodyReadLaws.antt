@@ -36,7 +36,7 @@ use Rattle.audio.specs.Channels.{floorNumber, floorsOf, isUsed, coupled, allReq
 use Rattle.audio.specs.Curves.{curvesOf}
 use Rattle.audio_channels.specs.inner.Live.{isLive, usedBools}
 use Rattle.audio_floors.specs.declared.FloorsRead.{FloorsRead}
-use Rattle.audio_floors.specs.inner.Floors.{isCut, FloorsAre}
+use Rattle.audio_floors.specs.inner.Floors.{isCut, FloorsReadable, FloorsAre}
 use Rattle.audio_residues.specs.inner.Reading.{submapsRun, ResiduesReadable}
 use Rattle.audio_call.specs.declared.body.BodyRead.{BodyRead}
 use Rattle.audio_call.specs.inner.Body.{floorsIn, residuesIn, bodyIn, endingWords, BodyIs, BodyReadable}
@@ -151,3 +151,24 @@ module _ (books lengths floors residues plans mappings : List ℕ) (n channels h
         go l p vs a b y =
             subst (λ (q : ℕ). ReadIntoList (run (read lens) (rest vs) s q) list 0 x list′) b
             (subst (λ (m : List Bool). ReadIntoList (submapsRun books lengths residues plans half (mappingIn mappings n) (coupled (mappingIn mappings n .couplings) m) 0 (mappingIn mappings n .submaps) s p) list 0 x list′) a y)
+
+-- what the functions that are called ask for; `wide` is the same number in another width
+module _ {mappings floors residues plans books lengths codewords : List ℕ} {n channels half : ℕ} (b : BodyReadable mappings floors residues plans books lengths codewords n channels half) where
+  pub floors-asked : {wide room : ℕ} → wide ≡ half → channels * half ≤ room
+      → (channels ≤ 255) × (wide ≤ 4096) × (channels * wide ≤ room) × FloorsReadable channels n mappings floors books lengths codewords
+  floors-asked e h = let few = b .half-few in (b .channels-few, omega arith, rw e h, b .floors-readable)
+
+  pub residues-asked : {used : List ℕ} (l : List ℕ) → used ≡ pad 255 l → ResiduesReadable books lengths codewords residues plans mappings used channels n half
+  residues-asked l e =
+      record {
+        mapping-is = b .floors-readable .mapping-readable;
+        channels-few = b .channels-few;
+        half-few = b .half-few;
+        flags-length = ap length e ∙ length-pad 255 l;
+        residue-is = b .residue-is;
+      }
+
+-- of floors that were read with half a block in another width
+pub floors-at : {lengthsOf : ℕ → List ℕ} {channels wide half : ℕ} {fs : List Floor} {s : List ℕ} {k : ℕ} {r : FloorsRead} {entry exit : List ℕ} → wide ≡ half
+    → FloorsAre lengthsOf channels wide fs s k r entry exit → FloorsAre lengthsOf channels half fs s k r entry exit
+floors-at {lengthsOf} {channels} {wide} {half} {fs} {s} {k} {r} {entry} {exit} e f = subst (λ (w : ℕ). FloorsAre lengthsOf channels w fs s k r entry exit) e f
