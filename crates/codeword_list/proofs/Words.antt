@@ -69,18 +69,16 @@ module _ (lengthsOf : ℕ → List ℕ) (ls s : List ℕ) (book : ℕ) (same : l
     cut-one low q = let z : c + 0 ≡ c = omega arith in rw (word-cut-is q) (record { ending = rw (z, le-leb c (length out) low); list = refl })
 
     module _ {e : ℕ} {next : Cursor} (q : f ≡ Value e next) where
-      full-one : length out ≤ c → ReadIntoList (oneRun lengthsOf s book names-vector at) out c Full out
+      full-one : length out < c + 1 → ReadIntoList (oneRun lengthsOf s book names-vector at) out c Full out
       unfolding endingIn endingOf
       full-one h =
-          let far : length out < c + 1 = omega arith in
-          rw (word-is q) (record { ending = rw (lt-leb (c + 1) (length out) far); list = sym (set-out out c (listed (item (word book (roleBy names-vector)) e)) h) })
+          let past : length out ≤ c = omega arith in
+          rw (word-is q) (record { ending = rw (lt-leb (c + 1) (length out) h); list = sym (set-out out c (listed (item (word book (roleBy names-vector)) e)) past) })
 
-      whole-one : c < length out → {v : ℕ} → v ≡ 2 * e + one names-vector
+      whole-one : c + 1 ≤ length out → {v : ℕ} → v ≡ 2 * e + one names-vector
           → ReadIntoList (oneRun lengthsOf s book names-vector at) out c (Whole (record { at = next; count = c + 1 })) (set out c v)
       unfolding endingIn endingOf
-      whole-one h g =
-          let near : c + 1 ≤ length out = omega arith in
-          rw (word-is q) (record { ending = rw (le-leb (c + 1) (length out) near); list = ap (set out c) (g ∙ number-is book e names-vector) })
+      whole-one h g = rw (word-is q) (record { ending = rw (le-leb (c + 1) (length out) h); list = ap (set out c) (g ∙ number-is book e names-vector) })
 
 -- an entry that was read is small enough to be doubled
 entry-small : (ls codewords s : List ℕ) (at : Cursor) {f : Field} → Codebook ls codewords → outcome f ≡ codeword ls s (position at) → Settled ls
@@ -101,11 +99,11 @@ module _ {books lengths codewords : List ℕ} {book : ℕ} (b : BookStored books
   word-cut low q = cut-one (lengthsIn books lengths) (entriesOf books book lengths) s book refl names-vector (from .at) p out (from .count) low q
 
   module _ {e : ℕ} {next : Cursor} (q : f ≡ Value e next) where
-    pub word-full : length out ≤ from .count → ReadIntoList (wordsRun books lengths (oneWord book names-vector) s (position (from .at))) out (from .count) Full out
+    pub word-full : length out < from .count + 1 → ReadIntoList (wordsRun books lengths (oneWord book names-vector) s (position (from .at))) out (from .count) Full out
     unfolding lengthsIn
     word-full h = full-one (lengthsIn books lengths) (entriesOf books book lengths) s book refl names-vector (from .at) p out (from .count) q h
 
-    pub word-whole : from .count < length out → {v : ℕ} → v ≡ 2 * e + one names-vector
+    pub word-whole : from .count + 1 ≤ length out → {v : ℕ} → v ≡ 2 * e + one names-vector
         → ReadIntoList (wordsRun books lengths (oneWord book names-vector) s (position (from .at))) out (from .count) (Whole (record { at = next; count = from .count + 1 })) (set out (from .count) v)
     unfolding lengthsIn
     word-whole h g = whole-one (lengthsIn books lengths) (entriesOf books book lengths) s book refl names-vector (from .at) p out (from .count) q h g
@@ -128,10 +126,13 @@ module _ {ls codewords s : List ℕ} {size dimensions : ℕ} {entered : List ℕ
   vectors-start b d h = record { book = b; low = d; sofar = sofar-start h }
 
   module _ {out : List ℕ} {at : Cursor} {c left : ℕ} (g : VectorsLeft ls codewords s size dimensions entered at₀ c₀ out at c left) where
+    pub vectors-fits : c ≤ length out
+    vectors-fits = sofar-fits (g .sofar)
+
     pub vectors-done : left < dimensions
         → ReadIntoList (vectorsRun ls (size / dimensions) s (position at₀)) entered c₀ (Whole (record { at = at; count = c })) out
     unfolding flatVectors run
-    vectors-done h = let z : left / dimensions ≡ 0 = div-eq-of-lt h in sofar-last (rw z at (g .sofar)) (read-nothing refl (sofar-fits (g .sofar)) refl)
+    vectors-done h = let z : left / dimensions ≡ 0 = div-eq-of-lt h in sofar-last (rw z at (g .sofar)) (read-nothing refl vectors-fits refl)
 
     one-of-them : dimensions ≤ left
         → vectorsRun ls (left / dimensions) s (position at) ≡ joined (oneRun (λ _. ls) s 0 true at) (λ _ m. vectorsRun ls ((left - dimensions) / dimensions) s m)
@@ -142,16 +143,16 @@ module _ {ls codewords s : List ℕ} {size dimensions : ℕ} {entered : List ℕ
     module _ (more : dimensions ≤ left) {f : Field} (p : outcome f ≡ codeword ls s (position at)) where
       pub vectors-cut : {z : Refusal} → f ≡ Refused z
           → ReadIntoList (vectorsRun ls (size / dimensions) s (position at₀)) entered c₀ (Cut (record { at = at; count = c })) out
-      vectors-cut q = sofar-last (rw (one-of-them more) at (g .sofar)) (joined-cut _ (cut-one (λ _. ls) ls s 0 refl true at p out c (sofar-fits (g .sofar)) q) refl)
+      vectors-cut q = sofar-last (rw (one-of-them more) at (g .sofar)) (joined-cut _ (cut-one (λ _. ls) ls s 0 refl true at p out c vectors-fits q) refl)
 
       module _ {e : ℕ} {next : Cursor} (q : f ≡ Value e next) where
         pub vectors-small : Settled ls → e ≤ 16777216
         vectors-small t = entry-small ls codewords s at (g .book) p t q
 
-        pub vectors-full : length out ≤ c → ReadIntoList (vectorsRun ls (size / dimensions) s (position at₀)) entered c₀ Full out
+        pub vectors-full : length out < c + 1 → ReadIntoList (vectorsRun ls (size / dimensions) s (position at₀)) entered c₀ Full out
         vectors-full h = sofar-last (rw (one-of-them more) at (g .sofar)) (joined-full _ (full-one (λ _. ls) ls s 0 refl true at p out c q h) refl)
 
-        pub vectors-next : c < length out → {v : ℕ} → v ≡ 2 * e + one true
+        pub vectors-next : c + 1 ≤ length out → {v : ℕ} → v ≡ 2 * e + one true
             → VectorsLeft ls codewords s size dimensions entered at₀ c₀ (set out c v) next (c + 1) (left - dimensions)
         vectors-next h f′ =
             record { book = g .book; low = g .low; sofar = sofar-next (g .sofar) _ (one-of-them more) (whole-one (λ _. ls) ls s 0 refl true at p out c q h f′) refl .2 }
@@ -186,4 +187,4 @@ module _ (books : List ℕ) (book : ℕ) {dimensions : ℕ} (d : dimensions ≡ 
 
 pub ruleset asked = (needs, marked, unmarked, word-small, word-cut, word-full, word-whole)
 
-pub ruleset looped = (needs, vectors-start, vectors-small, vectors-cut, vectors-full, vectors-next, vectors-done)
+pub ruleset looped = (needs, vectors-start, vectors-fits, vectors-small, vectors-cut, vectors-full, vectors-next, vectors-done)

@@ -61,13 +61,14 @@ pub fn read_word(
     match book_codeword::read_entry(packet, at, book, books, lengths, codewords) {
         Field::Refused(_) => ListRead::Cut(from),
         Field::Value(entry, next) => {
-            if out.len() <= count {
+            let needed = count + 1;
+            if out.len() < needed {
                 return ListRead::Full;
             }
             out[count] = list_number(entry, vector);
             ListRead::Whole(Progress {
                 at: next,
-                count: count + 1,
+                count: needed,
             })
         }
     }
@@ -97,14 +98,15 @@ fn read_vectors(
                 return ListRead::Cut(Progress { at, count });
             }
             Field::Value(entry, next) => {
-                if out.len() <= count {
+                let needed = count + 1;
+                if out.len() < needed {
                     return ListRead::Full;
                 }
                 out[count] = list_number(entry, true);
                 at = next;
+                count = needed;
             }
         }
-        count = count + 1;
         left = left - dimensions;
     }
     ListRead::Whole(Progress { at, count })

@@ -49,7 +49,7 @@ module _ {plans : List ℕ} {n : ℕ} where
 
 pub ruleset asked = (needs, search-start, search-next, search-done)
 
--- NO BOOK in a later pass, for any class: the plan has a row for each class, and none besides
+-- NO BOOK in a later pass, for any class: the plan has a row for each class, and no other
 no-row : (c : ℕ) (l : List ℕ) (class : ℕ) → c ≤ class → getD (chunks c l) class [] ≡ []
 unfolding chunks
 no-row zero l class h = refl

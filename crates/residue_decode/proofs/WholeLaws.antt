@@ -131,9 +131,9 @@ module _ {s books lengths codewords plans : List ℕ} {n : ℕ} {h : Head} {star
 
 -- THE WHOLE RESIDUE
 -- the codewords that were read last stand last in the list
-stand-last : {A : Type 0} (h : Run A) (out : List ℕ) (c : ℕ) {r : ListRead} {exit : List ℕ} {m : Progress} → ReadIntoList h out c r exit → r ≡ Whole m
+listed-last : {A : Type 0} (h : Run A) (out : List ℕ) (c : ℕ) {r : ListRead} {exit : List ℕ} {m : Progress} → ReadIntoList h out c r exit → r ≡ Whole m
     → (drop c exit ≡ numbers (h .items) ++ drop (c + length (numbers (h .items))) out) × (c + length (h .items) ≡ m .count)
-stand-last h out c {exit = exit} {m = m} w q =
+listed-last h out c {exit = exit} {m = m} w q =
     let x = read-whole q (w .ending) in
     let p = numbers-long (h .items) in
     let l = numbers (h .items) in
@@ -174,7 +174,7 @@ module _ {books lengths codewords plans : List ℕ} {n : ℕ} {h : Head} {digits
       -- the classes of pass 0 are in the list
       found-again : (cs : List ℕ) → first live .value ≡ some cs
           → (cs ≡ classesIn plans n h digits live exit partitions (from .count)) × ClassWordsBefore digits live (m .count) exit partitions 0 (from .count)
-      found-again cs e = go live more e (stand-last (first live) out (from .count) x q)
+      found-again cs e = go live more e (listed-last (first live) out (from .count) x q)
         where
           go : (live : ℕ) → (live ≡ 0 → ⊥) → first live .value ≡ some cs
               → (drop (from .count) exit ≡ numbers (first live .items) ++ drop (from .count + length (numbers (first live .items))) out)

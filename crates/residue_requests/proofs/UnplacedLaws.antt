@@ -146,7 +146,7 @@ module _ (submap : ℕ) (dimensionsOf : ℕ → ℕ) (r : Residue) where
       ∙ sym (bind-bind (unplaced x) (λ classes. done (concat classes)) (λ classes. flatLaterPasses dimensionsOf r 1 7 classes))
       ∙ ap (λ (z : Requests (List ℕ)). bind z (λ classes. flatLaterPasses dimensionsOf r 1 7 classes)) (unplaced-first live 0 partitions 0 [] [])
 
--- A RUN WITHOUT PLACES, beside the run with them
+-- A RUN WITHOUT PLACES, compared with the run with them
 pub record SameButPlaces {A : Type 0} (flat placed : Run A) : Type 0 where
   pub items : flat .items ≡ map unplacedItem (placed .items)
   pub position : flat .position ≡ placed .position
@@ -187,7 +187,7 @@ module _ {A : Type 0} where
       rw (read-same lengthsOf s q k)
       (same-continued q k (read lengthsOf q s k) (λ v n. run (read lengthsOf) (unplaced (f v)) s n) (λ v n. run (read lengthsOf) (f v) s n) (λ v n. unplaced-run lengthsOf s (f v) n))
 
--- A RESIDUE's run, as the program goes through it, beside specs/Requests.antt's
+-- A RESIDUE's run, as the program goes through it, compared with specs/Requests.antt's
 pub residue-run : (submap : ℕ) (dimensionsOf : ℕ → ℕ) (lengthsOf : ℕ → List ℕ) (r : Residue) (live partitions : ℕ) (s : List ℕ) (k : ℕ)
     → SameButPlaces (run (read lengthsOf) (flatResidue dimensionsOf r live partitions) s k) (run (read lengthsOf) (residueRequests submap dimensionsOf r live partitions) s k)
 residue-run submap dimensionsOf lengthsOf r live partitions s k =

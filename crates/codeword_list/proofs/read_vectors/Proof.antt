@@ -32,6 +32,9 @@ returns c = search looped
 enum-known-entry : tie.Need-enum-known-entry Inv-loop μ-loop
 enum-known-entry c = search needs
 
+add-needed : tie.Need-add-needed Inv-loop μ-loop
+add-needed c = search looped
+
 same-length-2 : tie.Need-same-length-2 Inv-loop μ-loop
 same-length-2 c = search needs
 
@@ -46,9 +49,6 @@ mul-out c = search needs
 
 slice-write-out : tie.Need-slice-write-out Inv-loop μ-loop
 slice-write-out c = search needs
-
-add-count : tie.Need-add-count Inv-loop μ-loop
-add-count c = search needs
 
 loop-less : tie.Need-loop-less Inv-loop μ-loop
 loop-less c = search needs
@@ -74,12 +74,12 @@ read-vectors-spec =
     same-length
     returns
     enum-known-entry
+    add-needed
     same-length-2
     returns-2
     list-number-requires
     mul-out
     slice-write-out
-    add-count
     loop-less
     loop-again
     same-length-3

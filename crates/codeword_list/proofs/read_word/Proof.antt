@@ -13,6 +13,9 @@ enum-told c = search needs
 enum-known-entry : tie.Need-enum-known-entry
 enum-known-entry c = search needs
 
+add-needed : tie.Need-add-needed
+add-needed c = search asked
+
 returns : tie.Need-returns
 returns c = search asked
 
@@ -24,9 +27,6 @@ mul-out c = search needs
 
 slice-write-out : tie.Need-slice-write-out
 slice-write-out c = search needs
-
-add-t15 : tie.Need-add-t15
-add-t15 c = search needs
 
 returns-2 : tie.Need-returns-2
 returns-2 c = search asked
@@ -44,11 +44,11 @@ read-word-spec =
     read-entry-requires
     enum-told
     enum-known-entry
+    add-needed
     returns
     list-number-requires
     mul-out
     slice-write-out
-    add-t15
     returns-2
     same-length
     returns-3)

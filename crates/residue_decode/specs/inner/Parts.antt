@@ -1,4 +1,4 @@
--- The runs that the functions of this crate are held to, for residue number n, whose fields before the plan are h, with the books and plans that lie in the
+-- The runs that the functions of this crate are held to, for residue number n, whose fields before the plan are h, with the books and plans of the
 -- tables; and what functions that only count are held to. Assumes nothing: these are definitions.
 use Prim.Native.Nat.{ℕ, _*_, _≤_, _<_}
 use mathlib.Core.List.{List, []}
