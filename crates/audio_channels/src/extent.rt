@@ -12,6 +12,7 @@ ghost use Rattle.audio_channels.specs.inner.Extents.{headResidue, Extent
 ghost use Rattle.audio_channels.specs.inner.Live.{usedBools};
 ghost use lib.ListN.{length};
 
+// How much of a residue is read.
 pub struct Extent {
     pub vectors: usize,
     pub partitions: u32,
@@ -84,7 +85,8 @@ pub fn submap_extent(
     half: u32,
     head: Head,
 ) -> Extent
-    requires { ⌜ (length (now live) ≡ 255) × (channels ≤ 255) × MappingReadable channels (now mappings) mapping × (half ≤ 4096) × (1 ≤ head .size) ⌝ }
+    requires { ⌜ (length (now live) ≡ 255) × (channels ≤ 255) × MappingReadable channels (now mappings) mapping
+        × (half ≤ 4096) × (1 ≤ head .size) ⌝ }
     ensures { λ r. ⌜ ExtentIs half (mappingIn (now (mappings .entry)) mapping) channels (usedBools channels (now (live .entry))) submap head
         (r .vectors) (r .partitions) ⌝ }
 {

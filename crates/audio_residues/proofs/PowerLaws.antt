@@ -1,5 +1,5 @@
 -- Laws of a power that is known to fit. Assumes nothing.
-use Prim.Native.Nat.{ℕ, suc, _+_, _*_, _^_, _≤_, _<_}
+use Prim.Native.Nat.{ℕ, zero, suc, _+_, _*_, _^_, _≤_, _<_}
 use native.Mathlib.Nat.{pow-suc, pow-zero, pow-le-pow-right}
 use native.Mathlib.Numerals.{add-one}
 use native.Mathlib.Omega.{arith}
@@ -27,4 +27,11 @@ module _ {base exponent total i : ℕ} (g : Product base exponent total i) where
   pub power-done : exponent ≤ i → total ≡ base ^ exponent
   power-done h = let w = g .within in let s : i ≡ exponent = omega arith in g .product ∙ ap (λ (n : ℕ). base ^ n) s
 
-pub ruleset powers = (needs, power-start, power-fits, power-next, power-done)
+one-pow : (n : ℕ) → 1 ^ n ≡ 1
+one-pow zero = pow-zero 1
+one-pow (suc n) = rw (pow-suc, one-pow n)
+
+pub power-of-one : (exponent : ℕ) {base : ℕ} → 1 ≤ base → base < 2 → 1 ≡ base ^ exponent
+power-of-one exponent {base} low high = let e : base ≡ 1 = omega arith in rw e (sym (one-pow exponent))
+
+pub ruleset powers = (needs, power-of-one, power-start, power-fits, power-next, power-done)

@@ -11,6 +11,9 @@ Inv-loop base exponent total₀ i₀ total i = Product base exponent total i
 abbrev μ-loop : tie.MeasureT-loop
 μ-loop base exponent total₀ i₀ total i = exponent - i
 
+returns : tie.Need-returns Inv-loop μ-loop
+returns c = search powers
+
 loop-holds : tie.Need-loop-holds Inv-loop μ-loop
 loop-holds c = search powers
 
@@ -26,9 +29,9 @@ loop-less c = search needs
 loop-again : tie.Need-loop-again Inv-loop μ-loop
 loop-again c = search powers
 
-returns : tie.Need-returns Inv-loop μ-loop
-returns c = search powers
+returns-2 : tie.Need-returns-2 Inv-loop μ-loop
+returns-2 c = search powers
 
 pub power-spec : {M : Type 1} → statement M
 power-spec =
-    tie.close (tie.spec Inv-loop μ-loop loop-holds mul-total add-i loop-less loop-again returns)
+    tie.close (tie.spec Inv-loop μ-loop returns loop-holds mul-total add-i loop-less loop-again returns-2)
