@@ -34,7 +34,8 @@ use Rattle.codeword_list.specs.declared.ListRead.the-variants as L
 use Rattle.codeword_list.specs.inner.ListRead.{endingOf, ReadIntoList}
 use Rattle.audio.specs.Channels.{floorNumber, floorsOf, isUsed, coupled, allRequests}
 use Rattle.audio.specs.Curves.{curvesOf}
-use Rattle.audio_channels.specs.inner.Live.{isLive, usedBools}
+use Rattle.audio_channels.specs.inner.Live.{usedBools}
+use Rattle.audio_channels.proofs.LiveLaws.{used-of}
 use Rattle.audio_floors.specs.declared.FloorsRead.{FloorsRead}
 use Rattle.audio_floors.specs.inner.Floors.{isCut, FloorsReadable, FloorsAre}
 use Rattle.audio_residues.specs.inner.Reading.{submapsRun, ResiduesReadable}
@@ -58,14 +59,6 @@ all-long reads s (f ∷ fs) k vs e =
         (ap (λ (r : Run (List FloorRead)). r .value) (sym (run-bind reads s (each floorRequests fs) (λ l. done (a .first ∷ l)) n)) ∙ a .second) in
     let h = all-long reads s fs n (b .first) (b .came) in
     ap length (sym (some-is (b .second))) ∙ ap suc h
-
--- the flags of so many channels, back from their places
-back : (m : ℕ) (vs : List FloorRead) → length vs ≤ m → map isLive (take (length vs) (pad m (map (λ f. one (isUsed f)) vs))) ≡ map isUsed vs
-unfolding pad isUsed
-back m [] h = refl
-back zero (v ∷ vs) h = absurd (omega arith)
-back (suc m) (unused ∷ vs) h = ap (λ (l : List Bool). false ∷ l) (back m vs (omega arith))
-back (suc m) (values ys ∷ vs) h = ap (λ (l : List Bool). true ∷ l) (back m vs (omega arith))
 
 module _ (books lengths floors residues plans mappings : List ℕ) (n channels half : ℕ) (s : List ℕ) (k : ℕ) where
   abbrev fs : List Floor
@@ -136,7 +129,7 @@ module _ (books lengths floors residues plans mappings : List ℕ) (n channels h
         let used : usedBools channels (r .used) ≡ map isUsed (w .read-floors) =
             ap (usedBools channels) (f .used ∙ ap (λ (vs : List FloorRead). pad 255 (map (λ v. one (isUsed v)) vs)) same)
             ∙ ap (λ (m : ℕ). usedBools m (pad 255 (map (λ v. one (isUsed v)) (w .read-floors)))) (sym long)
-            ∙ back 255 (w .read-floors) (omega arith) in
+            ∙ used-of isUsed (w .read-floors) (omega arith) in
         let read-all : ReadIntoList (run (read lens) (rest (w .read-floors)) s (floorsRun .position)) list 0 x list′ = go (usedBools channels (r .used)) (position (r .at)) (w .read-floors) used (f .position) g in
         record {
           used = f .used;
