@@ -3,11 +3,11 @@ use Prim.Native.Nat.{ℕ, zero, suc, _+_, _/_, _≤_, _<_}
 use native.Mathlib.Omega.{arith}
 use mathlib.Core.Bool.{Bool}
 use mathlib.Core.List.{List, [], _∷_, _++_, map}
-use mathlib.Core.Path.{_≡_, refl, ap, sym, _∙_}
+use mathlib.Core.Path.{_≡_, refl, ap, sym, subst, _∙_}
 use lib.ListN.{length, getD}
 use Rattle.reading.specs.Tabulate.{tabulate}
 use Rattle.limits.specs.declared.Limits.{Limits}
-use Rattle.book_codeword.specs.inner.Stored.{dimensionsIn}
+use Rattle.book_codeword.specs.inner.Stored.{lengthsIn, dimensionsIn}
 use Rattle.floor.specs.Content.{Floor, noFloor}
 use Rattle.floor_values.specs.inner.Stored.{floorIn}
 use Rattle.residue.specs.Content.{Residue, noResidue}
@@ -15,9 +15,11 @@ use Rattle.residue_pass.specs.inner.Readable.{residueIn}
 use Rattle.mapping.specs.Content.{Mapping, Submap, noSubmap, noMapping}
 use Rattle.mapping_row.specs.inner.Readable.{mappingIn}
 use Rattle.mode.specs.Content.{noMode}
-use Rattle.setup.specs.Content.{Setup, dimensionsOf}
+use Rattle.setup.specs.Content.{Setup, lengthsOf, dimensionsOf}
 use Rattle.setup.specs.Layout.{Tables}
-use Rattle.requests.specs.Requests.{bind, each}
+use Rattle.requests.specs.Requests.{Requests, bind, each}
+use Rattle.requests.specs.Run.{read, run}
+use Rattle.requests.specs.Values.{wholeValues}
 use Rattle.requests.proofs.Laws.{bind-same}
 use Rattle.floor_requests.specs.Requests.{FloorRead, floorRequests}
 use Rattle.setup_rows.specs.inner.Rows.{RowsReadable}
@@ -27,7 +29,9 @@ use Rattle.audio.specs.Channels.{submapOf, floorNumber, floorsOf, isUsed, coupl
 use Rattle.audio.specs.Packet.{mappingOf, channelFloors, residuesAfter, bodyRequests}
 use Rattle.audio_floors.proofs.Agreement.{floors-agree}
 use Rattle.audio_residues.proofs.RequestLaws.{same-residues}
-use Rattle.audio_call.specs.inner.Body.{floorsIn, residuesIn, bodyIn}
+use Rattle.audio_residues.specs.inner.Reading.{residueNumber}
+use Rattle.audio_call.specs.declared.body.BodyRead.{BodyRead}
+use Rattle.audio_call.specs.inner.Body.{floorsIn, residuesIn, bodyIn, BodyIs, BodyReadable}
 
 module _ {limits : Limits} {channels : ℕ} {t : Tables} {c : Setup} (x : RowsReadable limits channels t c) (few : limits .«book_entries» ≤ 65536) (h : Head) (set-up : h .mode < length (c .modes)) where
   -- the number of the mode's mapping
@@ -68,3 +72,36 @@ module _ {limits : Limits} {channels : ℕ} {t : Tables} {c : Setup} (x : RowsRe
   body-is =
       ap (λ (fs : List Floor). bind (each floorRequests fs) (λ vs. residuesIn (t .books) (t .residues) (t .plans) (t .mappings) number (h .blocksize / 2) vs)) floors-are
       ∙ bind-same (each floorRequests (channelFloors channels c h)) (λ vs. residuesIn (t .books) (t .residues) (t .plans) (t .mappings) number (h .blocksize / 2) vs) (λ vs. residuesAfter c h vs) residues-are
+
+  -- WHAT READING THE BODY ASKS OF THE TABLES
+  pub body-readable : channels ≤ 255 → h .blocksize ≤ 8192
+      → BodyReadable (t .mappings) (t .floors) (t .residues) (t .plans) (t .books) (t .lengths) (t .codewords) number channels (h .blocksize / 2)
+  unfolding floorNumber submapOf residueNumber
+  body-readable low high =
+      let s = x .mappings number number-set-up in
+      let e = s .content in
+      record {
+        floors-readable = record {
+          mapping-readable = rw e (s .is);
+          floor = λ j k. rw e (x .floors few _ (s .floor-set-up _ (s .is .submap-set-up j k)) .stored);
+          x-list = λ j k. rw e (let f = x .floors few _ (s .floor-set-up _ (s .is .submap-set-up j k)) in record { count = f .x-count; list = f .x-list });
+        };
+        residue-is = rw e (λ j k q g. x .residues _ (s .residue-set-up j k) .readable q g);
+        channels-few = low;
+        half-few = omega arith;
+      }
+
+  -- a body that was read by the tables is the content's
+  pub body-content : (s : List ℕ) (k : ℕ) {r : BodyRead} {entry exit list list′ : List ℕ}
+      → BodyIs (run (read (lengthsIn (t .books) (t .lengths))) (bodyIn (t .books) (t .floors) (t .residues) (t .plans) (t .mappings) number channels (h .blocksize / 2)) s k)
+      (floorsIn (t .mappings) (t .floors) number channels)
+      (wholeValues (read (lengthsIn (t .books) (t .lengths))) floorRequests (floorsIn (t .mappings) (t .floors) number channels) s k) channels (h .blocksize / 2) r entry exit list list′
+      → BodyIs (run (read (lengthsOf c)) (bodyRequests channels c h) s k) (channelFloors channels c h)
+      (wholeValues (read (lengthsOf c)) floorRequests (channelFloors channels c h) s k) channels (h .blocksize / 2) r entry exit list list′
+  body-content s k {r} {entry} {exit} {list} {list′} b =
+      let body = body-is in
+      let floors = floors-are in
+      let lens = x .lengths in
+      subst (λ (l : ℕ → List ℕ). BodyIs (run (read l) (bodyRequests channels c h) s k) (channelFloors channels c h) (wholeValues (read l) floorRequests (channelFloors channels c h) s k) channels (h .blocksize / 2) r entry exit list list′) lens
+      (subst (λ (fs : List Floor). BodyIs (run (read (lengthsIn (t .books) (t .lengths))) (bodyRequests channels c h) s k) fs (wholeValues (read (lengthsIn (t .books) (t .lengths))) floorRequests fs s k) channels (h .blocksize / 2) r entry exit list list′) floors
+      (subst (λ (q : Requests Unit). BodyIs (run (read (lengthsIn (t .books) (t .lengths))) q s k) (floorsIn (t .mappings) (t .floors) number channels) (wholeValues (read (lengthsIn (t .books) (t .lengths))) floorRequests (floorsIn (t .mappings) (t .floors) number channels) s k) channels (h .blocksize / 2) r entry exit list list′) body b))

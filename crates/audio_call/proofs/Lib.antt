@@ -8,3 +8,4 @@ pub mod HeadLaws
 pub mod AcceptedLaws
 pub mod SettleLaws
 pub mod BodyReadLaws
+pub mod ReadyLaws

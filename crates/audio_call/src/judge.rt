@@ -1,11 +1,23 @@
 // An audio packet judged: the head, then room, floors, residues and the tally, in 01's order.
+use super::body::read_body;
+use super::size::curve_bytes;
 use audio::Head;
 use audio::Tally;
 use audio_tally::Counted;
-ghost use Prim.Native.Nat.{ℕ};
+use bits::Cursor;
+use codeword_list::ListRead;
+use identification::Identity;
+ghost use Prim.Native.Nat.{ℕ, _+_, _*_, _<_};
 ghost use mathlib.Core.Path.{_≡_};
+ghost use lib.ListN.{getD};
+ghost use Rattle.bits.specs.inner.Cursors.{position};
+ghost use Rattle.mode.specs.Layout.{modeWidth};
+ghost use Rattle.setup.specs.Layout.{tables};
+ghost use Rattle.setup.specs.Handed.{handed};
+ghost use Rattle.setup.specs.inner.Decode.{decodeSetup};
 ghost use Rattle.audio.specs.Tally.{counted};
-ghost use Rattle.audio_call.specs.inner.Judged.{finishedBy, refusedBy};
+ghost use Rattle.audio_call.specs.inner.Ready.{Ready};
+ghost use Rattle.audio_call.specs.inner.Judged.{finishedBy, refusedBy, roomOf, afterHead, HeadIs, JudgedIs};
 
 // What judging a packet comes to.
 pub struct Judged {
@@ -65,5 +77,73 @@ fn finish(tally: Tally, head: Head, used: [u8; 255], words: usize) -> Judged
             samples,
             tally: after,
         },
+    }
+}
+
+// The number of a mode's mapping.
+fn mapping_of(modes: &[u8], mode: u32) -> usize
+    requires { ⌜ mode < 64 ⌝ }
+    ensures { λ r. ⌜ r ≡ getD (now (modes .entry)) (modeWidth * mode + 1) 0 ⌝ }
+{
+    mode::row::mapping(modes, mode as usize) as usize
+}
+
+// What follows a head that was read: room for the curves, the body, room for the codewords, the samples.
+fn judge_body(
+    tally: Tally,
+    identity: Identity,
+    head: Head,
+    from: Cursor,
+    counts: &[u32],
+    books: &[u32],
+    lengths: &[u8],
+    codewords: &[u32],
+    multiplicands: &[u16],
+    floors: &[u16],
+    residues: &[u32],
+    plans: &[u16],
+    mappings: &[u8],
+    modes: &[u8],
+    packet: &[u8],
+    curves: &mut [u8],
+    words: &mut [u32],
+) -> Judged
+    requires { ⌜ Ready identity (tables (now counts) (now books) (now lengths) (now codewords) (now multiplicands) (now floors) (now residues) (now plans) (now mappings) (now modes))
+        × HeadIs identity
+        (decodeSetup (tables (now counts) (now books) (now lengths) (now codewords) (now multiplicands) (now floors) (now residues) (now plans) (now mappings) (now modes)))
+        (now packet) head (position from) ⌝ }
+    ensures { λ r. ⌜ JudgedIs (identity .channels) (decodeSetup (handed counts books lengths codewords multiplicands floors residues plans mappings modes))
+        (afterHead identity (decodeSetup (handed counts books lengths codewords multiplicands floors residues plans mappings modes)) tally
+        (now (packet .entry)) head (position from) (roomOf (now (curves .entry)) (now (words .entry))))
+        r (now (curves .entry)) (now (curves .exit)) (now (words .entry)) (now (words .exit)) ⌝ }
+{
+    let channels = identity.channels;
+    let blocksize = head.blocksize;
+    if curves.len() < curve_bytes(channels, blocksize) {
+        return refused(17);
+    }
+    let mapping = mapping_of(modes, head.mode);
+    let read = read_body(
+        packet,
+        from,
+        channels,
+        mapping,
+        blocksize / 2,
+        mappings,
+        floors,
+        residues,
+        plans,
+        books,
+        lengths,
+        codewords,
+        curves,
+        words,
+    );
+    let used = read.used;
+    let ending = read.words;
+    match ending {
+        ListRead::Whole(progress) => finish(tally, head, used, progress.count),
+        ListRead::Cut(progress) => finish(tally, head, used, progress.count),
+        ListRead::Full => refused(17),
     }
 }

@@ -2,6 +2,7 @@
 use super::clear::clear_between_u32;
 use super::clear::clear_between_u8;
 use super::judge::Judged;
+use super::size::curve_bytes;
 use audio::AudioAnswer;
 use audio::AudioLeft;
 use audio::Tally;
@@ -9,9 +10,8 @@ use audio::Window;
 use identification::Identity;
 use reading::buffers::clear_u32;
 use reading::buffers::clear_u8;
-use reading::widths::wide_u32;
 ghost use mathlib.Core.Path.{_≡_};
-ghost use Prim.Native.Nat.{_*_, _/_, _≤_};
+ghost use Prim.Native.Nat.{_≤_};
 ghost use Rattle.audio.specs.Call.{refused};
 ghost use Rattle.audio_call.specs.inner.Judged.{leftOf, answerBy, acceptedLeft, refusedLeft, settled};
 
@@ -58,14 +58,6 @@ fn answer_of(identity: Identity, judged: Judged) -> AudioAnswer
         codewords: judged.words as u64,
         used,
     }
-}
-
-// How many curve bytes an accepted packet has: channels times n/2.
-pub fn curve_bytes(channels: u32, blocksize: u32) -> usize
-    requires { ⌜ (channels ≤ 255) × (blocksize ≤ 8192) ⌝ }
-    ensures { λ r. ⌜ r ≡ channels * (blocksize / 2) ⌝ }
-{
-    wide_u32(channels) * wide_u32(blocksize / 2)
 }
 
 // A refusal.

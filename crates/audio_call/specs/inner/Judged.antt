@@ -15,11 +15,11 @@ use Rattle.audio.specs.declared.Head.{Head}
 use Rattle.audio.specs.declared.Tally.{Tally}
 use Rattle.audio.specs.declared.AudioAnswer.{AudioAnswer}
 use Rattle.audio.specs.declared.AudioLeft.{AudioLeft}
-use Rattle.audio.specs.Head.{window}
+use Rattle.audio.specs.Head.{headOf, window}
 use Rattle.audio.specs.Channels.{isUsed}
-use Rattle.audio.specs.Packet.{channelFloors}
+use Rattle.audio.specs.Packet.{channelFloors, bodyAt, headRun}
 use Rattle.audio.specs.Curves.{curvesOf}
-use Rattle.audio.specs.Call.{Accepted, refused, Left}
+use Rattle.audio.specs.Call.{Room, Accepted, judged, refused, Left}
 use Rattle.audio_call.specs.declared.judge.Judged.{Judged}
 
 -- a refusal as the program holds it
@@ -66,6 +66,18 @@ pub record JudgedIs (channels : ℕ) (c : Setup) (o : Outcome Accepted) (r : Jud
   pub words-long : length list′ ≡ length list
   pub curves : (x : Accepted) → o ≡ ok x → exit ≡ sets entry 0 (curvesBy channels c x)
   pub words : (x : Accepted) → o ≡ ok x → list′ ≡ sets list 0 (wordsBy x)
+
+-- both outputs as they are lent
+abbrev pub roomOf : List ℕ → List ℕ → Room
+roomOf curves words = record { curves = length curves; codewords = length words }
+
+-- what follows a head that was read up to bit k
+abbrev pub afterHead : Identity → Setup → Tally → List ℕ → Head → ℕ → Room → Outcome Accepted
+afterHead i c t s h k room = judged (i .channels) t room (bodyAt (i .channels) c s (headRun i c s .items) h k)
+
+-- a head that was read, with the position behind it
+abbrev pub HeadIs : Identity → Setup → List ℕ → Head → ℕ → Type 0
+HeadIs i c s h k = headOf (headRun i c s) ≡ ok (h, k)
 
 -- the places of an output from one on hold nothing
 pub record ZeroFrom (place : ℕ) (l : List ℕ) : Type 0 where

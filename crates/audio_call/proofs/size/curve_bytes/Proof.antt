@@ -1,8 +1,8 @@
--- `audio_call::settle::curve_bytes` meets its contract, by SettleLaws. Assumes nothing.
+-- `audio_call::size::curve_bytes` meets its contract, by SettleLaws. Assumes nothing.
 use Rattle.audio_call.proofs.SettleLaws.{bytes-fit, bytes-are}
 use borrow.Author.Needs.{needs}
-use Rattle.audio_call.proofs.settle.curve_bytes.Statement.{statement}
-use Rattle.audio_call.proofs.settle.curve_bytes.Tie as tie
+use Rattle.audio_call.proofs.size.curve_bytes.Statement.{statement}
+use Rattle.audio_call.proofs.size.curve_bytes.Tie as tie
 
 wide-u32-requires : tie.Need-wide-u32-requires
 wide-u32-requires c κs = search needs
