@@ -9,3 +9,4 @@ pub mod AcceptedLaws
 pub mod SettleLaws
 pub mod BodyReadLaws
 pub mod ReadyLaws
+pub mod JudgeBodyLaws
