@@ -10,3 +10,4 @@ pub mod SettleLaws
 pub mod BodyReadLaws
 pub mod ReadyLaws
 pub mod JudgeBodyLaws
+pub mod JudgeWholeLaws

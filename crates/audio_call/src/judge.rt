@@ -3,10 +3,13 @@ use super::body::read_body;
 use super::size::curve_bytes;
 use audio::Head;
 use audio::Tally;
+use audio_head::HeadRead;
 use audio_tally::Counted;
 use bits::Cursor;
+use bits::Refusal;
 use codeword_list::ListRead;
 use identification::Identity;
+use reading::buffers::get_u32;
 ghost use Prim.Native.Nat.{ℕ, _+_, _*_, _<_};
 ghost use mathlib.Core.Path.{_≡_};
 ghost use lib.ListN.{getD};
@@ -16,6 +19,7 @@ ghost use Rattle.setup.specs.Layout.{tables};
 ghost use Rattle.setup.specs.Handed.{handed};
 ghost use Rattle.setup.specs.inner.Decode.{decodeSetup};
 ghost use Rattle.audio.specs.Tally.{counted};
+ghost use Rattle.audio.specs.Call.{accepted};
 ghost use Rattle.audio_call.specs.inner.Ready.{Ready};
 ghost use Rattle.audio_call.specs.inner.Judged.{finishedBy, refusedBy, roomOf, afterHead, HeadIs, JudgedIs};
 
@@ -145,5 +149,63 @@ fn judge_body(
         ListRead::Whole(progress) => finish(tally, head, used, progress.count),
         ListRead::Cut(progress) => finish(tally, head, used, progress.count),
         ListRead::Full => refused(17),
+    }
+}
+
+fn number_of(refusal: Refusal) -> u32
+    ensures { λ r. ⌜ r ≡ refusal .number ⌝ }
+{
+    refusal.number as u32
+}
+
+// A whole packet, by an identity and tables that are ready: 18 for the tally, the head (1, 15, 16), then what follows it.
+pub fn judge(
+    tally: Tally,
+    identity: Identity,
+    counts: &[u32],
+    books: &[u32],
+    lengths: &[u8],
+    codewords: &[u32],
+    multiplicands: &[u16],
+    floors: &[u16],
+    residues: &[u32],
+    plans: &[u16],
+    mappings: &[u8],
+    modes: &[u8],
+    packet: &[u8],
+    curves: &mut [u8],
+    words: &mut [u32],
+) -> Judged
+    requires { ⌜ Ready identity (tables (now counts) (now books) (now lengths) (now codewords) (now multiplicands) (now floors) (now residues) (now plans) (now mappings) (now modes)) ⌝ }
+    ensures { λ r. ⌜ JudgedIs (identity .channels) (decodeSetup (handed counts books lengths codewords multiplicands floors residues plans mappings modes))
+        (accepted identity tally (roomOf (now (curves .entry)) (now (words .entry))) (now (packet .entry))
+        (decodeSetup (handed counts books lengths codewords multiplicands floors residues plans mappings modes)))
+        r (now (curves .entry)) (now (curves .exit)) (now (words .entry)) (now (words .exit)) ⌝ }
+{
+    if !audio_tally::is_sound(identity, tally) {
+        return refused(18);
+    }
+    let mode_count = get_u32(counts, 4);
+    match audio_head::read_head(packet, identity, mode_count, modes) {
+        HeadRead::Refused(refusal) => refused(number_of(refusal)),
+        HeadRead::Value(head, from) => judge_body(
+            tally,
+            identity,
+            head,
+            from,
+            counts,
+            books,
+            lengths,
+            codewords,
+            multiplicands,
+            floors,
+            residues,
+            plans,
+            mappings,
+            modes,
+            packet,
+            curves,
+            words,
+        ),
     }
 }
