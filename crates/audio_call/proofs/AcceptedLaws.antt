@@ -31,6 +31,7 @@ module _ (i : Identity) (c : Setup) (t : Tally) (s : List ℕ) (entry list : Lis
         curves-long = refl;
         words-long = refl;
         curves = λ x g. absurd (bad-ok (sym e ∙ g));
+        bytes = λ x g. absurd (bad-ok (sym e ∙ g));
         words = λ x g. absurd (bad-ok (sym e ∙ g));
       }
 

@@ -11,3 +11,4 @@ pub mod BodyReadLaws
 pub mod ReadyLaws
 pub mod JudgeBodyLaws
 pub mod JudgeWholeLaws
+pub mod CallLaws

@@ -1,5 +1,6 @@
 -- A packet behind its head, judged: 17 for the curves, the body, 17 for the codewords, the tally's step. Assumes nothing.
-use Prim.Native.Nat.{ℕ, zero, suc, _*_, _/_, _≤_, _<_}
+use Prim.Native.Nat.{ℕ, zero, suc, _+_, _*_, _/_, _≤_, _<_}
+use native.Mathlib.Nat.{zero-mul, suc-mul}
 use native.Mathlib.Omega.{arith}
 use borrow.Author.Tests.{leb-true, leb-false, lt-leb, le-leb}
 use mathlib.Core.Bool.{Bool, true, false, cond}
@@ -7,7 +8,7 @@ use mathlib.Core.List.{List, [], _∷_, _++_, map}
 use mathlib.Core.Option.{Option, none, some}
 use mathlib.Core.Path.{_≡_, refl, ap, sym, _∙_}
 use lib.Dec.{eqb, ltb, leb}
-use lib.ListN.{length, getD, length-map}
+use lib.ListN.{length, getD, length-map, length-append}
 use lib.Seq.{sets, length-sets}
 use Rattle.reading.specs.Least.{one}
 use Rattle.reading.specs.Outcome.{Refusal, refusal, Outcome, ok, bad, then, need}
@@ -35,9 +36,10 @@ use Rattle.audio.specs.Head.{flagRequests, modeRequests, headRequests, headOf}
 use Rattle.audio.specs.Channels.{floorNumber, floorsOf, isUsed}
 use Rattle.audio.specs.Packet.{Audio, mappingOf, byChannel, channelFloors, bodyRequests, bodyAt, headRun, audio}
 use Rattle.audio.specs.Tally.{tallySound, counted}
-use Rattle.audio.specs.Curves.{curvesOf}
+use Rattle.audio.specs.Curves.{curveOf, curvesOf}
 use Rattle.audio.specs.Call.{Room, Accepted, judged, accepted}
 use Rattle.audio_floors.proofs.Agreement.{flags-agree, whole-few}
+use Rattle.audio_floors.proofs.FloorsLaws.{curve-long}
 use Rattle.audio_call.specs.declared.body.BodyRead.{BodyRead}
 use Rattle.audio_call.specs.declared.judge.Judged.{Judged}
 use Rattle.audio_call.specs.inner.Body.{endingWords, BodyIs}
@@ -100,6 +102,25 @@ module _ (room : ℕ) (r : Run Unit) where
 pub bad-ok : {A : Type 0} {z : Refusal} {a : A} → bad z ≡ ok a → ⊥
 bad-ok e = let z : _≡_ {A = ℕ} 0 1 = cc in omega arith
 
+-- how many there are of each
+by-channel-long : (n : ℕ) (l : List FloorRead) → length (byChannel n l) ≡ n
+unfolding byChannel
+by-channel-long zero l = refl
+by-channel-long (suc n) [] = ap suc (by-channel-long n [])
+by-channel-long (suc n) (x ∷ l) = ap suc (by-channel-long n l)
+
+curves-bytes : (half : ℕ) (fs : List Floor) (vs : List FloorRead) → length vs ≡ length fs → length (curvesOf half fs vs) ≡ length fs * half
+unfolding curvesOf
+curves-bytes half [] [] e = sym (zero-mul half)
+curves-bytes half [] (v ∷ vs) e = absurd (omega arith)
+curves-bytes half (f ∷ fs) [] e = absurd (omega arith)
+curves-bytes half (f ∷ fs) (v ∷ vs) e =
+    let a = length-append (curveOf half f v) (curvesOf half fs vs) in
+    let b = curve-long half f v in
+    let d = curves-bytes half fs vs (omega arith) in
+    let m : suc (length fs) * half ≡ length fs * half + half = suc-mul (length fs) half in
+    omega arith
+
 module _ (i : Identity) (c : Setup) (t : Tally) (s : List ℕ) (h : Head) (k : ℕ) where
   abbrev whole : Audio
   whole = bodyAt (i .channels) c s (headRun i c s .items) h k
@@ -116,12 +137,22 @@ module _ (i : Identity) (c : Setup) (t : Tally) (s : List ℕ) (h : Head) (k : �
       words-append (headRun i c s .items) (body .items)
       ∙ ap (λ (l : List Item). l ++ residueWords (body .items)) (run-kept (read (lengthsOf c)) s false (headRequests i (c .modes)) 0 (head-asks i (c .modes)))
 
-  few-floors : length floors ≤ i .channels
+  all-floors : length (channelFloors (i .channels) c h) ≡ i .channels
   unfolding channelFloors floorsOf
+  all-floors =
+      length-map (tabulate (floorNumber (mappingOf c h)) (i .channels)) (λ (n : ℕ). getD (c .floors) n noFloor)
+      ∙ tabulate-length (floorNumber (mappingOf c h)) (i .channels)
+
+  -- channels times n/2 curve bytes
+  whole-bytes : length (curvesOf (h .blocksize / 2) (channelFloors (i .channels) c h) (byChannel (i .channels) floors)) ≡ i .channels * (h .blocksize / 2)
+  whole-bytes =
+      curves-bytes (h .blocksize / 2) (channelFloors (i .channels) c h) (byChannel (i .channels) floors) (by-channel-long (i .channels) floors ∙ sym all-floors)
+      ∙ ap (λ (n : ℕ). n * (h .blocksize / 2)) all-floors
+
+  few-floors : length floors ≤ i .channels
   few-floors =
       let few = whole-few (read (lengthsOf c)) s (channelFloors (i .channels) c h) k in
-      let maps = length-map (tabulate (floorNumber (mappingOf c h)) (i .channels)) (λ (n : ℕ). getD (c .floors) n noFloor) in
-      let all = tabulate-length (floorNumber (mappingOf c h)) (i .channels) in
+      let all = all-floors in
       omega arith
 
   module _ (entry list : List ℕ) where
@@ -161,6 +192,7 @@ module _ (i : Identity) (c : Setup) (t : Tally) (s : List ℕ) (h : Head) (k : �
           curves-long = l;
           words-long = m;
           curves = λ x g. absurd (bad-ok (sym e ∙ g));
+          bytes = λ x g. absurd (bad-ok (sym e ∙ g));
           words = λ x g. absurd (bad-ok (sym e ∙ g));
         }
 
@@ -200,6 +232,7 @@ module _ (i : Identity) (c : Setup) (t : Tally) (s : List ℕ) (h : Head) (k : �
                 curves-long = curves-long;
                 words-long = words-long;
                 curves = λ y g. absurd (bad-ok (sym e ∙ g));
+                bytes = λ y g. absurd (bad-ok (sym e ∙ g));
                 words = λ y g. absurd (bad-ok (sym e ∙ g));
               }
           go (ok y) e d =
@@ -209,6 +242,7 @@ module _ (i : Identity) (c : Setup) (t : Tally) (s : List ℕ) (h : Head) (k : �
                 curves-long = curves-long;
                 words-long = words-long;
                 curves = λ v g. b .curves ∙ ap (sets entry 0) (same v (ap (λ (q : Accepted). q .packet) (ok-is (sym e ∙ g))));
+                bytes = λ v g. ap (λ (q : Audio). length (curvesOf (q .head .blocksize / 2) (channelFloors (i .channels) c (q .head)) (q .floors))) (sym (ap (λ (q : Accepted). q .packet) (ok-is (sym e ∙ g)))) ∙ whole-bytes ∙ ap (λ (q : Accepted). i .channels * (q .packet .head .blocksize / 2)) (ok-is (sym e ∙ g));
                 words = λ v g. b .words ∙ ap (λ (l : List Item). sets list 0 (map listed l)) (sym packet-words ∙ ap (λ (q : Accepted). residueWords (q .packet .items)) (ok-is (sym e ∙ g)));
               }
 

@@ -6,7 +6,7 @@ use borrow.Author.Needs.{needs}
 use mathlib.Core.Bool.{Bool, true, false, cond}
 use mathlib.Core.List.{List, [], _∷_, _++_, map}
 use mathlib.Core.Path.{_≡_, refl, ap, sym, _∙_}
-use lib.ListN.{length, getD, replicate, length-map, length-append, length-replicate}
+use lib.ListN.{length, getD, replicate, length-map, List·getD-eq-default}
 use lib.Seq.{sets}
 use Rattle.reading.specs.Least.{one}
 use Rattle.reading.specs.Outcome.{Refusal, Outcome, ok, bad}
@@ -21,9 +21,9 @@ use Rattle.audio.specs.declared.AudioAnswer.{AudioAnswer}
 use Rattle.audio.specs.declared.AudioLeft.{AudioLeft}
 use Rattle.audio.specs.declared.Window.{Window}
 use Rattle.audio.specs.Head.{window}
-use Rattle.audio.specs.Call.{Room, Accepted, refused, Left, answered}
+use Rattle.audio.specs.Call.{Room, Accepted, refused, Left, answerOf, answered}
 use Rattle.audio_call.specs.declared.judge.Judged.{Judged}
-use Rattle.audio_call.specs.inner.Judged.{refusedBy, acceptedBy, judgement, curvesBy, wordsBy, JudgedIs, ZeroFrom, leftOf, answerBy, acceptedLeft, refusedLeft, settled}
+use Rattle.audio_call.specs.inner.Judged.{refusedBy, acceptedBy, judgement, curvesBy, wordsBy, JudgedIs, roomOf, ZeroFrom, leftOf, answerBy, acceptedLeft, refusedLeft, settled}
 use Rattle.audio_call.proofs.ClearLaws.{front-padded}
 
 -- channels times half a block are few
@@ -66,3 +66,31 @@ module _ (i : Identity) (t : Tally) (r : Judged) (curves words : List ℕ) (curv
   pub settle-refused : r .accepted ≡ false → l ≡ refusedLeft (r .refusal) t curves words → l ≡ settled i t r curves words curvesEnd wordsEnd
   unfolding settled
   settle-refused e a = rw e a
+
+-- WHAT IS LEFT IS WHAT THE CALL'S DEFINITION SAYS, where both outputs held nothing from a place on
+module _ (i : Identity) (c : Setup) (t : Tally) (entry list : List ℕ) (curvesEnd wordsEnd : ℕ) (zc : ZeroFrom curvesEnd entry) (zw : ZeroFrom wordsEnd list) where
+  pub settled-is : (o : Outcome Accepted) {r : Judged} {exit list′ : List ℕ} → JudgedIs (i .channels) c o r entry exit list list′
+      → settled i t r exit list′ curvesEnd wordsEnd ≡ answered i t (roomOf entry list) c o
+  unfolding settled answered
+  settled-is (ok x) {r} {exit} {list′} j =
+      let bytes = j .bytes x refl in
+      let cs = curvesBy (i .channels) c x in
+      let ws = wordsBy x in
+      let long : length ws ≡ length (residueWords (x .packet .items)) = length-map (residueWords (x .packet .items)) listed in
+      let curves : sets exit (i .channels * (x .packet .head .blocksize / 2)) (replicate (curvesEnd - i .channels * (x .packet .head .blocksize / 2)) 0) ≡ pad (length entry) cs =
+          ap (λ (l : List ℕ). sets l (i .channels * (x .packet .head .blocksize / 2)) (replicate (curvesEnd - i .channels * (x .packet .head .blocksize / 2)) 0)) (j .curves x refl)
+          ∙ ap (λ (n : ℕ). sets (sets entry 0 cs) n (replicate (curvesEnd - n) 0)) (sym bytes)
+          ∙ front-padded entry cs curvesEnd (zc .zero) in
+      let words : sets list′ (length (residueWords (x .packet .items))) (replicate (wordsEnd - length (residueWords (x .packet .items))) 0) ≡ pad (length list) ws =
+          ap (λ (l : List ℕ). sets l (length (residueWords (x .packet .items))) (replicate (wordsEnd - length (residueWords (x .packet .items))) 0)) (j .words x refl)
+          ∙ ap (λ (n : ℕ). sets (sets list 0 ws) n (replicate (wordsEnd - n) 0)) (sym long)
+          ∙ front-padded list ws wordsEnd (zw .zero) in
+      rw (j .answer) (λ k. record { answer = answerOf i x; curves = curves k; codewords = words k; tally = x .tally })
+  settled-is (bad z) {r} {exit} {list′} j =
+      let curves = j .curves-long in
+      let words = j .words-long in
+      rw (j .answer) (λ k. record { answer = refused (z .number); curves = replicate (curves k) 0; codewords = replicate (words k) 0; tally = t })
+
+-- nothing lies past an output's end
+pub zero-past : (l : List ℕ) → ZeroFrom (length l) l
+zero-past l = record { zero = λ j h. List·getD-eq-default l 0 h }

@@ -65,6 +65,7 @@ pub record JudgedIs (channels : ℕ) (c : Setup) (o : Outcome Accepted) (r : Jud
   pub curves-long : length exit ≡ length entry
   pub words-long : length list′ ≡ length list
   pub curves : (x : Accepted) → o ≡ ok x → exit ≡ sets entry 0 (curvesBy channels c x)
+  pub bytes : (x : Accepted) → o ≡ ok x → length (curvesBy channels c x) ≡ channels * (x .packet .head .blocksize / 2)
   pub words : (x : Accepted) → o ≡ ok x → list′ ≡ sets list 0 (wordsBy x)
 
 -- both outputs as they are lent
