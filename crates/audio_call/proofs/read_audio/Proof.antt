@@ -17,7 +17,7 @@ same-length-2 : tie.Need-same-length-2
 same-length-2 c = search needs
 
 returns : tie.Need-returns
-returns c = call-unsound _ _ _ (c .before .before .before .before .before .before .before .before .are-sound .ensures .0) _ _ _ _ (c .before .before .before .before .before .before .before .if1 .taken) (c .before .before .before .before .refuse .ensures)
+returns c = call-unsound _ _ _ (c .before .before .before .before .before .before .before .before .are-sound .ensures .0) (c .before .before .before .before .before .before .before .before .before .before .before .before .before .before .before .before .before .before .before .before .before .before .args .tally) (c .before .before .before .before .before .before .before .before .before .before .before .before .before .before .before .before .before .before .before .before .before .before .args .packet .now) (c .before .before .before .before .before .before .before .before .before .before .before .before .before .before .before .before .before .before .before .before .before .before .args .curves .now) (c .before .before .before .before .before .before .before .before .before .before .before .before .before .before .before .before .before .before .before .before .before .before .args .words .now) (c .before .before .before .before .before .before .before .if1 .taken) (c .before .before .before .before .refuse .ensures)
 
 read-packet-requires : tie.Need-read-packet-requires
 read-packet-requires c κs = packet-asked _ _ _ (c .before .before .before .are-sound .ensures .0) (c .before .before .if1 .left) (c .before .before .before .before .before .before .before .before .before .before .before .before .before .before .before .before .before .pre .0) (c .before .before .before .before .before .before .before .before .before .before .before .before .before .before .before .before .before .pre .1)
@@ -29,7 +29,7 @@ same-length-4 : tie.Need-same-length-4
 same-length-4 c = search needs
 
 returns-2 : tie.Need-returns-2
-returns-2 c = call-sound _ _ _ (c .before .before .before .before .before .before .before .before .are-sound .ensures .0) (c .before .before .before .before .before .before .before .if1 .left) _ _ _ _ (c .before .before .before .before .read-packet .ensures)
+returns-2 c = call-sound _ _ _ (c .before .before .before .before .before .before .before .before .are-sound .ensures .0) (c .before .before .before .before .before .before .before .if1 .left) (c .before .before .before .before .before .before .before .before .before .before .before .before .before .before .before .before .before .before .before .before .before .before .args .tally) (c .before .before .before .before .before .before .before .before .before .before .before .before .before .before .before .before .before .before .before .before .before .before .args .packet .now) (c .before .before .before .before .before .before .before .before .before .before .before .before .before .before .before .before .before .before .before .before .before .before .args .curves .now) (c .before .before .before .before .before .before .before .before .before .before .before .before .before .before .before .before .before .before .before .before .before .before .args .words .now) (c .before .before .before .before .read-packet .ensures)
 
 pub read-audio-spec : {M : Type 1} → statement M
 read-audio-spec =
