@@ -12,7 +12,7 @@ begin-flags-requires : tie.Need-begin-flags-requires
 begin-flags-requires c κs = search needs
 
 steps-requires : tie.Need-steps-requires
-steps-requires c κs = (ready-kept (c .before .before .before .before .before .before .before .before .before .before .before .before .before .before .before .pre .0) (omega arith) (omega arith), c .before .before .before .before .before .before .before .before .begin-heights .ensures .1)
+steps-requires c κs = (ready-kept (c .before .before .before .before .before .before .before .before .before .before .before .before .before .before .before .pre .0) (omega arith) (omega arith), c .before .before .before .before .before .before .before .before .begin-heights .ensures .1, omega arith)
 
 clamp-all-requires : tie.Need-clamp-all-requires
 clamp-all-requires c κs = search needs

@@ -1,54 +1,41 @@
--- `floor_points::heights::steps` meets its contract. The loop keeps what the steps that are left give (`Progress`). Assumes nothing.
-use Prim.Native.Nat.{ℕ, _+_, _≤_, _<_, _-_}
+-- `floor_points::heights::steps` meets its contract. What is left after the linked steps is done by the steps with a search. Assumes nothing.
 use native.Mathlib.Omega.{arith}
-use mathlib.Core.Path.{_≡_, _∙_}
-use lib.ListN.{length}
-use Rattle.floor_points.proofs.Stepping.{Progress, progress-begin, progress-turn, progress-end}
+use mathlib.Core.Path.{_≡_, sym, _∙_}
+use Rattle.floor_points.proofs.FitLaws.{prefix-length}
 use borrow.Author.Needs.{needs}
 use Rattle.floor_points.proofs.heights.steps.Statement.{statement}
 use Rattle.floor_points.proofs.heights.steps.Tie as tie
 
-abbrev Inv-loop : tie.InvT-loop
-Inv-loop x values range heights₀ flags₀ i₀ heights flags i = Progress x values range heights₀ flags₀ heights flags i
+array-borrow-prefix-after : tie.Need-array-borrow-prefix-after
+array-borrow-prefix-after c = search needs
 
-abbrev μ-loop : tie.MeasureT-loop
-μ-loop x values range heights₀ flags₀ i₀ heights flags i = length x - i
+slice-aggregate-linked-steps : tie.Need-slice-aggregate-linked-steps
+slice-aggregate-linked-steps c = prefix-length _ (omega arith)
 
-loop-holds : tie.Need-loop-holds Inv-loop μ-loop
-loop-holds c = progress-begin _ _ _ _ _ (c .before .before .before .before .pre .0) (c .before .before .before .before .pre .1)
+linked-steps-requires : tie.Need-linked-steps-requires
+linked-steps-requires c κs =
+    let at-args = c .before .before .before .before .before .before .before in (at-args .pre .0, at-args .pre .1, sym (prefix-length _ (omega arith)))
 
-step-requires : tie.Need-step-requires Inv-loop μ-loop
-step-requires c κs = (c .before .before .before .loop .inv .ready, c .before .before .before .loop .inv .bounded, omega (arith, c .before .before .before .loop .inv .from), omega arith)
+searched-steps-requires : tie.Need-searched-steps-requires
+searched-steps-requires c κs = search needs
 
-add-i : tie.Need-add-i Inv-loop μ-loop
-add-i c = search needs
+same-length : tie.Need-same-length
+same-length c = search needs
 
-loop-less : tie.Need-loop-less Inv-loop μ-loop
-loop-less c = search needs
+same-length-2 : tie.Need-same-length-2
+same-length-2 c = search needs
 
-loop-again : tie.Need-loop-again Inv-loop μ-loop
-loop-again c = progress-turn _ _ _ _ _ _ _ _ _ _ (c .before .before .before .before .before .before .before .before .loop .inv) (omega arith) (c .before .before .before .before .step .ensures .0) (c .before .before .before .before .step .ensures .1) (omega arith) (omega arith)
-
-same-length : tie.Need-same-length Inv-loop μ-loop
-same-length c = omega arith
-
-same-length-2 : tie.Need-same-length-2 Inv-loop μ-loop
-same-length-2 c = omega arith
-
-returns : tie.Need-returns Inv-loop μ-loop
-returns c = progress-end _ _ _ _ _ _ _ _ (c .before .loop .inv) (omega arith)
+returns : tie.Need-returns
+returns c = c .before .before .before .before .searched-steps .ensures ∙ c .before .before .before .before .before .before .before .before .before .before .before .before .linked-steps .ensures .rest
 
 pub steps-spec : {M : Type 1} → statement M
 steps-spec =
     tie.close
     (tie.spec
-    Inv-loop
-    μ-loop
-    loop-holds
-    step-requires
-    add-i
-    loop-less
-    loop-again
+    array-borrow-prefix-after
+    slice-aggregate-linked-steps
+    linked-steps-requires
+    searched-steps-requires
     same-length
     same-length-2
     returns)
