@@ -146,7 +146,7 @@ fn linked_steps(
     heights: &mut [u32],
     flags: &mut [u8],
 ) -> usize
-    requires { ⌜ Ready (now x) (now values) range (now heights) (now flags) × Bounded (now heights) × (length (now after) ≡ length (now x)) ⌝ }
+    requires { ⌜ Ready (now x) (now values) range (now heights) (now flags) × Bounded (now heights) × (length (now x) ≤ length (now after)) ⌝ }
     ensures { λ r. ⌜ Progress (now (x .entry)) (now (values .entry)) range 2 (now (heights .entry)) (now (flags .entry))
         (now (heights .exit)) (now (flags .exit)) r ⌝ }
 {
@@ -203,9 +203,8 @@ fn steps(x: &[u16], values: &[u16], range: u32, heights: &mut [u32], flags: &mut
         ≡ final.steps range (now (x .entry)) (now (values .entry)) 2 (length (now (x .entry)) - 2)
         (pointsOf (now (heights .entry)) (now (flags .entry))) ⌝ }
 {
-    let n = x.len();
     let mut after = [0usize; 65];
-    let from = linked_steps(x, values, range, &mut after[..n], heights, flags);
+    let from = linked_steps(x, values, range, &mut after, heights, flags);
     searched_steps(x, values, range, from, heights, flags);
 }
 

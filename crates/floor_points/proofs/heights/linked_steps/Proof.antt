@@ -13,7 +13,7 @@ use Rattle.floor_points.proofs.heights.linked_steps.Tie as tie
 
 abbrev Inv-loop : tie.InvT-loop
 Inv-loop x values range after₀ heights₀ flags₀ i₀ after heights flags i =
-    Progress x values range 2 heights₀ flags₀ heights flags i × Linked x after i × (length after ≡ length x)
+    Progress x values range 2 heights₀ flags₀ heights flags i × Linked x after i × (length after ≡ length after₀)
 
 abbrev μ-loop : tie.MeasureT-loop
 μ-loop x values range after₀ heights₀ flags₀ i₀ after heights flags i = length x - i

@@ -1,20 +1,16 @@
 -- `floor_points::heights::steps` meets its contract. What is left after the linked steps is done by the steps with a search. Assumes nothing.
 use native.Mathlib.Omega.{arith}
 use mathlib.Core.Path.{_≡_, sym, _∙_}
-use Rattle.floor_points.proofs.FitLaws.{prefix-length}
 use borrow.Author.Needs.{needs}
 use Rattle.floor_points.proofs.heights.steps.Statement.{statement}
 use Rattle.floor_points.proofs.heights.steps.Tie as tie
 
-array-borrow-prefix-after : tie.Need-array-borrow-prefix-after
-array-borrow-prefix-after c = search needs
-
 slice-aggregate-linked-steps : tie.Need-slice-aggregate-linked-steps
-slice-aggregate-linked-steps c = prefix-length _ (omega arith)
+slice-aggregate-linked-steps c = search needs
 
 linked-steps-requires : tie.Need-linked-steps-requires
 linked-steps-requires c κs =
-    let at-args = c .before .before .before .before .before .before .before in (at-args .pre .0, at-args .pre .1, sym (prefix-length _ (omega arith)))
+    let at-args = c .before .before .before .before .before .before .before in (at-args .pre .0, at-args .pre .1, omega arith)
 
 searched-steps-requires : tie.Need-searched-steps-requires
 searched-steps-requires c κs = search needs
@@ -32,7 +28,6 @@ pub steps-spec : {M : Type 1} → statement M
 steps-spec =
     tie.close
     (tie.spec
-    array-borrow-prefix-after
     slice-aggregate-linked-steps
     linked-steps-requires
     searched-steps-requires
