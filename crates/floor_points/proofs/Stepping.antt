@@ -10,7 +10,7 @@ use Rattle.floor_line.specs.Line.{line}
 use Rattle.floor_points.specs.FinalY.{Points, predicted, unwrapped, flagged, step, steps, begun, points, clamped}
 use Rattle.floor_line.specs.inner.LineHeight.{lineHeight}
 use Rattle.floor_line.specs.Neighbours.{lowNeighbour, highNeighbour}
-use Rattle.floor_points.specs.inner.Heights.{yOf, heightOf, clampedHeight, pointsOf, Bounded, Ready, Progress}
+use Rattle.floor_points.specs.inner.Heights.{yOf, heightOf, clampedHeight, pointsOf, Bounded, Ready}
 use Rattle.floor_line.proofs.Integers.{same-difference, pos-difference}
 use Rattle.floor_line.proofs.LineLaws.{line-height, height-le}
 use Rattle.floor_points.proofs.Filling.{Filling, fill-end, getD-map, map-set}
@@ -75,13 +75,21 @@ module _ (range : ℕ) (xs vals : List ℕ) where
   unfolding steps
   steps-turn i n s h = let e : n - i ≡ suc (n - (i + 1)) = omega arith in rw (e, add-one i)
 
-module _ (xs vals : List ℕ) (range first : ℕ) (hs₀ fs₀ : List ℕ) where
-  pub progress-begin : Ready xs vals range hs₀ fs₀ → Bounded hs₀ → 1 < first → first ≤ length xs → Progress xs vals range first hs₀ fs₀ hs₀ fs₀ first
-  progress-begin r b f l = record { ready = r; bounded = b; from = omega arith; within = l; rest = refl }
+-- where a turn begins: the places before i are done, and what is left is the whole
+pub record Progress (xs vals : List ℕ) (range : ℕ) (hs₀ fs₀ hs fs : List ℕ) (i : ℕ) : Type 0 where
+  pub ready : Ready xs vals range hs fs
+  pub bounded : Bounded hs
+  pub from : 2 ≤ i
+  pub within : i ≤ length xs
+  pub rest : steps range xs vals i (length xs - i) (pointsOf hs fs) ≡ steps range xs vals 2 (length xs - 2) (pointsOf hs₀ fs₀)
+
+module _ (xs vals : List ℕ) (range : ℕ) (hs₀ fs₀ : List ℕ) where
+  pub progress-begin : Ready xs vals range hs₀ fs₀ → Bounded hs₀ → Progress xs vals range hs₀ fs₀ hs₀ fs₀ 2
+  progress-begin r b = record { ready = r; bounded = b; from = omega arith; within = omega (arith, r .places); rest = refl }
 
   module _ (hs fs : List ℕ) where
-    pub progress-turn : (hs′ fs′ : List ℕ) (i : ℕ) → Progress xs vals range first hs₀ fs₀ hs fs i → i < length xs → pointsOf hs′ fs′ ≡ step range xs vals i (pointsOf hs fs)
-        → Bounded hs′ → length hs′ ≡ length hs → length fs′ ≡ length fs → Progress xs vals range first hs₀ fs₀ hs′ fs′ (i + 1)
+    pub progress-turn : (hs′ fs′ : List ℕ) (i : ℕ) → Progress xs vals range hs₀ fs₀ hs fs i → i < length xs → pointsOf hs′ fs′ ≡ step range xs vals i (pointsOf hs fs)
+        → Bounded hs′ → length hs′ ≡ length hs → length fs′ ≡ length fs → Progress xs vals range hs₀ fs₀ hs′ fs′ (i + 1)
     progress-turn hs′ fs′ i g h e b lh lf =
         record {
           ready = ready-kept (g .ready) lh lf;
@@ -91,7 +99,7 @@ module _ (xs vals : List ℕ) (range first : ℕ) (hs₀ fs₀ : List ℕ) where
           rest = rw e (steps-turn range xs vals i (length xs) (pointsOf hs fs) h ∙ g .rest);
         }
 
-    pub progress-end : (i : ℕ) → Progress xs vals range first hs₀ fs₀ hs fs i → length xs ≤ i → pointsOf hs fs ≡ steps range xs vals first (length xs - first) (pointsOf hs₀ fs₀)
+    pub progress-end : (i : ℕ) → Progress xs vals range hs₀ fs₀ hs fs i → length xs ≤ i → pointsOf hs fs ≡ steps range xs vals 2 (length xs - 2) (pointsOf hs₀ fs₀)
     progress-end i g h = sym (steps-end range xs vals i (length xs) (pointsOf hs fs) h) ∙ g .rest
 
 -- ---- all of it

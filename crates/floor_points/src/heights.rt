@@ -7,12 +7,10 @@ ghost use Rattle.floor_line.specs.inner.LineHeight.{lineHeight};
 ghost use Rattle.floor_line.specs.Neighbours.{xAt, lowNeighbour, highNeighbour};
 ghost use Rattle.floor_points.specs.FinalY.{unwrapped, clamped, points, flagged};
 ghost use Rattle.floor_points.specs.FinalY as final;
-ghost use Rattle.floor_points.specs.inner.Heights.{yOf, movedHeight, heightOf, clampedHeight, pointsOf, Bounded, Ready, Progress};
+ghost use Rattle.floor_points.specs.inner.Heights.{yOf, movedHeight, heightOf, clampedHeight, pointsOf, Bounded, Ready};
 use floor_line::lines::line_height;
-use floor_line::neighbours::high_neighbour;
-use floor_line::neighbours::low_neighbour;
 use floor_line::order::link_first_two;
-use floor_line::order::link_place;
+use floor_line::order::neighbours_of;
 use reading::buffers::clear_u8;
 use reading::widths::u32_from_u16;
 
@@ -137,75 +135,27 @@ fn place(
     flag(value, low, high, i, flags);
 }
 
-// The places after the first two (004, step 6), as far as they can be linked in order of X: all of a floor's. It gives the first place that is left.
-fn linked_steps(
+// Every place after the first two (004, step 6). `after` links them in order of X, in which neighbours are found (004, steps 7 and 8).
+fn steps(
     x: &[u16],
     values: &[u16],
     range: u32,
     after: &mut [usize],
     heights: &mut [u32],
     flags: &mut [u8],
-) -> usize
-    requires { ⌜ Ready (now x) (now values) range (now heights) (now flags) × Bounded (now heights) × (length (now x) ≤ length (now after)) ⌝ }
-    ensures { λ r. ⌜ Progress (now (x .entry)) (now (values .entry)) range 2 (now (heights .entry)) (now (flags .entry))
-        (now (heights .exit)) (now (flags .exit)) r ⌝ }
-{
-    link_first_two(x, after);
-    let mut i: usize = 2;
-    while i < x.len() {
-        let low = link_place(x, i, after);
-        if low == i {
-            return i;
-        }
-        place(x, values, range, low, after[i], i, heights, flags);
-        i = i + 1;
-    }
-    i
-}
-
-// Place i, its neighbours found by a search (004, steps 7 to 28).
-fn step(x: &[u16], values: &[u16], range: u32, i: usize, heights: &mut [u32], flags: &mut [u8])
-    requires { ⌜ Ready (now x) (now values) range (now heights) (now flags) × Bounded (now heights) × (1 < i) × (i < length (now x)) ⌝ }
-    ensures { λ _. ⌜ (pointsOf (now (heights .exit)) (now (flags .exit))
-        ≡ final.step range (now (x .entry)) (now (values .entry)) i (pointsOf (now (heights .entry)) (now (flags .entry))))
-        × Bounded (now (heights .exit)) ⌝ }
-{
-    let low = low_neighbour(x, i);
-    let high = high_neighbour(x, i);
-    place(x, values, range, low, high, i, heights, flags);
-}
-
-// Every place from `from` on. Of a floor none is left; here X may be in any order, and the same X twice.
-fn searched_steps(
-    x: &[u16],
-    values: &[u16],
-    range: u32,
-    from: usize,
-    heights: &mut [u32],
-    flags: &mut [u8],
 )
-    requires { ⌜ Ready (now x) (now values) range (now heights) (now flags) × Bounded (now heights) × (1 < from) × (from ≤ length (now x)) ⌝ }
-    ensures { λ _. ⌜ pointsOf (now (heights .exit)) (now (flags .exit))
-        ≡ final.steps range (now (x .entry)) (now (values .entry)) from (length (now (x .entry)) - from)
-        (pointsOf (now (heights .entry)) (now (flags .entry))) ⌝ }
-{
-    let mut i = from;
-    while i < x.len() {
-        step(x, values, range, i, heights, flags);
-        i = i + 1;
-    }
-}
-
-// Every place after the first two (004, step 6).
-fn steps(x: &[u16], values: &[u16], range: u32, heights: &mut [u32], flags: &mut [u8])
-    requires { ⌜ Ready (now x) (now values) range (now heights) (now flags) × Bounded (now heights) × (length (now x) ≤ 65) ⌝ }
+    requires { ⌜ Ready (now x) (now values) range (now heights) (now flags) × Bounded (now heights) × (length (now x) ≤ length (now after)) ⌝ }
     ensures { λ _. ⌜ pointsOf (now (heights .exit)) (now (flags .exit))
         ≡ final.steps range (now (x .entry)) (now (values .entry)) 2 (length (now (x .entry)) - 2)
         (pointsOf (now (heights .entry)) (now (flags .entry))) ⌝ }
 {
-    let mut after = [0usize; 65];
-    let from = linked_steps(x, values, range, &mut after, heights, flags);
-    searched_steps(x, values, range, from, heights, flags);
+    link_first_two(x, after);
+    let mut i: usize = 2;
+    while i < x.len() {
+        let low = neighbours_of(x, i, after);
+        place(x, values, range, low, after[i], i, heights, flags);
+        i = i + 1;
+    }
 }
 
 // After the last one each is clamped (01, "Audio order" 3).
@@ -235,6 +185,7 @@ pub fn final_points(
 {
     begin_heights(values, heights);
     begin_flags(flags);
-    steps(x, values, range, heights, flags);
+    let mut after = [0usize; 65];
+    steps(x, values, range, &mut after, heights, flags);
     clamp_all(range, heights, y);
 }

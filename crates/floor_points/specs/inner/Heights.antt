@@ -7,7 +7,7 @@ use lib.Dec.{eqb}
 use lib.IntN.{ℤ}
 use lib.ListN.{length, getD}
 use Rattle.floor_line.specs.inner.LineHeight.{difference}
-use Rattle.floor_points.specs.FinalY.{Points, clamped, steps}
+use Rattle.floor_points.specs.FinalY.{Points, clamped}
 
 -- the Y value of a height counted from -65,536. Every Y value on the way is greater, since a value read is below 65,536
 abbrev pub yOf : ℕ → ℤ
@@ -33,14 +33,6 @@ pub record Ready (xs vals : List ℕ) (range : ℕ) (heights flags : List ℕ) :
   pub flagged : length flags ≡ length xs
   pub some : 0 < range
   pub small : range ≤ 256
-
--- the places from `first` up to i are done: what is left, from here, gives what all gives from the beginning
-pub record Progress (xs vals : List ℕ) (range first : ℕ) (hs₀ fs₀ hs fs : List ℕ) (i : ℕ) : Type 0 where
-  pub ready : Ready xs vals range hs fs
-  pub bounded : Bounded hs
-  pub from : 2 ≤ i
-  pub within : i ≤ length xs
-  pub rest : steps range xs vals i (length xs - i) (pointsOf hs fs) ≡ steps range xs vals first (length xs - first) (pointsOf hs₀ fs₀)
 
 -- the height of a value as it was read
 abbrev pub heightOf : ℕ → ℕ
