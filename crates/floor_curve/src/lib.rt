@@ -23,22 +23,22 @@ fn draw_linked(x: &[u16], y: &[u8], flags: &[u8], multiplier: u8, after: &[usize
     ensures { λ _. ⌜ now (out .exit) ≡ places (curveAt (now (x .entry)) (now (y .entry)) (now (flags .entry)) multiplier) 0 (length (now (out .entry))) ⌝ }
 {
     let mut at: usize = 0;
-    let mut l: usize = 0;
+    let mut left: usize = 0;
     while at < out.len() {
-        let r = next_linked(x, flags, after, l);
-        if r == x.len() {
-            draw_flat(out, at, height_at(y, multiplier, l));
+        let right = next_linked(x, flags, after, left);
+        if right == x.len() {
+            draw_flat(out, at, height_at(y, multiplier, left));
             return;
         }
         draw_line(
             out,
-            x[l],
-            height_at(y, multiplier, l),
-            x[r],
-            height_at(y, multiplier, r),
+            x[left],
+            height_at(y, multiplier, left),
+            x[right],
+            height_at(y, multiplier, right),
         );
-        at = wide_u16(x[r]);
-        l = r;
+        at = wide_u16(x[right]);
+        left = right;
     }
 }
 

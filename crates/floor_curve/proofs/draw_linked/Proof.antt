@@ -1,4 +1,4 @@
--- `floor_curve::draw_linked` meets its contract. The loop keeps what is drawn: the curve up to the place at which point l lies (`DrawnUpToPoint`). Each turn moves
+-- `floor_curve::draw_linked` meets its contract. The loop keeps what is drawn: the curve up to the place at which the left point lies (`DrawnUpToPoint`). Each turn moves
 -- right, since the next point lies right of that place. Assumes nothing.
 use Prim.Native.Nat.{_-_}
 use native.Mathlib.Omega.{arith}
@@ -11,10 +11,10 @@ use Rattle.floor_curve.proofs.draw_linked.Statement.{statement}
 use Rattle.floor_curve.proofs.draw_linked.Tie as tie
 
 abbrev Inv-loop : tie.InvT-loop
-Inv-loop x y flags multiplier after out₀ at₀ l₀ out at l = DrawnUpToPoint x y flags multiplier out₀ out at l
+Inv-loop x y flags multiplier after out₀ at₀ left₀ out at left = DrawnUpToPoint x y flags multiplier out₀ out at left
 
 abbrev μ-loop : tie.MeasureT-loop
-μ-loop x y flags multiplier after out₀ at₀ l₀ out at l = length out₀ - at
+μ-loop x y flags multiplier after out₀ at₀ left₀ out at left = length out₀ - at
 
 loop-holds : tie.Need-loop-holds Inv-loop μ-loop
 loop-holds c =
