@@ -1,3 +1,4 @@
 pub mod PointLaws
 pub mod DrawLaws
 pub mod CurveLaws
+pub mod LinkedLaws

@@ -4,6 +4,7 @@ ghost use mathlib.Core.Path.{_≡_};
 ghost use mathlib.Core.Bool.{cond};
 ghost use Prim.Native.Nat.{_*_, _≤_, _<_, min};
 ghost use lib.ListN.{length, getD};
+ghost use Rattle.floor_line.specs.inner.Order.{Ordered};
 ghost use Rattle.floor_curve.specs.Curve.{xOr, takesLeft, takesRight, lastAt, nextAfter, IsLast, IsNext, heightAt};
 
 // The X of a place; 65,536 past the list.
@@ -76,6 +77,21 @@ pub fn next_after(x: &[u16], flags: &[u8], at: usize) -> usize
         j = j + 1;
     }
     best
+}
+
+// The next flagged point after place l, in a list linked in order of X; the list's length where there is none.
+pub fn next_linked(x: &[u16], flags: &[u8], after: &[usize], l: usize) -> usize
+    requires { ⌜ Ordered (now x) (now after) × (length (now flags) ≡ length (now x)) × (l < length (now x)) ⌝ }
+    ensures { λ r. ⌜ (r ≡ nextAfter (now (x .entry)) (now (flags .entry)) (getD (now (x .entry)) l 0)) × (r ≤ length (now (x .entry))) ⌝ }
+{
+    let mut p = l;
+    while p != 1 {
+        p = after[p];
+        if flags[p] != 0 {
+            return p;
+        }
+    }
+    x.len()
 }
 
 // Y times the multiplier, at most 255.

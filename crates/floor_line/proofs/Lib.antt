@@ -3,3 +3,4 @@ pub mod LineLaws
 pub mod RenderLaws
 pub mod Searching
 pub mod Choosing
+pub mod OrderLaws

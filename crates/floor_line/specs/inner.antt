@@ -1,3 +1,4 @@
 -- Statements that functions of this crate and their proofs share. No public contract rests on how they are worded.
 pub mod LineHeight
 pub mod RenderLine
+pub mod Order

@@ -4,13 +4,13 @@ ghost use mathlib.Core.List.{map};
 ghost use Prim.Native.Nat.{_+_, _-_, _/_, _≤_, _<_};
 ghost use lib.ListN.{length, replicate, set, getD};
 ghost use Rattle.floor_line.specs.inner.LineHeight.{lineHeight};
-ghost use Rattle.floor_line.specs.Neighbours.{xAt};
+ghost use Rattle.floor_line.specs.Neighbours.{xAt, lowNeighbour, highNeighbour};
 ghost use Rattle.floor_points.specs.FinalY.{unwrapped, clamped, points, flagged};
 ghost use Rattle.floor_points.specs.FinalY as final;
 ghost use Rattle.floor_points.specs.inner.Heights.{yOf, movedHeight, heightOf, clampedHeight, pointsOf, Bounded, Ready};
 use floor_line::lines::line_height;
-use floor_line::neighbours::high_neighbour;
-use floor_line::neighbours::low_neighbour;
+use floor_line::order::link_first_two;
+use floor_line::order::neighbours_of;
 use reading::buffers::clear_u8;
 use reading::widths::u32_from_u16;
 
@@ -112,31 +112,48 @@ fn predict(x: &[u16], heights: &[u32], low: usize, high: usize, i: usize) -> u32
     )
 }
 
-// Place i (004, steps 7 to 28).
-fn step(x: &[u16], values: &[u16], range: u32, i: usize, heights: &mut [u32], flags: &mut [u8])
-    requires { ⌜ Ready (now x) (now values) range (now heights) (now flags) × Bounded (now heights) × (1 < i) × (i < length (now x)) ⌝ }
+// Place i, between its neighbours (004, steps 9 to 28).
+fn place(
+    x: &[u16],
+    values: &[u16],
+    range: u32,
+    low: usize,
+    high: usize,
+    i: usize,
+    heights: &mut [u32],
+    flags: &mut [u8],
+)
+    requires { ⌜ Ready (now x) (now values) range (now heights) (now flags) × Bounded (now heights) × (i < length (now x))
+        × (low ≡ lowNeighbour (now x) i) × (low < i) × (high ≡ highNeighbour (now x) i) × (high < i) ⌝ }
     ensures { λ _. ⌜ (pointsOf (now (heights .exit)) (now (flags .exit))
         ≡ final.step range (now (x .entry)) (now (values .entry)) i (pointsOf (now (heights .entry)) (now (flags .entry))))
         × Bounded (now (heights .exit)) ⌝ }
 {
-    let low = low_neighbour(x, i);
-    let high = high_neighbour(x, i);
     let predicted = predict(x, heights, low, high, i);
     let value = values[i];
     heights[i] = unwrap(range, predicted, value);
     flag(value, low, high, i, flags);
 }
 
-// Every place after the first two (004, step 6).
-fn steps(x: &[u16], values: &[u16], range: u32, heights: &mut [u32], flags: &mut [u8])
-    requires { ⌜ Ready (now x) (now values) range (now heights) (now flags) × Bounded (now heights) ⌝ }
+// Every place after the first two (004, step 6). `after` links them in order of X, in which neighbours are found (004, steps 7 and 8).
+fn steps(
+    x: &[u16],
+    values: &[u16],
+    range: u32,
+    after: &mut [usize],
+    heights: &mut [u32],
+    flags: &mut [u8],
+)
+    requires { ⌜ Ready (now x) (now values) range (now heights) (now flags) × Bounded (now heights) × (length (now x) ≤ length (now after)) ⌝ }
     ensures { λ _. ⌜ pointsOf (now (heights .exit)) (now (flags .exit))
         ≡ final.steps range (now (x .entry)) (now (values .entry)) 2 (length (now (x .entry)) - 2)
         (pointsOf (now (heights .entry)) (now (flags .entry))) ⌝ }
 {
+    link_first_two(x, after);
     let mut i: usize = 2;
     while i < x.len() {
-        step(x, values, range, i, heights, flags);
+        let low = neighbours_of(x, i, after);
+        place(x, values, range, low, after[i], i, heights, flags);
         i = i + 1;
     }
 }
@@ -162,12 +179,13 @@ pub fn final_points(
     y: &mut [u8],
     flags: &mut [u8],
 )
-    requires { ⌜ Ready (now x) (now values) range (now heights) (now flags) × (length (now y) ≡ length (now x)) ⌝ }
+    requires { ⌜ Ready (now x) (now values) range (now heights) (now flags) × (length (now y) ≡ length (now x)) × (length (now x) ≤ 65) ⌝ }
     ensures { λ _. ⌜ (now (y .exit) ≡ map (clamped range) (points range (now (x .entry)) (now (values .entry)) .ys))
         × (now (flags .exit) ≡ points range (now (x .entry)) (now (values .entry)) .flags) ⌝ }
 {
     begin_heights(values, heights);
     begin_flags(flags);
-    steps(x, values, range, heights, flags);
+    let mut after = [0usize; 65];
+    steps(x, values, range, &mut after, heights, flags);
     clamp_all(range, heights, y);
 }

@@ -1,131 +1,45 @@
--- `floor_curve::draw_points` meets its contract. The loop keeps what is drawn: the curve up to a place at which a point lies (`DrawnUpTo`). Each turn moves right, since the next point lies right of that place. Assumes nothing.
-use Prim.Native.Nat.{ℕ, _+_, _-_, _≤_, _<_}
-use native.Mathlib.Omega.{arith}
-use mathlib.Core.Path.{_≡_, refl, _∙_}
-use lib.ListN.{length}
-use Rattle.floor_curve.proofs.CurveLaws.{DrawnUpTo, up-to-begin, up-to-line, up-to-flat, up-to-end, next-right}
+-- `floor_curve::draw_points` meets its contract. Both ways of drawing give the curve; the first is taken where every place is linked. Assumes nothing.
 use borrow.Author.Needs.{needs}
 use Rattle.floor_curve.proofs.draw_points.Statement.{statement}
 use Rattle.floor_curve.proofs.draw_points.Tie as tie
 
-abbrev Inv-loop : tie.InvT-loop
-Inv-loop x y flags multiplier out₀ at₀ out at = DrawnUpTo x y flags multiplier out₀ out at
+slice-aggregate-link-all : tie.Need-slice-aggregate-link-all
+slice-aggregate-link-all c = search needs
 
-abbrev μ-loop : tie.MeasureT-loop
-μ-loop x y flags multiplier out₀ at₀ out at = length out₀ - at
+link-all-requires : tie.Need-link-all-requires
+link-all-requires c κs = search needs
 
-loop-holds : tie.Need-loop-holds Inv-loop μ-loop
-loop-holds c = up-to-begin _ _ _ _ _ (c .before .before .before .before .pre)
+slice-aggregate-draw-linked : tie.Need-slice-aggregate-draw-linked
+slice-aggregate-draw-linked c = search needs
 
-last-at-requires : tie.Need-last-at-requires Inv-loop μ-loop
-last-at-requires c κs = search needs
+draw-linked-requires : tie.Need-draw-linked-requires
+draw-linked-requires c κs = (c .before .before .before .before .before .before .before .before .before .before .pre, c .before .before .before .before .link-all .ensures (c .before .before .if1 .taken))
 
-next-after-requires : tie.Need-next-after-requires Inv-loop μ-loop
-next-after-requires c κs = search needs
+same-length : tie.Need-same-length
+same-length c = search needs
 
-height-at-requires : tie.Need-height-at-requires Inv-loop μ-loop
-height-at-requires c κs = search needs
+returns : tie.Need-returns
+returns c = search needs
 
-draw-flat-requires : tie.Need-draw-flat-requires Inv-loop μ-loop
-draw-flat-requires c κs = search needs
+draw-searched-requires : tie.Need-draw-searched-requires
+draw-searched-requires c κs = search needs
 
-same-length : tie.Need-same-length Inv-loop μ-loop
-same-length c = omega arith
+same-length-2 : tie.Need-same-length-2
+same-length-2 c = search needs
 
-returns : tie.Need-returns Inv-loop μ-loop
-returns c =
-    let at-height-at = c .before .before .before in
-    let at-if1 = at-height-at .before .before in
-    let at-next-after = at-if1 .before in
-    let at-last-at = at-next-after .before in
-    let at-loop = at-last-at .before .before in
-    let at-shared-slice-known = at-loop .before .before .before .before in
-    let at-args = at-shared-slice-known .before in
-    up-to-flat (at-args .args .x .now) (at-args .args .y .now) (at-args .args .flags .now) (at-args .args .multiplier) _ _ _ _ _ _ _
-    (λ k. omega (arith, at-shared-slice-known .shared-slice-known .given k)) (at-loop .loop .inv) (at-last-at .last-at .ensures .0)
-    (at-next-after .next-after .ensures .0) (at-if1 .if1 .taken) (at-height-at .height-at .ensures) (c .before .before .draw-flat .ensures)
-
-mul-draw-line : tie.Need-mul-draw-line Inv-loop μ-loop
-mul-draw-line c = search needs
-
-shared-slice-read-draw-line : tie.Need-shared-slice-read-draw-line Inv-loop μ-loop
-shared-slice-read-draw-line c = search needs
-
-height-at-requires-2 : tie.Need-height-at-requires-2 Inv-loop μ-loop
-height-at-requires-2 c κs = search needs
-
-mul-draw-line-2 : tie.Need-mul-draw-line-2 Inv-loop μ-loop
-mul-draw-line-2 c = search needs
-
-shared-slice-read-draw-line-2 : tie.Need-shared-slice-read-draw-line-2 Inv-loop μ-loop
-shared-slice-read-draw-line-2 c = search needs
-
-height-at-requires-3 : tie.Need-height-at-requires-3 Inv-loop μ-loop
-height-at-requires-3 c κs = search needs
-
-draw-line-requires : tie.Need-draw-line-requires Inv-loop μ-loop
-draw-line-requires c κs = search needs
-
-mul-wide-u16 : tie.Need-mul-wide-u16 Inv-loop μ-loop
-mul-wide-u16 c = search needs
-
-shared-slice-read-wide-u16 : tie.Need-shared-slice-read-wide-u16 Inv-loop μ-loop
-shared-slice-read-wide-u16 c = search needs
-
-wide-u16-requires : tie.Need-wide-u16-requires Inv-loop μ-loop
-wide-u16-requires c κs = search needs
-
-loop-less : tie.Need-loop-less Inv-loop μ-loop
-loop-less c =
-    let h = next-right (c .before .before .before .before .before .before .before .before .before .before .before .before .before .before .before .before .before .before .before .args .x .now)
-    (c .before .before .before .before .before .before .before .before .before .before .before .before .before .before .before .before .before .before .before .args .flags .now)
-    (c .before .before .before .before .before .before .before .before .before .before .before .before .before .before .loop .at)
-    (c .before .before .before .before .before .before .before .before .before .before .before .next-after .result) (c .wide-u16 .result)
-    (c .before .before .before .before .before .before .before .before .before .before .before .next-after .ensures .0) (omega arith) (c .wide-u16 .ensures) in omega arith
-
-loop-again : tie.Need-loop-again Inv-loop μ-loop
-loop-again c =
-    up-to-line (c .before .before .before .before .before .before .before .before .before .before .before .before .before .before .before .before .before .before .before .args .x .now)
-    (c .before .before .before .before .before .before .before .before .before .before .before .before .before .before .before .before .before .before .before .args .y .now)
-    (c .before .before .before .before .before .before .before .before .before .before .before .before .before .before .before .before .before .before .before .args .flags .now)
-    (c .before .before .before .before .before .before .before .before .before .before .before .before .before .before .before .before .before .before .before .args .multiplier) _ _ _ _ _ _ _ _ _ _ _
-    (c .before .before .before .before .before .before .before .before .before .before .before .before .before .before .before .before .before .before .before .pre)
-    (c .before .before .before .before .before .before .before .before .before .before .before .before .before .before .loop .inv)
-    (c .before .before .before .before .before .before .before .before .before .before .before .before .last-at .ensures .0)
-    (c .before .before .before .before .before .before .before .before .before .before .before .next-after .ensures .0) (omega arith) refl
-    (c .before .before .before .before .before .before .before .height-at2 .ensures) refl (c .before .before .before .before .before .height-at3 .ensures)
-    (c .before .before .before .before .draw-line .ensures) (c .wide-u16 .ensures)
-
-same-length-2 : tie.Need-same-length-2 Inv-loop μ-loop
-same-length-2 c = omega arith
-
-returns-2 : tie.Need-returns-2 Inv-loop μ-loop
-returns-2 c = up-to-end _ _ _ _ _ _ _ (c .before .loop .inv) (omega arith)
+returns-2 : tie.Need-returns-2
+returns-2 c = search needs
 
 pub draw-points-spec : {M : Type 1} → statement M
 draw-points-spec =
     tie.close
     (tie.spec
-    Inv-loop
-    μ-loop
-    loop-holds
-    last-at-requires
-    next-after-requires
-    height-at-requires
-    draw-flat-requires
+    slice-aggregate-link-all
+    link-all-requires
+    slice-aggregate-draw-linked
+    draw-linked-requires
     same-length
     returns
-    mul-draw-line
-    shared-slice-read-draw-line
-    height-at-requires-2
-    mul-draw-line-2
-    shared-slice-read-draw-line-2
-    height-at-requires-3
-    draw-line-requires
-    mul-wide-u16
-    shared-slice-read-wide-u16
-    wide-u16-requires
-    loop-less
-    loop-again
+    draw-searched-requires
     same-length-2
     returns-2)

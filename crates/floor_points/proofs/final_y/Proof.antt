@@ -28,6 +28,7 @@ final-points-requires c κs =
       ready (at-args .args .x .now) (at-args .args .values .now) (at-args .args .y .now) (at-args .args .flags .now) (at-args .args .multiplier) _ w
           (at-range-of .range-of .ensures .0) (at-range-of .range-of .ensures .1),
       w .ys,
+      omega (arith, w .few),
     )
 
 same-length : tie.Need-same-length
