@@ -1,8 +1,7 @@
 -- THE AUDIO CALL: any identity, tables, tally, bytes and rooms (01, "Order": 18, then the first fault in reading order, then 17 for curves and codewords, then
 -- 19). A refusal leaves its number alone, both outputs all zero, and the tally as it stood. Assumes nothing: these are definitions.
 use Prim.Native.Nat.{ℕ, _*_, _/_}
-use mathlib.Core.Bool.{Bool, true, false}
-use mathlib.Core.List.{List, [], _∷_, map}
+use mathlib.Core.List.{List, map}
 use lib.Dec.{leb}
 use lib.ListN.{length, replicate}
 use Rattle.reading.specs.Least.{one}
@@ -106,3 +105,10 @@ audioBy c i tally s room = answered i tally room c (accepted i tally room s c)
 -- THE CALL, of tables that anyone hands in
 unfoldable pub audioCall : Limits → Identity → Tables → Tally → List ℕ → Room → Left
 audioCall limits i t tally s room = answered i tally room (decodeSetup t) (laterCall limits i t (accepted i tally room s))
+
+-- the outputs as a contract names them: the places that are lent, and what is left with the answer and the tally
+abbrev pub roomOf : List ℕ → List ℕ → Room
+roomOf curves words = record { curves = length curves; codewords = length words }
+
+abbrev pub leftOf : AudioAnswer → Tally → List ℕ → List ℕ → Left
+leftOf answer tally curves words = record { answer = answer; curves = curves; codewords = words; tally = tally }

@@ -1,6 +1,6 @@
 -- Which floor each channel has, which channels are live, and the residues of all submaps (003, 4.3.2 to 4.3.4; 01, "Audio order" 2, 4 and 5).
 -- Assumes nothing: these are definitions.
-use Prim.Native.Nat.{ℕ, zero, suc, _*_, min}
+use Prim.Native.Nat.{ℕ, suc, _*_, min}
 use mathlib.Core.Bool.{Bool, true, false, cond, _&&_, _||_}
 use mathlib.Core.List.{List, [], _∷_, map}
 use lib.Dec.{eqb}

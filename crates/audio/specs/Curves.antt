@@ -1,8 +1,7 @@
 -- THE TWO LISTS that an accepted audio packet gives: the curve bytes of the channels, and the codewords of the residues (01, "What the reader takes and
 -- gives"). Assumes nothing: these are definitions.
-use Prim.Native.Nat.{ℕ, _+_, _*_}
-use mathlib.Core.Bool.{Bool, true, false, cond}
-use mathlib.Core.List.{List, [], _∷_, _++_, map}
+use Prim.Native.Nat.{ℕ}
+use mathlib.Core.List.{List, [], _∷_, _++_}
 use lib.ListN.{length, replicate}
 use Rattle.floor.specs.Content.{Floor}
 use Rattle.floor_x_list.specs.Content.{xList}

@@ -1,5 +1,6 @@
 -- Both doors, as the code asks it. Assumes nothing.
 use Prim.Native.Nat.{ℕ, _≤_}
+use native.Mathlib.Omega.{arith}
 use mathlib.Core.Bool.{Bool, true, false, not}
 use mathlib.Core.List.{List}
 use mathlib.Core.Path.{_≡_, refl, ap, sym, _∙_}
@@ -7,6 +8,7 @@ use borrow.Author.Tests.{not-true, not-false}
 use lib.ListN.{length}
 use Rattle.reading.specs.Outcome.{refusal, need}
 use Rattle.limits.specs.declared.Limits.{Limits}
+use Rattle.limits.specs.Standard.{standard}
 use Rattle.identification.specs.declared.Identity.{Identity}
 use Rattle.setup.specs.Layout.{Tables}
 use Rattle.setup.specs.inner.Decode.{decodeSetup}
@@ -14,10 +16,10 @@ use Rattle.setup.specs.inner.Parts.{Small}
 use Rattle.setup.specs.SoundTest.{soundTest}
 use Rattle.setup.specs.Later.{laterCall}
 use Rattle.audio.specs.declared.Tally.{Tally}
-use Rattle.audio.specs.Call.{Left, accepted, answered, audioBy, audioCall}
+use Rattle.audio.specs.Call.{Room, Left, accepted, answered, audioBy, audioCall, roomOf}
 use Rattle.audio_call.specs.declared.judge.Judged.{Judged}
 use Rattle.audio_call.specs.inner.Ready.{Ready}
-use Rattle.audio_call.specs.inner.Judged.{JudgedIs, roomOf, ZeroFrom, refusedLeft, settled}
+use Rattle.audio_call.specs.inner.Judged.{JudgedIs, ZeroFrom, refusedLeft, settled}
 use Rattle.audio_call.proofs.ReadyLaws.{channels-few, first-high}
 use Rattle.audio_call.proofs.SettleLaws.{settled-is, zero-past}
 
@@ -50,3 +52,16 @@ module _ (limits : Limits) (i : Identity) (t : Tables) {b : Bool} (e : b ≡ sou
     pub call-sound : (tally : Tally) (s entry list : List ℕ) {l : Left} → l ≡ audioBy (decodeSetup t) i tally s (roomOf entry list) → l ≡ audioCall limits i t tally s (roomOf entry list)
     unfolding audioBy audioCall laterCall
     call-sound tally s entry list a = a ∙ ap (λ (z : Bool). answered i tally (roomOf entry list) (decodeSetup t) (need z (refusal 18 0) (accepted i tally (roomOf entry list) s (decodeSetup t)))) (sym is-sound)
+
+-- what `standard` answers is the standard
+module _ {l : Limits} (e : (l .channels ≡ 8) × (l .«book_entries» ≡ 8192) × (l .entries ≡ 16384) × (l .multiplicands ≡ 16384)) where
+  pub limits-asked : Small l × (l .«book_entries» ≤ 65536)
+  limits-asked =
+      let a = e .0 in
+      let b = e .1 in
+      let c = e .2 in
+      let d = e .3 in
+      (record { few-channels = omega arith; few-entries = omega arith; few-values = omega arith }, omega arith)
+
+  pub call-standard : (i : Identity) (t : Tables) (tally : Tally) (s : List ℕ) (room : Room) {x : Left} → x ≡ audioCall l i t tally s room → x ≡ audioCall standard i t tally s room
+  call-standard i t tally s room a = a ∙ (λ j. audioCall (record { channels = e .0 j; «book_entries» = e .1 j; entries = e .2 j; multiplicands = e .3 j }) i t tally s room)

@@ -21,11 +21,12 @@ use Rattle.audio.specs.Head.{modeAt}
 use Rattle.audio.specs.Packet.{channelFloors, bodyRequests}
 use Rattle.audio.specs.Tally.{counted}
 use Rattle.setup.specs.Content.{lengthsOf}
+use Rattle.audio.specs.Call.{roomOf}
 use Rattle.audio_call.specs.declared.body.BodyRead.{BodyRead}
 use Rattle.audio_call.specs.declared.judge.Judged.{Judged}
 use Rattle.audio_call.specs.inner.Ready.{Ready}
 use Rattle.audio_call.specs.inner.Body.{floorsIn, bodyIn, BodyIs, BodyReadable}
-use Rattle.audio_call.specs.inner.Judged.{refusedBy, finishedBy, JudgedIs, roomOf, afterHead, HeadIs}
+use Rattle.audio_call.specs.inner.Judged.{refusedBy, finishedBy, JudgedIs, afterHead, HeadIs}
 use Rattle.audio_call.proofs.ContentLaws.{body-readable, body-content}
 use Rattle.audio_call.proofs.PacketLaws.{no-curves-is, full-is, whole-is, cut-is}
 use Rattle.audio_call.proofs.ReadyLaws.{rows, channels-few, mode-set-up, mode-few, size-high, mapping-number}

@@ -20,7 +20,7 @@ use Rattle.audio.specs.declared.Tally.{Tally}
 use Rattle.audio.specs.Head.{headRequests, headOf}
 use Rattle.audio.specs.Packet.{headRun}
 use Rattle.audio.specs.Tally.{tallySound}
-use Rattle.audio.specs.Call.{accepted}
+use Rattle.audio.specs.Call.{accepted, roomOf}
 use Rattle.audio_head.specs.declared.HeadRead.{HeadRead}
 use Rattle.audio_head.specs.declared.HeadRead.the-variants as H
 use Rattle.audio_head.specs.inner.Readers.{modesIn}
@@ -28,7 +28,7 @@ use Rattle.audio_head.specs.inner.Answers.{headRead}
 use Rattle.audio_head.proofs.RunLaws.{modes-decoded}
 use Rattle.audio_call.specs.declared.judge.Judged.{Judged}
 use Rattle.audio_call.specs.inner.Ready.{Ready}
-use Rattle.audio_call.specs.inner.Judged.{refusedBy, JudgedIs, roomOf, afterHead, HeadIs}
+use Rattle.audio_call.specs.inner.Judged.{refusedBy, JudgedIs, afterHead, HeadIs}
 use Rattle.audio_call.proofs.AcceptedLaws.{tally-refused, head-refused, head-read}
 use Rattle.audio_call.proofs.ReadyLaws.{modes-counted}
 

@@ -21,9 +21,9 @@ use Rattle.audio.specs.declared.AudioAnswer.{AudioAnswer}
 use Rattle.audio.specs.declared.AudioLeft.{AudioLeft}
 use Rattle.audio.specs.declared.Window.{Window}
 use Rattle.audio.specs.Head.{window}
-use Rattle.audio.specs.Call.{Room, Accepted, refused, Left, answerOf, answered}
+use Rattle.audio.specs.Call.{Room, Accepted, refused, Left, answerOf, answered, roomOf, leftOf}
 use Rattle.audio_call.specs.declared.judge.Judged.{Judged}
-use Rattle.audio_call.specs.inner.Judged.{refusedBy, acceptedBy, judgement, curvesBy, wordsBy, JudgedIs, roomOf, ZeroFrom, leftOf, answerBy, acceptedLeft, refusedLeft, settled}
+use Rattle.audio_call.specs.inner.Judged.{refusedBy, acceptedBy, judgement, curvesBy, wordsBy, JudgedIs, ZeroFrom, answerBy, acceptedLeft, refusedLeft, settled}
 use Rattle.audio_call.proofs.ClearLaws.{front-padded}
 
 -- channels times half a block are few
@@ -48,12 +48,12 @@ pub answer-made : (i : Identity) (r : Judged) {w : Window} → w ≡ window (i .
 answer-made i r e = ap (λ (w : Window). record { refusal = 0; mode = r .head .mode; blocksize = r .head .blocksize; previous = r .head .previous; next = r .head .next; window = w; samples = r .samples; codewords = r .words; used = r .used }) e
 
 pub refuse-made : {n : ℕ} {t : Tally} (curves words : List ℕ) {curves′ words′ : List ℕ} {a : AudioAnswer} → curves′ ≡ replicate (length curves) 0 → words′ ≡ replicate (length words) 0 → a ≡ refused n
-    → leftOf (record { tally = t; answer = a }) curves′ words′ ≡ refusedLeft n t curves words
+    → leftOf a t curves′ words′ ≡ refusedLeft n t curves words
 refuse-made {n} {t} curves words e f g = λ j. record { answer = g j; curves = e j; codewords = f j; tally = t }
 
 pub accept-made : (i : Identity) (r : Judged) (curves words : List ℕ) (curvesEnd wordsEnd : ℕ) {curves′ words′ : List ℕ} {a : AudioAnswer} {bytes : ℕ} → bytes ≡ i .channels * (r .head .blocksize / 2)
     → curves′ ≡ sets curves bytes (replicate (curvesEnd - bytes) 0) → words′ ≡ sets words (r .words) (replicate (wordsEnd - r .words) 0) → a ≡ answerBy i r
-    → leftOf (record { tally = r .tally; answer = a }) curves′ words′ ≡ acceptedLeft i r curves words curvesEnd wordsEnd
+    → leftOf a (r .tally) curves′ words′ ≡ acceptedLeft i r curves words curvesEnd wordsEnd
 accept-made i r curves words curvesEnd wordsEnd {curves′} {words′} {a} {bytes} b e f g =
     let c : curves′ ≡ sets curves (i .channels * (r .head .blocksize / 2)) (replicate (curvesEnd - i .channels * (r .head .blocksize / 2)) 0) = e ∙ ap (λ (n : ℕ). sets curves n (replicate (curvesEnd - n) 0)) b in
     λ j. record { answer = g j; curves = c j; codewords = f j; tally = r .tally }

@@ -19,9 +19,9 @@ ghost use Rattle.setup.specs.Layout.{tables};
 ghost use Rattle.setup.specs.Handed.{handed};
 ghost use Rattle.setup.specs.inner.Decode.{decodeSetup};
 ghost use Rattle.audio.specs.Tally.{counted};
-ghost use Rattle.audio.specs.Call.{accepted};
+ghost use Rattle.audio.specs.Call.{accepted, roomOf};
 ghost use Rattle.audio_call.specs.inner.Ready.{Ready};
-ghost use Rattle.audio_call.specs.inner.Judged.{finishedBy, refusedBy, roomOf, afterHead, HeadIs, JudgedIs};
+ghost use Rattle.audio_call.specs.inner.Judged.{finishedBy, refusedBy, afterHead, HeadIs, JudgedIs};
 
 // What judging a packet comes to.
 pub struct Judged {

@@ -11,13 +11,14 @@ use identification::Identity;
 use limits::Limits;
 ghost use Prim.Native.Nat.{_≤_};
 ghost use mathlib.Core.Path.{_≡_};
+ghost use Rattle.limits.specs.Standard.{standard};
 ghost use Rattle.setup.specs.Layout.{tables};
 ghost use Rattle.setup.specs.Handed.{handed};
 ghost use Rattle.setup.specs.inner.Decode.{decodeSetup};
 ghost use Rattle.setup.specs.inner.Parts.{Small};
-ghost use Rattle.audio.specs.Call.{audioBy, audioCall};
+ghost use Rattle.audio.specs.Call.{audioBy, audioCall, roomOf, leftOf};
 ghost use Rattle.audio_call.specs.inner.Ready.{Ready};
-ghost use Rattle.audio_call.specs.inner.Judged.{roomOf, ZeroFrom, leftOf};
+ghost use Rattle.audio_call.specs.inner.Judged.{ZeroFrom};
 
 // THE INNER DOOR, for a caller whose tables its own setup call left: nothing is judged again. Only the first `curves_end` curve bytes and `words_end` places of
 // the list may hold something: that is what the packet before left, and only that is cleared.
@@ -42,7 +43,7 @@ pub fn read_packet(
 ) -> AudioLeft
     requires { ⌜ Ready identity (tables (now counts) (now books) (now lengths) (now codewords) (now multiplicands) (now floors) (now residues) (now plans) (now mappings) (now modes))
         × ZeroFrom «curves_end» (now curves) × ZeroFrom «words_end» (now words) ⌝ }
-    ensures { λ r. ⌜ leftOf r (now (curves .exit)) (now (words .exit))
+    ensures { λ r. ⌜ leftOf (r .answer) (r .tally) (now (curves .exit)) (now (words .exit))
         ≡ audioBy (decodeSetup (handed counts books lengths codewords multiplicands floors residues plans mappings modes)) identity tally
         (now (packet .entry)) (roomOf (now (curves .entry)) (now (words .entry))) ⌝ }
 {
@@ -74,7 +75,7 @@ pub fn read_packet(
     )
 }
 
-// THE PUBLIC CALL, with the tally by value: identity and tables are judged first.
+// THE OUTER DOOR, with the tally by value: identity and tables are judged first.
 pub fn read_audio(
     tally: Tally,
     identity: Identity,
@@ -94,7 +95,7 @@ pub fn read_audio(
     words: &mut [u32],
 ) -> AudioLeft
     requires { ⌜ Small limits × (limits .«book_entries» ≤ 65536) ⌝ }
-    ensures { λ r. ⌜ leftOf r (now (curves .exit)) (now (words .exit))
+    ensures { λ r. ⌜ leftOf (r .answer) (r .tally) (now (curves .exit)) (now (words .exit))
         ≡ audioCall limits identity (handed counts books lengths codewords multiplicands floors residues plans mappings modes) tally
         (now (packet .entry)) (roomOf (now (curves .entry)) (now (words .entry))) ⌝ }
 {
@@ -135,5 +136,47 @@ pub fn read_audio(
         words,
         curves_end,
         words_end,
+    )
+}
+
+// The same under 01's limits, as the front door has it.
+pub fn audio_by_value(
+    tally: Tally,
+    identity: Identity,
+    counts: &[u32],
+    books: &[u32],
+    lengths: &[u8],
+    codewords: &[u32],
+    multiplicands: &[u16],
+    floors: &[u16],
+    residues: &[u32],
+    plans: &[u16],
+    mappings: &[u8],
+    modes: &[u8],
+    packet: &[u8],
+    curves: &mut [u8],
+    words: &mut [u32],
+) -> AudioLeft
+    ensures { λ r. ⌜ leftOf (r .answer) (r .tally) (now (curves .exit)) (now (words .exit))
+        ≡ audioCall standard identity (handed counts books lengths codewords multiplicands floors residues plans mappings modes) tally
+        (now (packet .entry)) (roomOf (now (curves .entry)) (now (words .entry))) ⌝ }
+{
+    read_audio(
+        tally,
+        identity,
+        Limits::standard(),
+        counts,
+        books,
+        lengths,
+        codewords,
+        multiplicands,
+        floors,
+        residues,
+        plans,
+        mappings,
+        modes,
+        packet,
+        curves,
+        words,
     )
 }

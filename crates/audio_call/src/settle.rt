@@ -12,8 +12,8 @@ use reading::buffers::clear_u32;
 use reading::buffers::clear_u8;
 ghost use mathlib.Core.Path.{_≡_};
 ghost use Prim.Native.Nat.{_≤_};
-ghost use Rattle.audio.specs.Call.{refused};
-ghost use Rattle.audio_call.specs.inner.Judged.{leftOf, answerBy, acceptedLeft, refusedLeft, settled};
+ghost use Rattle.audio.specs.Call.{refused, leftOf};
+ghost use Rattle.audio_call.specs.inner.Judged.{answerBy, acceptedLeft, refusedLeft, settled};
 
 // A refusal's answer: its number alone.
 pub fn refused_answer(refusal: u32) -> AudioAnswer
@@ -62,7 +62,7 @@ fn answer_of(identity: Identity, judged: Judged) -> AudioAnswer
 
 // A refusal.
 pub fn refuse(refusal: u32, tally: Tally, curves: &mut [u8], words: &mut [u32]) -> AudioLeft
-    ensures { λ r. ⌜ leftOf r (now (curves .exit)) (now (words .exit)) ≡ refusedLeft refusal tally (now (curves .entry)) (now (words .entry)) ⌝ }
+    ensures { λ r. ⌜ leftOf (r .answer) (r .tally) (now (curves .exit)) (now (words .exit)) ≡ refusedLeft refusal tally (now (curves .entry)) (now (words .entry)) ⌝ }
 {
     clear_u8(curves);
     clear_u32(words);
@@ -80,7 +80,7 @@ fn accept(
     words_end: usize,
 ) -> AudioLeft
     requires { ⌜ (identity .channels ≤ 255) × (identity .blocksize0 ≤ 8192) × (judged .head .blocksize ≤ 8192) ⌝ }
-    ensures { λ r. ⌜ leftOf r (now (curves .exit)) (now (words .exit))
+    ensures { λ r. ⌜ leftOf (r .answer) (r .tally) (now (curves .exit)) (now (words .exit))
         ≡ acceptedLeft identity judged (now (curves .entry)) (now (words .entry)) «curves_end» «words_end» ⌝ }
 {
     let head = judged.head;
@@ -104,7 +104,7 @@ pub fn settle(
     words_end: usize,
 ) -> AudioLeft
     requires { ⌜ (identity .channels ≤ 255) × (identity .blocksize0 ≤ 8192) × (judged .head .blocksize ≤ 8192) ⌝ }
-    ensures { λ r. ⌜ leftOf r (now (curves .exit)) (now (words .exit))
+    ensures { λ r. ⌜ leftOf (r .answer) (r .tally) (now (curves .exit)) (now (words .exit))
         ≡ settled identity tally judged (now (curves .entry)) (now (words .entry)) «curves_end» «words_end» ⌝ }
 {
     if judged.accepted {

@@ -68,10 +68,6 @@ pub record JudgedIs (channels : ℕ) (c : Setup) (o : Outcome Accepted) (r : Jud
   pub bytes : (x : Accepted) → o ≡ ok x → length (curvesBy channels c x) ≡ channels * (x .packet .head .blocksize / 2)
   pub words : (x : Accepted) → o ≡ ok x → list′ ≡ sets list 0 (wordsBy x)
 
--- both outputs as they are lent
-abbrev pub roomOf : List ℕ → List ℕ → Room
-roomOf curves words = record { curves = length curves; codewords = length words }
-
 -- what follows a head that was read up to bit k
 abbrev pub afterHead : Identity → Setup → Tally → List ℕ → Head → ℕ → Room → Outcome Accepted
 afterHead i c t s h k room = judged (i .channels) t room (bodyAt (i .channels) c s (headRun i c s .items) h k)
@@ -83,10 +79,6 @@ HeadIs i c s h k = headOf (headRun i c s) ≡ ok (h, k)
 -- the places of an output from one on hold nothing
 pub record ZeroFrom (place : ℕ) (l : List ℕ) : Type 0 where
   pub zero : (j : ℕ) → place ≤ j → getD l j 0 ≡ 0
-
--- what a call leaves, from its answer and both outputs
-abbrev pub leftOf : AudioLeft → List ℕ → List ℕ → Left
-leftOf r curves words = record { answer = r .answer; curves = curves; codewords = words; tally = r .tally }
 
 -- the answer to an accepted packet
 abbrev pub answerBy : Identity → Judged → AudioAnswer
