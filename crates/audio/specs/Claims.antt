@@ -82,3 +82,8 @@ pub record Outputs (limits : Limits) (i : Identity) (t : Tables) (tally : Tally)
   -- all that head and body ask for was read, up to a cut: so the number of codewords is not free (01, "How an entry is closed")
   pub read-until-cut : (x : Accepted) → laterCall limits i t (accepted i tally room s) ≡ ok x
       → ReadUntilCut (lengthsOf (decodeSetup t)) (packetRequests i (decodeSetup t)) s (x .packet .items) (x .packet .position)
+
+-- BOTH, of the audio call
+pub record AudioClaims (limits : Limits) (i : Identity) (t : Tables) (tally : Tally) (s : List ℕ) (room : Room) : Type 0 where
+  pub cut : CutStands limits i t tally room
+  pub outputs : Outputs limits i t tally s room

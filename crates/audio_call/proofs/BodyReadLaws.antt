@@ -53,10 +53,10 @@ unfolding each run
 all-long reads s [] k vs e = ap length (sym (some-is e))
 all-long reads s (f ∷ fs) k vs e =
     let a = both (run reads (floorRequests f) s k) (λ v n. run reads (bind (each floorRequests fs) (λ l. done (v ∷ l))) s n)
-        (ap (λ (r : Run (List FloorRead)). r .value) (sym (run-bind reads s (floorRequests f) (λ v. bind (each floorRequests fs) (λ l. done (v ∷ l))) k)) ∙ e) in
+    (ap (λ (r : Run (List FloorRead)). r .value) (sym (run-bind reads s (floorRequests f) (λ v. bind (each floorRequests fs) (λ l. done (v ∷ l))) k)) ∙ e) in
     let n = run reads (floorRequests f) s k .position in
     let b = both (run reads (each floorRequests fs) s n) (λ l m. run reads (done (a .first ∷ l)) s m)
-        (ap (λ (r : Run (List FloorRead)). r .value) (sym (run-bind reads s (each floorRequests fs) (λ l. done (a .first ∷ l)) n)) ∙ a .second) in
+    (ap (λ (r : Run (List FloorRead)). r .value) (sym (run-bind reads s (each floorRequests fs) (λ l. done (a .first ∷ l)) n)) ∙ a .second) in
     let h = all-long reads s fs n (b .first) (b .came) in
     ap length (sym (some-is (b .second))) ∙ ap suc h
 
@@ -127,9 +127,9 @@ module _ (books lengths floors residues plans mappings : List ℕ) (n channels h
         let maps = length-map (tabulate (floorNumber (mappingIn mappings n)) channels) (floorIn floors) in
         let long : length (w .read-floors) ≡ channels = all-long (read lens) s fs k (w .read-floors) (w .value) ∙ maps ∙ tabulate-length (floorNumber (mappingIn mappings n)) channels in
         let used : usedBools channels (r .used) ≡ map isUsed (w .read-floors) =
-            ap (usedBools channels) (f .used ∙ ap (λ (vs : List FloorRead). pad 255 (map (λ v. one (isUsed v)) vs)) same)
-            ∙ ap (λ (m : ℕ). usedBools m (pad 255 (map (λ v. one (isUsed v)) (w .read-floors)))) (sym long)
-            ∙ used-of isUsed (w .read-floors) (omega arith) in
+        ap (usedBools channels) (f .used ∙ ap (λ (vs : List FloorRead). pad 255 (map (λ v. one (isUsed v)) vs)) same)
+        ∙ ap (λ (m : ℕ). usedBools m (pad 255 (map (λ v. one (isUsed v)) (w .read-floors)))) (sym long)
+        ∙ used-of isUsed (w .read-floors) (omega arith) in
         let read-all : ReadIntoList (run (read lens) (rest (w .read-floors)) s (floorsRun .position)) list 0 x list′ = go (usedBools channels (r .used)) (position (r .at)) (w .read-floors) used (f .position) g in
         record {
           used = f .used;

@@ -47,9 +47,11 @@ module _ (i : Identity) (t : Tables) (x : Ready i t) (s : List ℕ) (h : Head) (
 
     pub body-asked : {room : ℕ} → bytes ≤ room → BodyReadable (t .mappings) (t .floors) (t .residues) (t .plans) (t .books) (t .lengths) (t .codewords) n (i .channels) (h .blocksize / 2)
         × (i .channels * (h .blocksize / 2) ≤ room)
-    body-asked fits =
-        (subst (λ (q : ℕ). BodyReadable (t .mappings) (t .floors) (t .residues) (t .plans) (t .books) (t .lengths) (t .codewords) q (i .channels) (h .blocksize / 2)) (sym number-is)
-        (body-readable (rows i t x) (x .few-entries) h (mode-set-up i t x s h k e) (channels-few i t x) (size-high i t x s h k e)), omega arith)
+    body-asked fits = (
+      subst (λ (q : ℕ). BodyReadable (t .mappings) (t .floors) (t .residues) (t .plans) (t .books) (t .lengths) (t .codewords) q (i .channels) (h .blocksize / 2)) (sym number-is)
+          (body-readable (rows i t x) (x .few-entries) h (mode-set-up i t x s h k e) (channels-few i t x) (size-high i t x s h k e)),
+      omega arith,
+    )
 
   module _ (tally : Tally) (entry list : List ℕ) {bytes : ℕ} (size : bytes ≡ i .channels * (h .blocksize / 2)) where
     pub judged-no-room : {r : Judged} → length entry < bytes → r ≡ refusedBy 17 → JudgedIs (i .channels) c (afterHead i c tally s h k (roomOf entry list)) r entry entry list list

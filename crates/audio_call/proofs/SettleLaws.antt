@@ -78,13 +78,13 @@ module _ (i : Identity) (c : Setup) (t : Tally) (entry list : List ℕ) (curvesE
       let ws = wordsBy x in
       let long : length ws ≡ length (residueWords (x .packet .items)) = length-map (residueWords (x .packet .items)) listed in
       let curves : sets exit (i .channels * (x .packet .head .blocksize / 2)) (replicate (curvesEnd - i .channels * (x .packet .head .blocksize / 2)) 0) ≡ pad (length entry) cs =
-          ap (λ (l : List ℕ). sets l (i .channels * (x .packet .head .blocksize / 2)) (replicate (curvesEnd - i .channels * (x .packet .head .blocksize / 2)) 0)) (j .curves x refl)
-          ∙ ap (λ (n : ℕ). sets (sets entry 0 cs) n (replicate (curvesEnd - n) 0)) (sym bytes)
-          ∙ front-padded entry cs curvesEnd (zc .zero) in
+      ap (λ (l : List ℕ). sets l (i .channels * (x .packet .head .blocksize / 2)) (replicate (curvesEnd - i .channels * (x .packet .head .blocksize / 2)) 0)) (j .curves x refl)
+      ∙ ap (λ (n : ℕ). sets (sets entry 0 cs) n (replicate (curvesEnd - n) 0)) (sym bytes)
+      ∙ front-padded entry cs curvesEnd (zc .zero) in
       let words : sets list′ (length (residueWords (x .packet .items))) (replicate (wordsEnd - length (residueWords (x .packet .items))) 0) ≡ pad (length list) ws =
-          ap (λ (l : List ℕ). sets l (length (residueWords (x .packet .items))) (replicate (wordsEnd - length (residueWords (x .packet .items))) 0)) (j .words x refl)
-          ∙ ap (λ (n : ℕ). sets (sets list 0 ws) n (replicate (wordsEnd - n) 0)) (sym long)
-          ∙ front-padded list ws wordsEnd (zw .zero) in
+      ap (λ (l : List ℕ). sets l (length (residueWords (x .packet .items))) (replicate (wordsEnd - length (residueWords (x .packet .items))) 0)) (j .words x refl)
+      ∙ ap (λ (n : ℕ). sets (sets list 0 ws) n (replicate (wordsEnd - n) 0)) (sym long)
+      ∙ front-padded list ws wordsEnd (zw .zero) in
       rw (j .answer) (λ k. record { answer = answerOf i x; curves = curves k; codewords = words k; tally = x .tally })
   settled-is (bad z) {r} {exit} {list′} j =
       let curves = j .curves-long in

@@ -1,6 +1,6 @@
 // What a call leaves: the answer, and both outputs with nothing behind what the packet gave; or a refusal, with both outputs all zero.
-use super::clear::clear_between_u32;
 use super::clear::clear_between_u8;
+use super::clear::clear_between_u32;
 use super::judge::Judged;
 use super::size::curve_bytes;
 use audio::AudioAnswer;
@@ -8,8 +8,8 @@ use audio::AudioLeft;
 use audio::Tally;
 use audio::Window;
 use identification::Identity;
-use reading::buffers::clear_u32;
 use reading::buffers::clear_u8;
+use reading::buffers::clear_u32;
 ghost use mathlib.Core.Path.{_≡_};
 ghost use Prim.Native.Nat.{_≤_};
 ghost use Rattle.audio.specs.Call.{refused, leftOf};

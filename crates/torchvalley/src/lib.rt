@@ -2,6 +2,7 @@
 // `requires` and settles the whole answer for every input. include/torchvalley.h declares them for C.
 pub mod codewords;
 pub mod floor;
+pub mod packet;
 pub mod tables;
 
 use bits::Refusal;
