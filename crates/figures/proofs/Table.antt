@@ -23,7 +23,8 @@ use Rattle.floor_line.specs.Search.{searched}
 use Rattle.floor_line.specs.Neighbours.{takesLow, takesHigh, lowNeighbour, highNeighbour}
 use Rattle.floor_points.specs.FinalY as F
 use Rattle.floor_curve.specs.Curve.{takesLeft, takesRight, lastAt, nextAfter, heightAt, natural, lineAt, between, curveAt}
-use Rattle.figures.specs.Figures.{Figure, lengths, room, final, point, onCurve, Holds, Every, table, Figures}
+use Rattle.audio.specs.Tally.{finished}
+use Rattle.figures.specs.Figures.{Figure, lengths, room, final, point, onCurve, samples, Holds, Every, table, Figures}
 
 -- equal lists, and an integer that is this number
 same : List ℕ → List ℕ → Bool
@@ -73,6 +74,7 @@ test (room range predicted value y) = isNumber (F.unwrapped range (pos predicted
 test (final xs vals m ys flags) = same (F.finalYs xs vals m (length xs) (length xs) .finalY) ys && same (F.finalYs xs vals m (length xs) (length xs) .flags) flags
 test (point x0 y0 x1 y1 x y) = isNumber (line x0 (pos y0) x1 (pos y1) x) y
 test (onCurve xs ys flags m x y) = eqb (curveAt xs ys flags m x) y
+test (samples before n finishes) = eqb (finished (record { blocksize = before; samples = 0 }) n) finishes
 
 test-holds : (f : Figure) → test f ≡ true → Holds f
 unfolding test
@@ -84,6 +86,7 @@ test-holds (final xs vals m ys flags) t =
     (same-is _ ys (p .0), same-is _ flags (p .1))
 test-holds (point x0 y0 x1 y1 x y) t = number-is _ y t
 test-holds (onCurve xs ys flags m x y) t = eqb-true _ y t
+test-holds (samples before n finishes) t = eqb-true _ finishes t
 
 tests : List Figure → Bool
 tests [] = true
@@ -99,4 +102,4 @@ figures =
     tests-hold table
     (unfold tests test same isNumber lengthsTest lowest isUsed isLone used accepted runAnswers enterAnswer enterBlocks blockFor isLength blockAbove smallest emptyBlocks
     offset line searched F.rangeOf takesLow takesHigh lowNeighbour highNeighbour F.predicted F.room F.unwrapped F.flagged F.step F.steps F.begun F.points
-    F.clamped F.fitting F.finalYs takesLeft takesRight lastAt nextAfter heightAt natural lineAt between curveAt in refl)
+    F.clamped F.fitting F.finalYs takesLeft takesRight lastAt nextAfter heightAt natural lineAt between curveAt finished in refl)

@@ -9,6 +9,7 @@ use Rattle.codeword_assignment.specs.Book.{verdict, refusal, ledgerCodewords, f
 use Rattle.floor_line.specs.Line.{line}
 use Rattle.floor_points.specs.FinalY.{unwrapped, finalYs}
 use Rattle.floor_curve.specs.Curve.{curveAt}
+use Rattle.audio.specs.Tally.{finished}
 
 pub data Figure : Type 0 where
   -- a book's lengths have this number of a refusal, 0 where they are taken, these codewords, and so many strings are free
@@ -21,6 +22,8 @@ pub data Figure : Type 0 where
   point : (x0 y0 x1 y1 x y : ℕ) → Figure
   -- the curve through these points is at y at x
   onCurve : (xs ys flags : List ℕ) (m x y : ℕ) → Figure
+  -- after a block of one size, one of another finishes so many samples
+  samples : (before n finishes : ℕ) → Figure
 
 -- the definitions say what the figure says
 abbrev pub Holds : Figure → Type 0
@@ -30,6 +33,7 @@ Holds (final xs vals m ys flags) =
     (finalYs xs vals m (length xs) (length xs) .finalY ≡ ys) × (finalYs xs vals m (length xs) (length xs) .flags ≡ flags)
 Holds (point x0 y0 x1 y1 x y) = line x0 (pos y0) x1 (pos y1) x ≡ pos y
 Holds (onCurve xs ys flags m x y) = curveAt xs ys flags m x ≡ y
+Holds (samples before n finishes) = finished (record { blocksize = before; samples = 0 }) n ≡ finishes
 
 -- 1, 2, .., n, and then ls
 abbrev pub upTo : ℕ → List ℕ → List ℕ
@@ -66,7 +70,7 @@ final004 = 110 ∷ 20 ∷ 60 ∷ 40 ∷ 40 ∷ 50 ∷ 40 ∷ 80 ∷ 20 ∷ []
 abbrev pub flags004 : List ℕ
 flags004 = 1 ∷ 1 ∷ 1 ∷ 1 ∷ 1 ∷ 1 ∷ 1 ∷ 1 ∷ 1 ∷ []
 
--- THE TABLE, line by line as 01 has them. (The line about samples, 576 after a block of 256 and one of 2048, joins it once audio packets are read.)
+-- THE TABLE, line by line as 01 has them.
 abbrev pub table : List Figure
 table =
     lengths eight 0 eightCodewords 0
@@ -91,6 +95,7 @@ table =
     ∷ onCurve xs004 final004 flags004 1 1 107
     ∷ onCurve xs004 final004 flags004 1 15 54
     ∷ onCurve xs004 final004 flags004 1 200 20
+    ∷ samples 256 2048 576
     ∷ [])
 
 abbrev pub Every : List Figure → Type 0
