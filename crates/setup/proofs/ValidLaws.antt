@@ -2,7 +2,7 @@
 -- Assumes nothing.
 use Prim.Native.Nat.{ℕ, zero, suc, _+_, _≤_}
 use native.Mathlib.Omega.{arith}
-use mathlib.Core.Bool.{true}
+use mathlib.Core.Bool.{Bool, true, false}
 use mathlib.Core.List.{List}
 use mathlib.Core.Path.{_≡_, refl, sym, ap, subst, _∙_}
 use lib.ListN.{length, replicate}
@@ -40,6 +40,7 @@ use Rattle.setup.specs.Sound.{Sound, SoundCall}
 use Rattle.setup.specs.Call.{setupOf}
 use Rattle.setup.specs.inner.Parts.{Small}
 use Rattle.setup.specs.Accepted.{AcceptedSound}
+use Rattle.setup.specs.SoundTest.{soundTest}
 use Rattle.setup.proofs.TableLaws.{room-parts}
 use Rattle.setup.proofs.RuleLaws.{valid-carried, valid-meets}
 use Rattle.setup.proofs.DecodeLaws.{content-decoded}
@@ -192,13 +193,20 @@ unsound-zeros limits channels t x = go (length (t .counts)) (ap (λ (u : Tables)
         let z : 0 ≡ length (x .content .books) = cc in
         omega arith
 
+-- so the test is false of them
+zeros-fail : (limits : Limits) (i : Identity) (t : Tables) → soundTest limits i (cleared t) ≡ false
+zeros-fail limits i t = go (soundTest limits i (cleared t)) refl
+  where
+    go : (b : Bool) → soundTest limits i (cleared t) ≡ b → soundTest limits i (cleared t) ≡ false
+    go true e = absurd (unsound-zeros limits (i .channels) t (test-tells .0 e .tables))
+    go false e = e
+
 pub accepts : (limits : Limits) (i : Identity) (s : List ℕ) (t : Tables) → Small limits → AcceptedSound limits i s t
 unfolding accepted-sound
 accepts limits i s t small =
     record {
-      sound = λ c e. (accepted-sound limits i s t small e .tables, refl);
       tested = λ c e. test-tells .1 (accepted-sound limits i s t small e);
       decoded = λ c e. sym (content-decoded (accepted-sound limits i s t small e .tables));
-      cleared-unsound = unsound-zeros limits (i .channels) t;
+      cleared-unsound = zeros-fail limits i t;
       numbered = λ z e. not-zero (call-numbered limits i s t) e;
     }
