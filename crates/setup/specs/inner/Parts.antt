@@ -35,7 +35,7 @@ use Rattle.setup.specs.Content.{Setup, booksKnown, known}
 use Rattle.setup.specs.Reading.{bookSection, section, timeValue}
 use Rattle.setup.specs.Layout.{Tables, hasRoom, writtenOut, cleared}
 
--- a function that answers r has read what o says; where that is a content, Lies says how it lies in the tables
+-- a function that answers r has read what o says; where that is a content, Stored says how it lies in the tables
 pub record ReadInto {C : Type 0} (o : Outcome (C × ℕ)) (r : Step) (Stored : C → Type 0) : Type 0 where
   pub step : stepped r ≡ then o (λ x. ok (x .1))
   pub stored : (x : C × ℕ) → o ≡ ok x → Stored (x .0)
