@@ -11,11 +11,11 @@ use Rattle.setup.specs.Content.{Setup}
 use Rattle.audio.specs.declared.Head.{Head}
 use Rattle.audio.specs.declared.Tally.{Tally}
 use Rattle.audio.specs.Head.{headOf}
-use Rattle.audio.specs.Packet.{Audio, bodyAt, headRun, audio}
+use Rattle.audio.specs.Packet.{bodyAt, headRun, audio}
 use Rattle.audio.specs.Tally.{tallySound}
 use Rattle.audio.specs.Call.{Room, Accepted, judged, accepted}
-use Rattle.audio_call.specs.declared.judge.Judged.{Judged}
-use Rattle.audio_call.specs.inner.Judged.{refusedBy, judgement, JudgedIs}
+use Rattle.audio_settle.specs.declared.Judged.{Judged}
+use Rattle.audio_settle.specs.inner.Judged.{refusedBy, judgement, JudgedIs}
 use Rattle.audio_call.proofs.PacketLaws.{bad-ok}
 
 module _ (i : Identity) (c : Setup) (t : Tally) (s : List ℕ) (entry list : List ℕ) where

@@ -1,20 +1,17 @@
 -- By tables that are sound, floors, residues and the whole body are those of the content. Assumes nothing.
-use Prim.Native.Nat.{ℕ, zero, suc, _+_, _/_, _≤_, _<_}
+use Prim.Native.Nat.{ℕ, _/_, _≤_, _<_}
 use native.Mathlib.Omega.{arith}
-use mathlib.Core.Bool.{Bool}
-use mathlib.Core.List.{List, [], _∷_, _++_, map}
-use mathlib.Core.Path.{_≡_, refl, ap, sym, subst, _∙_}
+use mathlib.Core.List.{List, map}
+use mathlib.Core.Path.{_≡_, ap, subst, _∙_}
 use lib.ListN.{length, getD}
-use Rattle.reading.specs.Tabulate.{tabulate}
 use Rattle.limits.specs.declared.Limits.{Limits}
-use Rattle.book_codeword.specs.inner.Stored.{lengthsIn, dimensionsIn}
+use Rattle.book_codeword.specs.inner.Stored.{lengthsIn}
 use Rattle.floor.specs.Content.{Floor, noFloor}
 use Rattle.floor_values.specs.inner.Stored.{floorIn}
-use Rattle.residue.specs.Content.{Residue, noResidue}
+use Rattle.residue.specs.Content.{noResidue}
 use Rattle.residue_pass.specs.inner.Readable.{residueIn}
-use Rattle.mapping.specs.Content.{Mapping, Submap, noSubmap, noMapping}
+use Rattle.mapping.specs.Content.{Mapping, noSubmap, noMapping}
 use Rattle.mapping_row.specs.inner.Readable.{mappingIn}
-use Rattle.mode.specs.Content.{noMode}
 use Rattle.setup.specs.Content.{Setup, lengthsOf, dimensionsOf}
 use Rattle.setup.specs.Layout.{Tables}
 use Rattle.requests.specs.Requests.{Requests, bind, each}
@@ -25,13 +22,13 @@ use Rattle.floor_requests.specs.Requests.{FloorRead, floorRequests}
 use Rattle.setup_rows.specs.inner.Rows.{RowsReadable}
 use Rattle.audio.specs.declared.Head.{Head}
 use Rattle.audio.specs.Head.{modeAt}
-use Rattle.audio.specs.Channels.{submapOf, floorNumber, floorsOf, isUsed, coupled, submapRequests, allRequests}
+use Rattle.audio.specs.Channels.{submapOf, floorNumber, floorsOf, isUsed, coupled, allRequests}
 use Rattle.audio.specs.Packet.{mappingOf, channelFloors, residuesAfter, bodyRequests}
 use Rattle.audio_floors.proofs.Agreement.{floors-agree}
 use Rattle.audio_residues.proofs.RequestLaws.{same-residues}
 use Rattle.audio_residues.specs.inner.Reading.{residueNumber}
-use Rattle.audio_call.specs.declared.body.BodyRead.{BodyRead}
-use Rattle.audio_call.specs.inner.Body.{floorsIn, residuesIn, bodyIn, BodyIs, BodyReadable}
+use Rattle.audio_body.specs.declared.BodyRead.{BodyRead}
+use Rattle.audio_body.specs.inner.Body.{floorsIn, residuesIn, bodyIn, BodyIs, BodyReadable}
 
 module _ {limits : Limits} {channels : ℕ} {t : Tables} {c : Setup} (x : RowsReadable limits channels t c) (few : limits .«book_entries» ≤ 65536) (h : Head) (set-up : h .mode < length (c .modes)) where
   -- the number of the mode's mapping

@@ -2,7 +2,7 @@
 use Prim.Native.Nat.{ℕ, _+_, _*_, _/_, _≤_, _<_}
 use native.Mathlib.Omega.{arith}
 use mathlib.Core.List.{List}
-use mathlib.Core.Path.{_≡_, refl, ap, sym, subst, _∙_}
+use mathlib.Core.Path.{_≡_, sym, subst, _∙_}
 use lib.ListN.{length, getD}
 use Rattle.identification.specs.declared.Identity.{Identity}
 use Rattle.book_codeword.specs.inner.Stored.{lengthsIn}
@@ -22,11 +22,11 @@ use Rattle.audio.specs.Packet.{channelFloors, bodyRequests}
 use Rattle.audio.specs.Tally.{counted}
 use Rattle.setup.specs.Content.{lengthsOf}
 use Rattle.audio.specs.Call.{roomOf}
-use Rattle.audio_call.specs.declared.body.BodyRead.{BodyRead}
-use Rattle.audio_call.specs.declared.judge.Judged.{Judged}
+use Rattle.audio_body.specs.declared.BodyRead.{BodyRead}
+use Rattle.audio_settle.specs.declared.Judged.{Judged}
 use Rattle.audio_call.specs.inner.Ready.{Ready}
-use Rattle.audio_call.specs.inner.Body.{floorsIn, bodyIn, BodyIs, BodyReadable}
-use Rattle.audio_call.specs.inner.Judged.{refusedBy, finishedBy, JudgedIs, afterHead, HeadIs}
+use Rattle.audio_body.specs.inner.Body.{floorsIn, bodyIn, BodyIs, BodyReadable}
+use Rattle.audio_settle.specs.inner.Judged.{refusedBy, finishedBy, JudgedIs, afterHead, HeadIs}
 use Rattle.audio_call.proofs.ContentLaws.{body-readable, body-content}
 use Rattle.audio_call.proofs.PacketLaws.{no-curves-is, full-is, whole-is, cut-is}
 use Rattle.audio_call.proofs.ReadyLaws.{rows, channels-few, mode-set-up, mode-few, size-high, mapping-number}

@@ -1,17 +1,15 @@
 -- A packet judged, as the code asks it. Assumes nothing.
 use Prim.Native.Nat.{ℕ}
-use borrow.Author.Needs.{needs}
 use mathlib.Core.List.{List}
-use mathlib.Core.Path.{_≡_, refl, sym, ap, _∙_}
-use Rattle.reading.specs.Outcome.{refusal, Outcome, ok, bad}
+use mathlib.Core.Path.{_≡_, sym, ap, _∙_}
+use Rattle.reading.specs.Outcome.{Outcome}
 use Rattle.audio.specs.declared.Head.{Head}
 use Rattle.audio.specs.declared.Tally.{Tally}
-use Rattle.audio.specs.Tally.{counted}
 use Rattle.audio_tally.specs.declared.Counted.{Counted}
 use Rattle.audio_tally.specs.declared.Counted.the-variants as C
 use Rattle.audio_tally.specs.inner.Answers.{countedAs}
-use Rattle.audio_call.specs.declared.judge.Judged.{Judged}
-use Rattle.audio_call.specs.inner.Judged.{refusedBy, acceptedBy, finishedBy}
+use Rattle.audio_settle.specs.declared.Judged.{Judged}
+use Rattle.audio_settle.specs.inner.Judged.{refusedBy, acceptedBy, finishedBy}
 
 -- the tally's step
 module _ (f : ℕ → Outcome (Tally × ℕ)) {c : Counted} (e : (stop : ℕ) → countedAs c ≡ f stop) where

@@ -2,13 +2,12 @@
 use Prim.Native.Nat.{ℕ, _≤_}
 use mathlib.Core.Bool.{Bool, true, false, not}
 use mathlib.Core.List.{List}
-use mathlib.Core.Path.{_≡_, refl, ap, sym, _∙_}
+use mathlib.Core.Path.{_≡_, ap, sym, _∙_}
 use borrow.Author.Tests.{not-true, not-false}
 use lib.ListN.{getD}
-use Rattle.reading.specs.Outcome.{Outcome, ok, bad}
 use Rattle.bits.specs.declared.Cursor.{Cursor}
 use Rattle.bits.specs.declared.Refusal.{Refusal}
-use Rattle.bits.specs.inner.Cursors.{position, refusalOf}
+use Rattle.bits.specs.inner.Cursors.{position}
 use Rattle.identification.specs.declared.Identity.{Identity}
 use Rattle.mode.specs.Content.{Mode}
 use Rattle.setup.specs.Content.{Setup, lengthsOf}
@@ -26,9 +25,9 @@ use Rattle.audio_head.specs.declared.HeadRead.the-variants as H
 use Rattle.audio_head.specs.inner.Readers.{modesIn}
 use Rattle.audio_head.specs.inner.Answers.{headRead}
 use Rattle.audio_head.proofs.RunLaws.{modes-decoded}
-use Rattle.audio_call.specs.declared.judge.Judged.{Judged}
+use Rattle.audio_settle.specs.declared.Judged.{Judged}
 use Rattle.audio_call.specs.inner.Ready.{Ready}
-use Rattle.audio_call.specs.inner.Judged.{refusedBy, JudgedIs, afterHead, HeadIs}
+use Rattle.audio_settle.specs.inner.Judged.{refusedBy, JudgedIs, afterHead, HeadIs}
 use Rattle.audio_call.proofs.AcceptedLaws.{tally-refused, head-refused, head-read}
 use Rattle.audio_call.proofs.ReadyLaws.{modes-counted}
 

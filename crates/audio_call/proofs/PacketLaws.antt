@@ -2,7 +2,7 @@
 use Prim.Native.Nat.{ℕ, zero, suc, _+_, _*_, _/_, _≤_, _<_}
 use native.Mathlib.Nat.{zero-mul, suc-mul}
 use native.Mathlib.Omega.{arith}
-use borrow.Author.Tests.{leb-true, leb-false, lt-leb, le-leb}
+use borrow.Author.Tests.{lt-leb, le-leb}
 use mathlib.Core.Bool.{Bool, true, false, cond}
 use mathlib.Core.List.{List, [], _∷_, _++_, map}
 use mathlib.Core.Option.{Option, none, some}
@@ -13,7 +13,6 @@ use lib.Seq.{sets, length-sets}
 use Rattle.reading.specs.Least.{one}
 use Rattle.reading.specs.Outcome.{Refusal, refusal, Outcome, ok, bad, then, need}
 use Rattle.reading.specs.Pad.{pad}
-use Rattle.reading.specs.Reader.{Reader}
 use Rattle.reading.specs.Tabulate.{tabulate}
 use Rattle.reading.proofs.Outcomes.{ok-is}
 use Rattle.reading.proofs.Tabulate.{tabulate-length}
@@ -21,30 +20,29 @@ use Rattle.identification.specs.declared.Identity.{Identity}
 use Rattle.floor.specs.Content.{Floor, noFloor}
 use Rattle.mode.specs.Content.{Mode}
 use Rattle.setup.specs.Content.{Setup, lengthsOf}
-use Rattle.requests.specs.Requests.{Request, number, done, request, bind}
+use Rattle.requests.specs.Requests.{number, done, request}
 use Rattle.requests.specs.Run.{read, Item, Run, run}
-use Rattle.requests.specs.Values.{unlessCut, wholeValues}
+use Rattle.requests.specs.Values.{wholeValues}
 use Rattle.floor_requests.specs.Requests.{FloorRead, floorRequests}
 use Rattle.residue_requests.specs.Listed.{residueWords, listed}
-use Rattle.codeword_list.specs.inner.ListRead.{Ending, all, cut, full, endingOf, endingBy}
-use Rattle.codeword_list.specs.declared.ListRead.{ListRead}
+use Rattle.codeword_list.specs.inner.ListRead.{all, cut, full, endingOf, endingBy}
 use Rattle.codeword_list.specs.declared.ListRead.the-variants as L
 use Rattle.codeword_list.specs.declared.Progress.{Progress}
 use Rattle.audio.specs.declared.Head.{Head}
 use Rattle.audio.specs.declared.Tally.{Tally}
-use Rattle.audio.specs.Head.{flagRequests, modeRequests, headRequests, headOf}
+use Rattle.audio.specs.Head.{flagRequests, modeRequests, headRequests}
 use Rattle.audio.specs.Channels.{floorNumber, floorsOf, isUsed}
-use Rattle.audio.specs.Packet.{Audio, mappingOf, byChannel, channelFloors, bodyRequests, bodyAt, headRun, audio}
-use Rattle.audio.specs.Tally.{tallySound, counted}
+use Rattle.audio.specs.Packet.{Audio, mappingOf, byChannel, channelFloors, bodyRequests, bodyAt, headRun}
+use Rattle.audio.specs.Tally.{counted}
 use Rattle.audio.specs.Curves.{curveOf, curvesOf}
-use Rattle.audio.specs.Call.{Room, Accepted, judged, accepted}
+use Rattle.audio.specs.Call.{Room, Accepted, judged}
 use Rattle.audio_floors.proofs.Agreement.{flags-agree, whole-few}
 use Rattle.audio_floors.proofs.FloorsLaws.{curve-long}
-use Rattle.audio_call.specs.declared.body.BodyRead.{BodyRead}
-use Rattle.audio_call.specs.declared.judge.Judged.{Judged}
-use Rattle.audio_call.specs.inner.Body.{endingWords, BodyIs}
-use Rattle.audio_call.specs.inner.Judged.{refusedBy, acceptedBy, finishedBy, judgement, curvesBy, JudgedIs}
-use Rattle.audio_call.proofs.BodyWords.{Asks, asks-bind, asks-done, asks-if, asks-request, run-kept, words-append}
+use Rattle.audio_body.specs.declared.BodyRead.{BodyRead}
+use Rattle.audio_settle.specs.declared.Judged.{Judged}
+use Rattle.audio_body.specs.inner.Body.{endingWords, BodyIs}
+use Rattle.audio_settle.specs.inner.Judged.{refusedBy, acceptedBy, finishedBy, judgement, curvesBy, JudgedIs}
+use Rattle.audio_body.proofs.BodyWords.{Asks, asks-bind, asks-done, asks-if, asks-request, run-kept, words-append}
 
 -- no field of the head is a codeword
 flags-ask : (i : Identity) (mode blockflag : ℕ) → Asks false (flagRequests i mode blockflag)

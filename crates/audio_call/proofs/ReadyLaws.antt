@@ -1,12 +1,9 @@
 -- Tables that are ready, and a head that was read by them: what the functions of this crate ask of each other. Assumes nothing.
-use Prim.Native.Nat.{ℕ, _+_, _*_, _/_, _≤_, _<_}
+use Prim.Native.Nat.{ℕ, _+_, _*_, _≤_, _<_}
 use native.Mathlib.Omega.{arith}
-use mathlib.Core.Bool.{true}
 use mathlib.Core.List.{List}
-use mathlib.Core.Path.{_≡_, refl, ap, sym, subst, _∙_}
+use mathlib.Core.Path.{_≡_}
 use lib.ListN.{length, getD}
-use Rattle.reading.specs.Outcome.{ok}
-use Rattle.limits.specs.declared.Limits.{Limits}
 use Rattle.identification.specs.declared.Identity.{Identity}
 use Rattle.identification.specs.Sound as I
 use Rattle.mode.specs.Layout.{modeWidth}
@@ -21,7 +18,7 @@ use Rattle.audio.specs.Head.{blockSize, modeAt}
 use Rattle.audio_head.specs.inner.Known.{HeadKnown}
 use Rattle.audio_head.proofs.KnownLaws.{head-known}
 use Rattle.audio_call.specs.inner.Ready.{Ready}
-use Rattle.audio_call.specs.inner.Judged.{HeadIs}
+use Rattle.audio_settle.specs.inner.Judged.{HeadIs}
 use Rattle.audio_call.proofs.HeadLaws.{block-high}
 
 module _ (i : Identity) (t : Tables) (x : Ready i t) where

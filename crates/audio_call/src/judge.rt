@@ -1,9 +1,10 @@
 // An audio packet judged: the head, then room, floors, residues and the tally, in 01's order.
-use super::body::read_body;
-use super::size::curve_bytes;
 use audio::Head;
 use audio::Tally;
+use audio_body::read_body;
 use audio_head::HeadRead;
+use audio_settle::Judged;
+use audio_settle::size::curve_bytes;
 use audio_tally::Counted;
 use bits::Cursor;
 use bits::Refusal;
@@ -21,22 +22,7 @@ ghost use Rattle.setup.specs.inner.Decode.{decodeSetup};
 ghost use Rattle.audio.specs.Tally.{counted};
 ghost use Rattle.audio.specs.Call.{accepted, roomOf};
 ghost use Rattle.audio_call.specs.inner.Ready.{Ready};
-ghost use Rattle.audio_call.specs.inner.Judged.{finishedBy, refusedBy, afterHead, HeadIs, JudgedIs};
-
-// What judging a packet comes to.
-pub struct Judged {
-    // Whether the packet is accepted; else 01's number of the refusal, and all below is zero.
-    pub accepted: bool,
-    pub refusal: u32,
-    pub head: Head,
-    // For each channel 1 where its floor is used; zeros behind the last channel.
-    pub used: [u8; 255],
-    // How many codewords stand in the list.
-    pub words: usize,
-    // The samples that the packet finishes, and the tally after it.
-    pub samples: u64,
-    pub tally: Tally,
-}
+ghost use Rattle.audio_settle.specs.inner.Judged.{finishedBy, refusedBy, afterHead, HeadIs, JudgedIs};
 
 // A refusal.
 fn refused(refusal: u32) -> Judged

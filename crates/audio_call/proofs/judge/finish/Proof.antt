@@ -2,10 +2,6 @@ use Rattle.audio_call.proofs.JudgeLaws.{finish-refused, finish-value}
 use borrow.Author.Needs.{needs}
 use Rattle.audio_call.proofs.judge.finish.Statement.{statement}
 use Rattle.audio_call.proofs.judge.finish.Tie as tie
-use Rattle.audio_call.proofs.judge.finish.Reads as reads
-use Rattle.audio_call.proofs.judge.finish.Lts as lts
-use Rattle.audio_call.proofs.judge.refused.Reads as refused-reads
-use Rattle.audio_tally.proofs.count.Reads as count-reads
 
 -- src/judge.rt:57:11
 count-requires : tie.Need-count-requires
