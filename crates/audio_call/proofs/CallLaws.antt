@@ -18,9 +18,9 @@ use Rattle.setup.specs.Later.{laterCall}
 use Rattle.audio.specs.declared.Tally.{Tally}
 use Rattle.audio.specs.Call.{Room, Left, accepted, answered, audioBy, audioCall, roomOf}
 use Rattle.audio_settle.specs.declared.Judged.{Judged}
-use Rattle.audio_call.specs.inner.Ready.{Ready}
+use Rattle.audio_judge.specs.inner.Ready.{Ready}
 use Rattle.audio_settle.specs.inner.Judged.{JudgedIs, ZeroFrom, refusedLeft, settled}
-use Rattle.audio_call.proofs.ReadyLaws.{channels-few, first-high}
+use Rattle.audio_judge.proofs.ReadyLaws.{channels-few, first-high}
 use Rattle.audio_settle.proofs.SettleLaws.{settled-is, zero-past}
 
 -- THE INNER DOOR

@@ -1,9 +1,1 @@
-pub mod ContentLaws
-pub mod JudgeLaws
-pub mod PacketLaws
-pub mod HeadLaws
-pub mod AcceptedLaws
-pub mod ReadyLaws
-pub mod JudgeBodyLaws
-pub mod JudgeWholeLaws
 pub mod CallLaws

@@ -1,8 +1,8 @@
--- `audio_call::judge::judge_body` meets its contract, by JudgeBodyLaws: one law for each way out. Assumes nothing.
-use Rattle.audio_call.proofs.JudgeBodyLaws.{sizes-asked, mode-asked, body-asked, judged-no-room, judged-full, judged-whole, judged-cut}
+-- `audio_judge::judge_body` meets its contract, by JudgeBodyLaws: one law for each way out. Assumes nothing.
+use Rattle.audio_judge.proofs.JudgeBodyLaws.{sizes-asked, mode-asked, body-asked, judged-no-room, judged-full, judged-whole, judged-cut}
 use borrow.Author.Needs.{needs}
-use Rattle.audio_call.proofs.judge.judge_body.Statement.{statement}
-use Rattle.audio_call.proofs.judge.judge_body.Tie as tie
+use Rattle.audio_judge.proofs.judge_body.Statement.{statement}
+use Rattle.audio_judge.proofs.judge_body.Tie as tie
 
 curve-bytes-requires : tie.Need-curve-bytes-requires
 curve-bytes-requires c κs = sizes-asked _ _ (c .before .before .before .before .before .before .before .before .before .before .before .before .before .pre .0) _ _ _ (c .before .before .before .before .before .before .before .before .before .before .before .before .before .pre .1)

@@ -1,8 +1,8 @@
--- `audio_call::judge::judge` meets its contract, by JudgeWholeLaws: one law for each way out. Assumes nothing.
-use Rattle.audio_call.proofs.JudgeWholeLaws.{modes-asked, judged-unsound, judged-head-refused, head-asked, judged-head-read}
+-- `audio_judge::judge` meets its contract, by JudgeWholeLaws: one law for each way out. Assumes nothing.
+use Rattle.audio_judge.proofs.JudgeWholeLaws.{modes-asked, judged-unsound, judged-head-refused, head-asked, judged-head-read}
 use borrow.Author.Needs.{needs}
-use Rattle.audio_call.proofs.judge.judge.Statement.{statement}
-use Rattle.audio_call.proofs.judge.judge.Tie as tie
+use Rattle.audio_judge.proofs.judge.Statement.{statement}
+use Rattle.audio_judge.proofs.judge.Tie as tie
 
 is-sound-requires : tie.Need-is-sound-requires
 is-sound-requires c κs = search needs

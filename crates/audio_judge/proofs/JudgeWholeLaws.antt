@@ -26,10 +26,10 @@ use Rattle.audio_head.specs.inner.Readers.{modesIn}
 use Rattle.audio_head.specs.inner.Answers.{headRead}
 use Rattle.audio_head.proofs.RunLaws.{modes-decoded}
 use Rattle.audio_settle.specs.declared.Judged.{Judged}
-use Rattle.audio_call.specs.inner.Ready.{Ready}
+use Rattle.audio_judge.specs.inner.Ready.{Ready}
 use Rattle.audio_settle.specs.inner.Judged.{refusedBy, JudgedIs, afterHead, HeadIs}
-use Rattle.audio_call.proofs.AcceptedLaws.{tally-refused, head-refused, head-read}
-use Rattle.audio_call.proofs.ReadyLaws.{modes-counted}
+use Rattle.audio_judge.proofs.AcceptedLaws.{tally-refused, head-refused, head-read}
+use Rattle.audio_judge.proofs.ReadyLaws.{modes-counted}
 
 module _ (i : Identity) (t : Tables) (x : Ready i t) where
   -- how many modes there are

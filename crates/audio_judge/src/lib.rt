@@ -21,7 +21,7 @@ ghost use Rattle.setup.specs.Handed.{handed};
 ghost use Rattle.setup.specs.inner.Decode.{decodeSetup};
 ghost use Rattle.audio.specs.Tally.{counted};
 ghost use Rattle.audio.specs.Call.{accepted, roomOf};
-ghost use Rattle.audio_call.specs.inner.Ready.{Ready};
+ghost use Rattle.audio_judge.specs.inner.Ready.{Ready};
 ghost use Rattle.audio_settle.specs.inner.Judged.{finishedBy, refusedBy, afterHead, HeadIs, JudgedIs};
 
 // A refusal.

@@ -24,12 +24,12 @@ use Rattle.setup.specs.Content.{lengthsOf}
 use Rattle.audio.specs.Call.{roomOf}
 use Rattle.audio_body.specs.declared.BodyRead.{BodyRead}
 use Rattle.audio_settle.specs.declared.Judged.{Judged}
-use Rattle.audio_call.specs.inner.Ready.{Ready}
+use Rattle.audio_judge.specs.inner.Ready.{Ready}
 use Rattle.audio_body.specs.inner.Body.{floorsIn, bodyIn, BodyIs, BodyReadable}
 use Rattle.audio_settle.specs.inner.Judged.{refusedBy, finishedBy, JudgedIs, afterHead, HeadIs}
-use Rattle.audio_call.proofs.ContentLaws.{body-readable, body-content}
-use Rattle.audio_call.proofs.PacketLaws.{no-curves-is, full-is, whole-is, cut-is}
-use Rattle.audio_call.proofs.ReadyLaws.{rows, channels-few, mode-set-up, mode-few, size-high, mapping-number}
+use Rattle.audio_judge.proofs.ContentLaws.{body-readable, body-content}
+use Rattle.audio_judge.proofs.PacketLaws.{no-curves-is, full-is, whole-is, cut-is}
+use Rattle.audio_judge.proofs.ReadyLaws.{rows, channels-few, mode-set-up, mode-few, size-high, mapping-number}
 
 module _ (i : Identity) (t : Tables) (x : Ready i t) (s : List ℕ) (h : Head) (k : ℕ) (e : HeadIs i (decodeSetup t) s h k) where
   abbrev c : Setup

@@ -17,9 +17,9 @@ use Rattle.audio.specs.declared.Head.{Head}
 use Rattle.audio.specs.Head.{blockSize, modeAt}
 use Rattle.audio_head.specs.inner.Known.{HeadKnown}
 use Rattle.audio_head.proofs.KnownLaws.{head-known}
-use Rattle.audio_call.specs.inner.Ready.{Ready}
+use Rattle.audio_judge.specs.inner.Ready.{Ready}
 use Rattle.audio_settle.specs.inner.Judged.{HeadIs}
-use Rattle.audio_call.proofs.HeadLaws.{block-high}
+use Rattle.audio_judge.proofs.HeadLaws.{block-high}
 
 module _ (i : Identity) (t : Tables) (x : Ready i t) where
   abbrev content : Setup

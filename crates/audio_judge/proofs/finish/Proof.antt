@@ -1,7 +1,7 @@
-use Rattle.audio_call.proofs.JudgeLaws.{finish-refused, finish-value}
+use Rattle.audio_judge.proofs.JudgeLaws.{finish-refused, finish-value}
 use borrow.Author.Needs.{needs}
-use Rattle.audio_call.proofs.judge.finish.Statement.{statement}
-use Rattle.audio_call.proofs.judge.finish.Tie as tie
+use Rattle.audio_judge.proofs.finish.Statement.{statement}
+use Rattle.audio_judge.proofs.finish.Tie as tie
 
 -- src/judge.rt:57:11
 count-requires : tie.Need-count-requires

@@ -16,7 +16,7 @@ use Rattle.audio.specs.Tally.{tallySound}
 use Rattle.audio.specs.Call.{Room, Accepted, judged, accepted}
 use Rattle.audio_settle.specs.declared.Judged.{Judged}
 use Rattle.audio_settle.specs.inner.Judged.{refusedBy, judgement, JudgedIs}
-use Rattle.audio_call.proofs.PacketLaws.{bad-ok}
+use Rattle.audio_judge.proofs.PacketLaws.{bad-ok}
 
 module _ (i : Identity) (c : Setup) (t : Tally) (s : List ℕ) (entry list : List ℕ) where
   abbrev room : Room
