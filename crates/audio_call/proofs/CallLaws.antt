@@ -3,7 +3,7 @@ use Prim.Native.Nat.{ℕ, _≤_}
 use native.Mathlib.Omega.{arith}
 use mathlib.Core.Bool.{Bool, true, false, not}
 use mathlib.Core.List.{List}
-use mathlib.Core.Path.{_≡_, refl, ap, sym, _∙_}
+use mathlib.Core.Path.{_≡_, ap, sym, _∙_}
 use borrow.Author.Tests.{not-true, not-false}
 use lib.ListN.{length}
 use Rattle.reading.specs.Outcome.{refusal, need}
@@ -17,11 +17,11 @@ use Rattle.setup.specs.SoundTest.{soundTest}
 use Rattle.setup.specs.Later.{laterCall}
 use Rattle.audio.specs.declared.Tally.{Tally}
 use Rattle.audio.specs.Call.{Room, Left, accepted, answered, audioBy, audioCall, roomOf}
-use Rattle.audio_call.specs.declared.judge.Judged.{Judged}
-use Rattle.audio_call.specs.inner.Ready.{Ready}
-use Rattle.audio_call.specs.inner.Judged.{JudgedIs, ZeroFrom, refusedLeft, settled}
-use Rattle.audio_call.proofs.ReadyLaws.{channels-few, first-high}
-use Rattle.audio_call.proofs.SettleLaws.{settled-is, zero-past}
+use Rattle.audio_settle.specs.declared.Judged.{Judged}
+use Rattle.audio_judge.specs.inner.Ready.{Ready}
+use Rattle.audio_settle.specs.inner.Judged.{JudgedIs, ZeroFrom, refusedLeft, settled}
+use Rattle.audio_judge.proofs.ReadyLaws.{channels-few, first-high}
+use Rattle.audio_settle.proofs.SettleLaws.{settled-is, zero-past}
 
 -- THE INNER DOOR
 module _ (i : Identity) (t : Tables) (x : Ready i t) (tally : Tally) (s entry list : List ℕ) {r : Judged} {exit list′ : List ℕ}

@@ -1,14 +1,1 @@
-pub mod BodyWords
-pub mod ClearLaws
-pub mod ContentLaws
-pub mod BodyLaws
-pub mod JudgeLaws
-pub mod PacketLaws
-pub mod HeadLaws
-pub mod AcceptedLaws
-pub mod SettleLaws
-pub mod BodyReadLaws
-pub mod ReadyLaws
-pub mod JudgeBodyLaws
-pub mod JudgeWholeLaws
 pub mod CallLaws

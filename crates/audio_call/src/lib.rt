@@ -1,10 +1,4 @@
 // THE AUDIO CALL, twice: for tables that are known to be sound, as a caller has them from its own setup; and for any tables, which are judged first.
-pub mod body; // floors and residues
-pub mod clear; // places of an output that an earlier packet left
-pub mod judge; // a packet judged, in 01's order
-pub mod settle; // what a call leaves
-pub mod size; // how many curve bytes a packet has
-
 use audio::AudioLeft;
 use audio::Tally;
 use identification::Identity;
@@ -17,8 +11,8 @@ ghost use Rattle.setup.specs.Handed.{handed};
 ghost use Rattle.setup.specs.inner.Decode.{decodeSetup};
 ghost use Rattle.setup.specs.inner.Parts.{Small};
 ghost use Rattle.audio.specs.Call.{audioBy, audioCall, roomOf, leftOf};
-ghost use Rattle.audio_call.specs.inner.Ready.{Ready};
-ghost use Rattle.audio_call.specs.inner.Judged.{ZeroFrom};
+ghost use Rattle.audio_judge.specs.inner.Ready.{Ready};
+ghost use Rattle.audio_settle.specs.inner.Judged.{ZeroFrom};
 
 // THE INNER DOOR, for a caller whose tables its own setup call left: nothing is judged again. Only the first `curves_end` curve bytes and `words_end` places of
 // the list may hold something: that is what the packet before left, and only that is cleared.
@@ -47,7 +41,7 @@ pub fn read_packet(
         ≡ audioBy (decodeSetup (handed counts books lengths codewords multiplicands floors residues plans mappings modes)) identity tally
         (now (packet .entry)) (roomOf (now (curves .entry)) (now (words .entry))) ⌝ }
 {
-    let judged = judge::judge(
+    let judged = audio_judge::judge(
         tally,
         identity,
         counts,
@@ -64,7 +58,7 @@ pub fn read_packet(
         curves,
         words,
     );
-    settle::settle(
+    audio_settle::settle(
         identity,
         tally,
         judged,
@@ -114,7 +108,7 @@ pub fn read_audio(
         modes,
     );
     if !sound {
-        return settle::refuse(18, tally, curves, words);
+        return audio_settle::refuse(18, tally, curves, words);
     }
     let curves_end = curves.len();
     let words_end = words.len();

@@ -1,0 +1,3 @@
+pub mod BodyWords
+pub mod BodyLaws
+pub mod BodyReadLaws
