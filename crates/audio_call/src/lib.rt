@@ -6,12 +6,11 @@ use limits::Limits;
 ghost use Prim.Native.Nat.{_≤_};
 ghost use mathlib.Core.Path.{_≡_};
 ghost use Rattle.limits.specs.Standard.{standard};
-ghost use Rattle.setup.specs.Layout.{tables};
 ghost use Rattle.setup.specs.Handed.{handed};
 ghost use Rattle.setup.specs.inner.Decode.{decodeSetup};
 ghost use Rattle.setup.specs.inner.Parts.{Small};
 ghost use Rattle.audio.specs.Call.{audioBy, audioCall, roomOf, leftOf};
-ghost use Rattle.audio_judge.specs.inner.Ready.{Ready};
+ghost use Rattle.audio_judge.specs.inner.Ready.{Ready, lentTables};
 ghost use Rattle.audio_settle.specs.inner.Judged.{ZeroFrom};
 
 // THE INNER DOOR, for a caller whose tables its own setup call left: nothing is judged again. Only the first `curves_end` curve bytes and `words_end` places of
@@ -35,7 +34,7 @@ pub fn read_packet(
     curves_end: usize,
     words_end: usize,
 ) -> AudioLeft
-    requires { ⌜ Ready identity (tables (now counts) (now books) (now lengths) (now codewords) (now multiplicands) (now floors) (now residues) (now plans) (now mappings) (now modes))
+    requires { ⌜ Ready identity (lentTables counts books lengths codewords multiplicands floors residues plans mappings modes)
         × ZeroFrom «curves_end» (now curves) × ZeroFrom «words_end» (now words) ⌝ }
     ensures { λ r. ⌜ leftOf (r .answer) (r .tally) (now (curves .exit)) (now (words .exit))
         ≡ audioBy (decodeSetup (handed counts books lengths codewords multiplicands floors residues plans mappings modes)) identity tally

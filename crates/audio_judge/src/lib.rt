@@ -16,12 +16,11 @@ ghost use mathlib.Core.Path.{_≡_};
 ghost use lib.ListN.{getD};
 ghost use Rattle.bits.specs.inner.Cursors.{position};
 ghost use Rattle.mode.specs.Layout.{modeWidth};
-ghost use Rattle.setup.specs.Layout.{tables};
 ghost use Rattle.setup.specs.Handed.{handed};
 ghost use Rattle.setup.specs.inner.Decode.{decodeSetup};
 ghost use Rattle.audio.specs.Tally.{counted};
 ghost use Rattle.audio.specs.Call.{accepted, roomOf};
-ghost use Rattle.audio_judge.specs.inner.Ready.{Ready};
+ghost use Rattle.audio_judge.specs.inner.Ready.{Ready, lentTables};
 ghost use Rattle.audio_settle.specs.inner.Judged.{finishedBy, refusedBy, afterHead, HeadIs, JudgedIs};
 
 // A refusal.
@@ -98,9 +97,9 @@ fn judge_body(
     curves: &mut [u8],
     words: &mut [u32],
 ) -> Judged
-    requires { ⌜ Ready identity (tables (now counts) (now books) (now lengths) (now codewords) (now multiplicands) (now floors) (now residues) (now plans) (now mappings) (now modes))
+    requires { ⌜ Ready identity (lentTables counts books lengths codewords multiplicands floors residues plans mappings modes)
         × HeadIs identity
-        (decodeSetup (tables (now counts) (now books) (now lengths) (now codewords) (now multiplicands) (now floors) (now residues) (now plans) (now mappings) (now modes)))
+        (decodeSetup (lentTables counts books lengths codewords multiplicands floors residues plans mappings modes))
         (now packet) head (position from) ⌝ }
     ensures { λ r. ⌜ JudgedIs (identity .channels) (decodeSetup (handed counts books lengths codewords multiplicands floors residues plans mappings modes))
         (afterHead identity (decodeSetup (handed counts books lengths codewords multiplicands floors residues plans mappings modes)) tally
@@ -162,7 +161,7 @@ pub fn judge(
     curves: &mut [u8],
     words: &mut [u32],
 ) -> Judged
-    requires { ⌜ Ready identity (tables (now counts) (now books) (now lengths) (now codewords) (now multiplicands) (now floors) (now residues) (now plans) (now mappings) (now modes)) ⌝ }
+    requires { ⌜ Ready identity (lentTables counts books lengths codewords multiplicands floors residues plans mappings modes) ⌝ }
     ensures { λ r. ⌜ JudgedIs (identity .channels) (decodeSetup (handed counts books lengths codewords multiplicands floors residues plans mappings modes))
         (accepted identity tally (roomOf (now (curves .entry)) (now (words .entry))) (now (packet .entry))
         (decodeSetup (handed counts books lengths codewords multiplicands floors residues plans mappings modes)))

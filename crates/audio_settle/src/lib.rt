@@ -77,7 +77,8 @@ fn answer_of(identity: Identity, judged: Judged) -> AudioAnswer
 
 // A refusal.
 pub fn refuse(refusal: u32, tally: Tally, curves: &mut [u8], words: &mut [u32]) -> AudioLeft
-    ensures { λ r. ⌜ leftOf (r .answer) (r .tally) (now (curves .exit)) (now (words .exit)) ≡ refusedLeft refusal tally (now (curves .entry)) (now (words .entry)) ⌝ }
+    ensures { λ r. ⌜ leftOf (r .answer) (r .tally) (now (curves .exit)) (now (words .exit))
+        ≡ refusedLeft refusal tally (now (curves .entry)) (now (words .entry)) ⌝ }
 {
     clear_u8(curves);
     clear_u32(words);

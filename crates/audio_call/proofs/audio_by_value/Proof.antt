@@ -17,7 +17,10 @@ same-length-2 : tie.Need-same-length-2
 same-length-2 c = search needs
 
 returns : tie.Need-returns
-returns c = call-standard (c .before .before .before .before .before .before .before .standard .ensures) _ _ _ _ _ (c .before .before .before .before .read-audio .ensures)
+returns c =
+    let at1 = c .before .before .before .before in
+    let at2 = at1 .before .before .before in
+    call-standard (at2 .standard .ensures) _ _ _ _ _ (at1 .read-audio .ensures)
 
 pub audio-by-value-spec : {M : Type 1} → statement M
 audio-by-value-spec =

@@ -8,7 +8,10 @@ judge-requires : tie.Need-judge-requires
 judge-requires c κs = search needs
 
 settle-requires : tie.Need-settle-requires
-settle-requires c κs = settle-asked _ _ (c .before .before .before .before .before .before .before .before .before .before .before .before .before .before .before .before .before .before .before .before .before .before .pre .0) (c .before .before .before .before .before .before .before .before .before .before .before .before .before .before .before .before .before .before .before .before .before .before .args .tally) (c .before .before .before .before .before .before .before .before .before .before .before .before .before .before .before .before .before .before .before .before .before .before .args .packet .now) (c .before .before .before .before .before .before .before .before .before .before .before .before .before .before .before .before .before .before .before .before .before .before .args .curves .now) (c .before .before .before .before .before .before .before .before .before .before .before .before .before .before .before .before .before .before .before .before .before .before .args .words .now) (c .before .before .before .before .before .before .judge .ensures)
+settle-requires c κs =
+    let at1 = c .before .before .before .before .before .before in
+    let at2 = at1 .before .before .before .before .before .before .before .before .before .before .before .before .before .before .before .before in
+    settle-asked _ _ (at2 .pre .0) (at2 .args .tally) (at2 .args .packet .now) (at2 .args .curves .now) (at2 .args .words .now) (at1 .judge .ensures)
 
 same-length : tie.Need-same-length
 same-length c = search needs
@@ -17,7 +20,12 @@ same-length-2 : tie.Need-same-length-2
 same-length-2 c = search needs
 
 returns : tie.Need-returns
-returns c = packet-left _ _ (c .before .before .before .before .before .before .before .before .before .before .before .before .before .before .before .before .before .before .before .before .before .before .before .before .before .before .before .pre .0) (c .before .before .before .before .before .before .before .before .before .before .before .before .before .before .before .before .before .before .before .before .before .before .before .before .before .before .before .args .tally) (c .before .before .before .before .before .before .before .before .before .before .before .before .before .before .before .before .before .before .before .before .before .before .before .before .before .before .before .args .packet .now) (c .before .before .before .before .before .before .before .before .before .before .before .before .before .before .before .before .before .before .before .before .before .before .before .before .before .before .before .args .curves .now) (c .before .before .before .before .before .before .before .before .before .before .before .before .before .before .before .before .before .before .before .before .before .before .before .before .before .before .before .args .words .now) (c .before .before .before .before .before .before .before .before .before .before .before .judge .ensures) (c .before .before .before .before .before .before .before .before .before .before .before .before .before .before .before .before .before .before .before .before .before .before .before .before .before .before .before .pre .1) (c .before .before .before .before .before .before .before .before .before .before .before .before .before .before .before .before .before .before .before .before .before .before .before .before .before .before .before .pre .2) (c .before .before .before .before .settle .ensures)
+returns c =
+    let at1 = c .before .before .before .before in
+    let at2 = at1 .before .before .before .before .before .before .before in
+    let at3 = at2 .before .before .before .before .before .before .before .before .before .before .before .before .before .before .before .before in
+    packet-left _ _ (at3 .pre .0) (at3 .args .tally) (at3 .args .packet .now) (at3 .args .curves .now) (at3 .args .words .now) (at2 .judge .ensures)
+    (at3 .pre .1) (at3 .pre .2) (at1 .settle .ensures)
 
 pub read-packet-spec : {M : Type 1} → statement M
 read-packet-spec =
