@@ -154,7 +154,8 @@ struct torchvalley_audio_answer {
     uint8_t used[255];  /* for each channel 1 where its floor is used, else 0; zeros behind the last channel */
 };
 
-/* Reads an audio packet of a stream, by the tables that its setup packet left, and brings the tally up to date where it lies.
+/* Reads an audio packet of a stream, by the tables that its setup packet left, and brings the tally up to date where it lies. `table_codewords` is
+ * the list `codewords` of the tables; `codewords` is an output here.
  *
  * The tally is sound when both its numbers are 0, or its block size is one of the identity's two. It is read and written, and shares no byte with a
  * list of the call.
