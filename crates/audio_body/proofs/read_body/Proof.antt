@@ -29,7 +29,13 @@ same-length-3 : tie.Need-same-length-3
 same-length-3 c = search needs
 
 returns-2 : tie.Need-returns-2
-returns-2 c = body-whole _ _ _ _ _ _ _ _ _ _ _ (floors-at (c .before .before .before .before .before .before .before .before .before .before .before .before .wide-u32 .ensures) (c .before .before .before .before .before .before .before .before .before .before .read-floors .ensures)) _ (c .before .before .before .before .before .before .before .before .before .before .before .before .before .before .before .before .before .before .before .before .before .before .before .pre .0 .channels-few) (c .before .before .before .before .before .if1 .left) (c .before .before .read-residues .ensures)
+returns-2 c =
+    let at-read-residues = c .before .before in
+    let at-if1 = at-read-residues .before .before .before in
+    let at-read-floors = at-if1 .before .before .before .before .before in
+    let at-wide-u32 = at-read-floors .before .before in
+    let at-pre = at-wide-u32 .before .before .before .before .before .before .before .before .before .before .before in
+    body-whole _ _ _ _ _ _ _ _ _ _ _ (floors-at (at-wide-u32 .wide-u32 .ensures) (at-read-floors .read-floors .ensures)) _ (at-pre .pre .0 .channels-few) (at-if1 .if1 .left) (at-read-residues .read-residues .ensures)
 
 pub read-body-spec : {M : Type 1} → statement M
 read-body-spec =

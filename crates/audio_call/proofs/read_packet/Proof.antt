@@ -8,7 +8,10 @@ judge-requires : tie.Need-judge-requires
 judge-requires c κs = search needs
 
 settle-requires : tie.Need-settle-requires
-settle-requires c κs = settle-asked _ _ (c .before .before .before .before .before .before .before .before .before .before .before .before .before .before .before .before .before .before .before .before .before .before .pre .0) (c .before .before .before .before .before .before .before .before .before .before .before .before .before .before .before .before .before .before .before .before .before .before .args .tally) (c .before .before .before .before .before .before .before .before .before .before .before .before .before .before .before .before .before .before .before .before .before .before .args .packet .now) (c .before .before .before .before .before .before .before .before .before .before .before .before .before .before .before .before .before .before .before .before .before .before .args .curves .now) (c .before .before .before .before .before .before .before .before .before .before .before .before .before .before .before .before .before .before .before .before .before .before .args .words .now) (c .before .before .before .before .before .before .judge .ensures)
+settle-requires c κs =
+    let at-judge = c .before .before .before .before .before .before in
+    let at-pre = at-judge .before .before .before .before .before .before .before .before .before .before .before .before .before .before .before .before in
+    settle-asked _ _ (at-pre .pre .0) (at-pre .args .tally) (at-pre .args .packet .now) (at-pre .args .curves .now) (at-pre .args .words .now) (at-judge .judge .ensures)
 
 same-length : tie.Need-same-length
 same-length c = search needs
@@ -17,7 +20,11 @@ same-length-2 : tie.Need-same-length-2
 same-length-2 c = search needs
 
 returns : tie.Need-returns
-returns c = packet-left _ _ (c .before .before .before .before .before .before .before .before .before .before .before .before .before .before .before .before .before .before .before .before .before .before .before .before .before .before .before .pre .0) (c .before .before .before .before .before .before .before .before .before .before .before .before .before .before .before .before .before .before .before .before .before .before .before .before .before .before .before .args .tally) (c .before .before .before .before .before .before .before .before .before .before .before .before .before .before .before .before .before .before .before .before .before .before .before .before .before .before .before .args .packet .now) (c .before .before .before .before .before .before .before .before .before .before .before .before .before .before .before .before .before .before .before .before .before .before .before .before .before .before .before .args .curves .now) (c .before .before .before .before .before .before .before .before .before .before .before .before .before .before .before .before .before .before .before .before .before .before .before .before .before .before .before .args .words .now) (c .before .before .before .before .before .before .before .before .before .before .before .judge .ensures) (c .before .before .before .before .before .before .before .before .before .before .before .before .before .before .before .before .before .before .before .before .before .before .before .before .before .before .before .pre .1) (c .before .before .before .before .before .before .before .before .before .before .before .before .before .before .before .before .before .before .before .before .before .before .before .before .before .before .before .pre .2) (c .before .before .before .before .settle .ensures)
+returns c =
+    let at-settle = c .before .before .before .before in
+    let at-judge = at-settle .before .before .before .before .before .before .before in
+    let at-pre = at-judge .before .before .before .before .before .before .before .before .before .before .before .before .before .before .before .before in
+    packet-left _ _ (at-pre .pre .0) (at-pre .args .tally) (at-pre .args .packet .now) (at-pre .args .curves .now) (at-pre .args .words .now) (at-judge .judge .ensures) (at-pre .pre .1) (at-pre .pre .2) (at-settle .settle .ensures)
 
 pub read-packet-spec : {M : Type 1} → statement M
 read-packet-spec =

@@ -11,13 +11,22 @@ refused-requires : tie.Need-refused-requires
 refused-requires c κs = search needs
 
 returns : tie.Need-returns
-returns c = judged-no-room _ _ (c .before .before .before .before .before .before .before .before .before .before .before .before .before .before .before .before .pre .0) _ _ _ (c .before .before .before .before .before .before .before .before .before .before .before .before .before .before .before .before .pre .1) _ _ _ (c .before .before .curve-bytes .ensures) (c .before .if1 .taken) (c .refused .ensures)
+returns c =
+    let at-if1 = c .before in
+    let at-curve-bytes = at-if1 .before in
+    let at-pre = at-curve-bytes .before .before .before .before .before .before .before .before .before .before .before .before .before .before in
+    judged-no-room _ _ (at-pre .pre .0) _ _ _ (at-pre .pre .1) _ _ _ (at-curve-bytes .curve-bytes .ensures) (at-if1 .if1 .taken) (c .refused .ensures)
 
 mapping-of-requires : tie.Need-mapping-of-requires
 mapping-of-requires c κs = mode-asked _ _ (c .before .before .before .before .before .before .before .before .before .before .before .before .before .before .before .pre .0) _ _ _ (c .before .before .before .before .before .before .before .before .before .before .before .before .before .before .before .pre .1)
 
 read-body-requires : tie.Need-read-body-requires
-read-body-requires c κs = body-asked _ _ (c .before .before .before .before .before .before .before .before .before .before .before .before .before .before .before .before .before .before .pre .0) _ _ _ (c .before .before .before .before .before .before .before .before .before .before .before .before .before .before .before .before .before .before .pre .1) (c .before .before .before .before .curve-bytes .ensures) (c .before .before .mapping-of .ensures) (c .before .before .before .if1 .left)
+read-body-requires c κs =
+    let at-mapping-of = c .before .before in
+    let at-if1 = at-mapping-of .before in
+    let at-curve-bytes = at-if1 .before in
+    let at-pre = at-curve-bytes .before .before .before .before .before .before .before .before .before .before .before .before .before .before in
+    body-asked _ _ (at-pre .pre .0) _ _ _ (at-pre .pre .1) (at-curve-bytes .curve-bytes .ensures) (at-mapping-of .mapping-of .ensures) (at-if1 .if1 .left)
 
 enum-known-ending : tie.Need-enum-known-ending
 enum-known-ending c = search needs
