@@ -8,10 +8,7 @@ wide-u32-requires : tie.Need-wide-u32-requires
 wide-u32-requires c κs = search needs
 
 read-floors-requires : tie.Need-read-floors-requires
-read-floors-requires c κs =
-    let at1 = c .before in
-    let at2 = at1 .before .before .before .before .before .before .before .before .before .before .before in
-    floors-asked (at2 .pre .0) (at1 .wide-u32 .ensures) (at2 .pre .1)
+read-floors-requires c κs = floors-asked (c .before .before .before .before .before .before .before .before .before .before .before .before .pre .0) (c .before .wide-u32 .ensures) (c .before .before .before .before .before .before .before .before .before .before .before .before .pre .1)
 
 same-length : tie.Need-same-length
 same-length c = search needs
@@ -23,10 +20,7 @@ slice-aggregate-read-residues : tie.Need-slice-aggregate-read-residues
 slice-aggregate-read-residues c = search needs
 
 read-residues-requires : tie.Need-read-residues-requires
-read-residues-requires c κs =
-    let at1 = c .before .before .before .before .before .before .before in
-    let at2 = at1 .before .before .before .before .before .before .before .before .before .before .before .before .before in
-    residues-asked (at2 .pre .0) _ (at1 .read-floors .ensures .used)
+read-residues-requires c κs = residues-asked (c .before .before .before .before .before .before .before .before .before .before .before .before .before .before .before .before .before .before .before .before .pre .0) _ (c .before .before .before .before .before .before .before .read-floors .ensures .used)
 
 same-length-2 : tie.Need-same-length-2
 same-length-2 c = search needs
@@ -36,13 +30,12 @@ same-length-3 c = search needs
 
 returns-2 : tie.Need-returns-2
 returns-2 c =
-    let at1 = c .before .before in
-    let at2 = at1 .before .before .before in
-    let at3 = at2 .before .before .before .before .before in
-    let at4 = at3 .before .before in
-    let at5 = at4 .before .before .before .before .before .before .before .before .before .before .before in
-    body-whole _ _ _ _ _ _ _ _ _ _ _ (floors-at (at4 .wide-u32 .ensures) (at3 .read-floors .ensures)) _ (at5 .pre .0 .channels-few) (at2 .if1 .left)
-    (at1 .read-residues .ensures)
+    let at-read-residues = c .before .before in
+    let at-if1 = at-read-residues .before .before .before in
+    let at-read-floors = at-if1 .before .before .before .before .before in
+    let at-wide-u32 = at-read-floors .before .before in
+    let at-pre = at-wide-u32 .before .before .before .before .before .before .before .before .before .before .before in
+    body-whole _ _ _ _ _ _ _ _ _ _ _ (floors-at (at-wide-u32 .wide-u32 .ensures) (at-read-floors .read-floors .ensures)) _ (at-pre .pre .0 .channels-few) (at-if1 .if1 .left) (at-read-residues .read-residues .ensures)
 
 pub read-body-spec : {M : Type 1} → statement M
 read-body-spec =

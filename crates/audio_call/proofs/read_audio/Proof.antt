@@ -18,19 +18,18 @@ same-length-2 c = search needs
 
 returns : tie.Need-returns
 returns c =
-    let at1 = c .before .before .before .before in
-    let at2 = at1 .before .before .before in
-    let at3 = at2 .before in
-    let at4 = at3 .before .before .before .before .before .before .before .before .before .before .before .before .before .before in
-    call-unsound _ _ _ (at3 .are-sound .ensures .0) (at4 .args .tally) (at4 .args .packet .now) (at4 .args .curves .now) (at4 .args .words .now) (at2
-    .if1 .taken) (at1 .refuse .ensures)
+    let at-refuse = c .before .before .before .before in
+    let at-if1 = at-refuse .before .before .before in
+    let at-are-sound = at-if1 .before in
+    let at-args = at-are-sound .before .before .before .before .before .before .before .before .before .before .before .before .before .before in
+    call-unsound _ _ _ (at-are-sound .are-sound .ensures .0) (at-args .args .tally) (at-args .args .packet .now) (at-args .args .curves .now) (at-args .args .words .now) (at-if1 .if1 .taken) (at-refuse .refuse .ensures)
 
 read-packet-requires : tie.Need-read-packet-requires
 read-packet-requires c κs =
-    let at1 = c .before .before in
-    let at2 = at1 .before in
-    let at3 = at2 .before .before .before .before .before .before .before .before .before .before .before .before .before .before in
-    packet-asked _ _ _ (at2 .are-sound .ensures .0) (at1 .if1 .left) (at3 .pre .0) (at3 .pre .1)
+    let at-if1 = c .before .before in
+    let at-are-sound = at-if1 .before in
+    let at-pre = at-are-sound .before .before .before .before .before .before .before .before .before .before .before .before .before .before in
+    packet-asked _ _ _ (at-are-sound .are-sound .ensures .0) (at-if1 .if1 .left) (at-pre .pre .0) (at-pre .pre .1)
 
 same-length-3 : tie.Need-same-length-3
 same-length-3 c = search needs
@@ -40,12 +39,11 @@ same-length-4 c = search needs
 
 returns-2 : tie.Need-returns-2
 returns-2 c =
-    let at1 = c .before .before .before .before in
-    let at2 = at1 .before .before .before in
-    let at3 = at2 .before in
-    let at4 = at3 .before .before .before .before .before .before .before .before .before .before .before .before .before .before in
-    call-sound _ _ _ (at3 .are-sound .ensures .0) (at2 .if1 .left) (at4 .args .tally) (at4 .args .packet .now) (at4 .args .curves .now) (at4 .args
-    .words .now) (at1 .read-packet .ensures)
+    let at-read-packet = c .before .before .before .before in
+    let at-if1 = at-read-packet .before .before .before in
+    let at-are-sound = at-if1 .before in
+    let at-args = at-are-sound .before .before .before .before .before .before .before .before .before .before .before .before .before .before in
+    call-sound _ _ _ (at-are-sound .are-sound .ensures .0) (at-if1 .if1 .left) (at-args .args .tally) (at-args .args .packet .now) (at-args .args .curves .now) (at-args .args .words .now) (at-read-packet .read-packet .ensures)
 
 pub read-audio-spec : {M : Type 1} → statement M
 read-audio-spec =

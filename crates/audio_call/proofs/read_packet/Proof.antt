@@ -9,9 +9,9 @@ judge-requires c κs = search needs
 
 settle-requires : tie.Need-settle-requires
 settle-requires c κs =
-    let at1 = c .before .before .before .before .before .before in
-    let at2 = at1 .before .before .before .before .before .before .before .before .before .before .before .before .before .before .before .before in
-    settle-asked _ _ (at2 .pre .0) (at2 .args .tally) (at2 .args .packet .now) (at2 .args .curves .now) (at2 .args .words .now) (at1 .judge .ensures)
+    let at-judge = c .before .before .before .before .before .before in
+    let at-pre = at-judge .before .before .before .before .before .before .before .before .before .before .before .before .before .before .before .before in
+    settle-asked _ _ (at-pre .pre .0) (at-pre .args .tally) (at-pre .args .packet .now) (at-pre .args .curves .now) (at-pre .args .words .now) (at-judge .judge .ensures)
 
 same-length : tie.Need-same-length
 same-length c = search needs
@@ -21,11 +21,10 @@ same-length-2 c = search needs
 
 returns : tie.Need-returns
 returns c =
-    let at1 = c .before .before .before .before in
-    let at2 = at1 .before .before .before .before .before .before .before in
-    let at3 = at2 .before .before .before .before .before .before .before .before .before .before .before .before .before .before .before .before in
-    packet-left _ _ (at3 .pre .0) (at3 .args .tally) (at3 .args .packet .now) (at3 .args .curves .now) (at3 .args .words .now) (at2 .judge .ensures)
-    (at3 .pre .1) (at3 .pre .2) (at1 .settle .ensures)
+    let at-settle = c .before .before .before .before in
+    let at-judge = at-settle .before .before .before .before .before .before .before in
+    let at-pre = at-judge .before .before .before .before .before .before .before .before .before .before .before .before .before .before .before .before in
+    packet-left _ _ (at-pre .pre .0) (at-pre .args .tally) (at-pre .args .packet .now) (at-pre .args .curves .now) (at-pre .args .words .now) (at-judge .judge .ensures) (at-pre .pre .1) (at-pre .pre .2) (at-settle .settle .ensures)
 
 pub read-packet-spec : {M : Type 1} → statement M
 read-packet-spec =

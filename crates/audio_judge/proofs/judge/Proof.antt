@@ -38,21 +38,10 @@ enum-known-head : tie.Need-enum-known-head
 enum-known-head c = search needs
 
 judge-body-requires : tie.Need-judge-body-requires
-judge-body-requires c κs =
-    let at1 = c .before .before .before .before .before in
-    let at2 = at1 .before in
-    let at3 = at2 .before .before .before .before .before .before .before .before .before .before .before .before .before .before .before .before in
-    (at3 .pre, head-asked _ _ (at3 .pre) (at3 .args .packet .now) (at2 .get-u32 .ensures) _ (at1 .read-head .ensures) (search needs))
+judge-body-requires c κs = (c .before .before .before .before .before .before .before .before .before .before .before .before .before .before .before .before .before .before .before .before .before .before .pre, head-asked _ _ (c .before .before .before .before .before .before .before .before .before .before .before .before .before .before .before .before .before .before .before .before .before .before .pre) (c .before .before .before .before .before .before .before .before .before .before .before .before .before .before .before .before .before .before .before .before .before .before .args .packet .now) (c .before .before .before .before .before .before .get-u32 .ensures) _ (c .before .before .before .before .before .read-head .ensures) (search needs))
 
 returns-2 : tie.Need-returns-2
-returns-2 c =
-    let at1 = c .before .before .before .before .before in
-    let at2 = at1 .before in
-    let at3 = at2 .before in
-    let at4 = at3 .before in
-    let at5 = at4 .before .before .before .before .before .before .before .before .before .before .before .before .before .before in
-    search (needs, judged-head-refused _ _ (at5 .pre) (at5 .args .packet .now) (at2 .get-u32 .ensures) _ (at1 .read-head .ensures) (at5 .args .tally)
-    (at5 .args .curves .now) (at5 .args .words .now) (at4 .is-sound .ensures) (at3 .if1 .left))
+returns-2 c = search (needs, judged-head-refused _ _ (c .before .before .before .before .before .before .before .before .before .before .before .before .before .before .before .before .before .before .before .before .before .before .pre) (c .before .before .before .before .before .before .before .before .before .before .before .before .before .before .before .before .before .before .before .before .before .before .args .packet .now) (c .before .before .before .before .before .before .get-u32 .ensures) _ (c .before .before .before .before .before .read-head .ensures) (c .before .before .before .before .before .before .before .before .before .before .before .before .before .before .before .before .before .before .before .before .before .before .args .tally) (c .before .before .before .before .before .before .before .before .before .before .before .before .before .before .before .before .before .before .before .before .before .before .args .curves .now) (c .before .before .before .before .before .before .before .before .before .before .before .before .before .before .before .before .before .before .before .before .before .before .args .words .now) (c .before .before .before .before .before .before .before .before .is-sound .ensures) (c .before .before .before .before .before .before .before .if1 .left))
 
 same-length : tie.Need-same-length
 same-length c = search needs
@@ -61,15 +50,7 @@ same-length-2 : tie.Need-same-length-2
 same-length-2 c = search needs
 
 returns-3 : tie.Need-returns-3
-returns-3 c =
-    let at1 = c .before .before .before .before in
-    let at2 = at1 .before .before .before .before .before .before in
-    let at3 = at2 .before in
-    let at4 = at3 .before in
-    let at5 = at4 .before in
-    let at6 = at5 .before .before .before .before .before .before .before .before .before .before .before .before .before .before in
-    judged-head-read _ _ (at6 .pre) (at6 .args .packet .now) (at3 .get-u32 .ensures) _ (at2 .read-head .ensures) (at6 .args .tally) (at6 .args .curves
-    .now) (at6 .args .words .now) (at5 .is-sound .ensures) (at4 .if1 .left) (search needs) (at1 .judge-body .ensures)
+returns-3 c = judged-head-read _ _ (c .before .before .before .before .before .before .before .before .before .before .before .before .before .before .before .before .before .before .before .before .before .before .before .before .before .before .before .pre) (c .before .before .before .before .before .before .before .before .before .before .before .before .before .before .before .before .before .before .before .before .before .before .before .before .before .before .before .args .packet .now) (c .before .before .before .before .before .before .before .before .before .before .before .get-u32 .ensures) _ (c .before .before .before .before .before .before .before .before .before .before .read-head .ensures) (c .before .before .before .before .before .before .before .before .before .before .before .before .before .before .before .before .before .before .before .before .before .before .before .before .before .before .before .args .tally) (c .before .before .before .before .before .before .before .before .before .before .before .before .before .before .before .before .before .before .before .before .before .before .before .before .before .before .before .args .curves .now) (c .before .before .before .before .before .before .before .before .before .before .before .before .before .before .before .before .before .before .before .before .before .before .before .before .before .before .before .args .words .now) (c .before .before .before .before .before .before .before .before .before .before .before .before .before .is-sound .ensures) (c .before .before .before .before .before .before .before .before .before .before .before .before .if1 .left) (search needs) (c .before .before .before .before .judge-body .ensures)
 
 pub judge-spec : {M : Type 1} → statement M
 judge-spec =
