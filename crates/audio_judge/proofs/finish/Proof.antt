@@ -1,3 +1,4 @@
+-- `audio_judge::finish` meets its contract, by JudgeLaws: the tally counted, or refusal 19. Assumes nothing.
 use Rattle.audio_judge.proofs.JudgeLaws.{finish-refused, finish-value}
 use borrow.Author.Needs.{needs}
 use Rattle.audio_judge.proofs.finish.Statement.{statement}
