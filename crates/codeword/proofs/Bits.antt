@@ -1,16 +1,11 @@
 -- Laws of the bits that a codeword is matched with. Assumes nothing.
-use Prim.Native.Nat.{ℕ, zero, suc, _+_, _-_, _*_, _/_, _%_, _^_, _≤_, _<_}
+use Prim.Native.Nat.{ℕ, zero, suc, _+_, _*_, _/_, _^_, _≤_, _<_}
 use native.Mathlib.Nat.{pow-suc, lt-of-lt-of-le, div-one}
 use native.Mathlib.Numerals.{add-one}
 use native.Mathlib.Omega.{arith}
-use mathlib.Core.Bool.{true, false}
 use mathlib.Core.List.{List}
-use mathlib.Core.Logic.{⊎-elim}
 use mathlib.Core.Path.{_≡_, refl, ap, sym, _∙_}
-use lib.Dec.{ltb}
-use lib.ListN.{length, getD, take}
-use borrow.Author.Tests.{lt-ltb, le-ltb}
-use Rattle.reading.proofs.Least.{lt-or-le}
+use lib.ListN.{take}
 use lib.Pow.{pow-mono, shr-shr}
 use Rattle.bits.specs.Field.{bitAt}
 use Rattle.bits.proofs.Values.{bit-lt}
@@ -52,22 +47,3 @@ pub bits-cut : (s : List ℕ) (b k n : ℕ) → k + n ≤ 8 * b → bitsAt (take
 unfolding bitsAt
 bits-cut s b k zero h = refl
 bits-cut s b k (suc n) h = rw (bits-cut s b k n (omega arith), bit-cut s b (k + n) (omega arith))
-
--- the bit n bits behind a cursor, as the code finds it
-pub bit-after : (s : List ℕ) (byte bit n w : ℕ) → w ≡ bit → getD s (byte + (w + n) / 8) 0 / 2 ^ ((w + n) % 8) % 2 ≡ bitAt s (8 * byte + bit + n)
-unfolding bitAt
-bit-after s byte bit n w e =
-    let q : (8 * byte + bit + n) / 8 ≡ byte + (w + n) / 8 = omega arith in
-    let r : (8 * byte + bit + n) % 8 ≡ (w + n) % 8 = omega arith in
-    rw (q, r)
-
-module _ (byte bit n len : ℕ) where
-  pub bit-past : len ≤ byte → false ≡ ltb (8 * byte + bit + n) (8 * len)
-  bit-past h = sym (le-ltb (8 * byte + bit + n) (8 * len) (omega arith))
-
-  pub bit-there : (w : ℕ) → w ≡ bit → byte < len → ltb ((w + n) / 8) (len - byte) ≡ ltb (8 * byte + bit + n) (8 * len)
-  bit-there w e h =
-      ⊎-elim
-      (λ (l : (w + n) / 8 < len - byte). lt-ltb _ _ l ∙ sym (lt-ltb (8 * byte + bit + n) (8 * len) (omega arith)))
-      (λ (l : len - byte ≤ (w + n) / 8). le-ltb _ _ l ∙ sym (le-ltb (8 * byte + bit + n) (8 * len) (omega arith)))
-      (lt-or-le ((w + n) / 8) (len - byte))

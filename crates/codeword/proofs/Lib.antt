@@ -1,5 +1,6 @@
 pub mod Accepted
 pub mod Bits
+pub mod Windows
 pub mod Lone
 pub mod Matching
 pub mod LoopLaws

@@ -1,14 +1,11 @@
 -- The laws of the search as the code asks them: where a bit is taken next, and where entries are searched. Assumes nothing.
-use Prim.Native.Nat.{ℕ, zero, suc, _+_, _-_, _*_, _/_, _^_, _≤_, _<_}
+use Prim.Native.Nat.{ℕ, zero, suc, _+_, _-_, _*_, _/_, _%_, _^_, _≤_, _<_}
 use native.Mathlib.Numerals.{add-one}
 use native.Mathlib.Omega.{arith}
 use borrow.Author.Needs.{needs}
-use borrow.Author.Tests.{ltb-true, ltb-false, not-true, not-false}
-use mathlib.Core.Bool.{Bool, true, false, not}
 use mathlib.Core.List.{List}
 use mathlib.Core.Logic.{⊎-elim}
 use mathlib.Core.Path.{_≡_, refl, ap, sym, _∙_}
-use lib.Dec.{ltb}
 use mir.Syntax.{w32}
 use mir.Val.{Fits}
 use lib.ListN.{length, getD}
@@ -23,6 +20,8 @@ use Rattle.codeword_assignment.specs.Book.{ledgerCodewords, PrefixCode}
 use Rattle.codeword_assignment.proofs.Laws.{accepted-decodable, used-length, codewords-length}
 use Rattle.codeword.specs.Codeword.{bitsAt, matching}
 use Rattle.codeword.specs.inner.Book.{Codebook}
+use Rattle.codeword.specs.inner.Window.{NextBits}
+use Rattle.codeword.specs.declared.window.Window.{Window}
 use Rattle.codeword.proofs.Accepted.{none-refused}
 use Rattle.codeword.proofs.Bits.{bits-more, double-fits, more-fits}
 use Rattle.codeword.proofs.Matching.{Starts, NoneBefore, none-fewer, passes-short, passes-other, turn-never, turn-on, turn-found, turn-end, turn-cut}
@@ -30,20 +29,18 @@ use Rattle.codeword.proofs.Matching.{Starts, NoneBefore, none-fewer, pa
 below-end : (e n : ℕ) → e ≤ n → (e ≡ n → ⊥) → e < n
 below-end e n l d = ⊎-elim (λ (h : e < n). h) (λ (h : n ≤ e). absurd (d (omega arith))) (lt-or-le e n)
 
-not-32 : (n : ℕ) → n ≤ 32 → (n ≡ 32 → ⊥) → n + 1 ≤ 32
-not-32 n l d = let h = below-end n 32 l d in omega arith
-
--- n bits are taken and match nothing; the entries before e are ruled out
-pub record Taking (ls ws s : List ℕ) (k word n e : ℕ) : Type 0 where
-  pub few : n ≤ 32
+-- n of the next `count` bits are taken and match nothing; the entries before e are ruled out
+pub record Taking (ls ws s : List ℕ) (k count word n e : ℕ) : Type 0 where
+  pub counted : n ≤ count
   pub within : e ≤ length ls
   pub bits : word ≡ bitsAt s k n
   pub none : NoneBefore ls ws n (bitsAt s k n) e
   pub rest : matching ls n (32 - n) s k ≡ matching ls 0 32 s k
 
 -- the n-th bit was just taken, and it is not known yet what the n bits match
-pub record Searching (ls ws s : List ℕ) (k word n e : ℕ) : Type 0 where
+pub record Searching (ls ws s : List ℕ) (k count word n e : ℕ) : Type 0 where
   pub some : 1 ≤ n
+  pub counted : n ≤ count
   pub few : n ≤ 32
   pub there : k + n ≤ 8 * length s
   pub within : e ≤ length ls
@@ -51,48 +48,59 @@ pub record Searching (ls ws s : List ℕ) (k word n e : ℕ) : Type 0 where
   pub none : NoneBefore ls ws n (bitsAt s k n) e
   pub rest : matching ls (n - 1) (32 - (n - 1)) s k ≡ matching ls 0 32 s k
 
-module _ (ls ws s : List ℕ) (k : Cursor) where
-  pub taking-start : Taking ls ws s (position k) 0 0 0
+module _ (ls ws s : List ℕ) (k : Cursor) (count : ℕ) where
+  pub taking-start : Taking ls ws s (position k) count 0 0 0
   unfolding bitsAt
-  taking-start = record { few = omega arith; within = omega arith; bits = refl; none = λ f h. absurd (omega arith); rest = refl }
+  taking-start = record { counted = omega arith; within = omega arith; bits = refl; none = λ f h. absurd (omega arith); rest = refl }
 
--- a bit is taken
-module _ (ls ws s : List ℕ) (k : Cursor) (word n e : ℕ) (t : Taking ls ws s (position k) word n e) where
-  pub no-bit-left : n ≡ 32 → (r : Field) → outcome r ≡ bad (refusal 1 (position k)) → outcome r ≡ matching ls 0 32 s (position k)
-  no-bit-left h r c = c ∙ sym (turn-end ls s (position k) n h) ∙ t .rest
+-- a bit is taken from the next bits
+module _ (ls ws s : List ℕ) (k : Cursor) (next : Window) (b : NextBits s (position k) (next .count) (next .bits)) (word n e : ℕ)
+    (t : Taking ls ws s (position k) (next .count) word n e) where
+  pub no-bit-left : n ≡ next .count → (r : Field) → outcome r ≡ bad (refusal 1 (position k)) → outcome r ≡ matching ls 0 32 s (position k)
+  no-bit-left h r c =
+      let f = b .few in
+      ⊎-elim
+      (λ (l : next .count < 32). let m = b .all l in c ∙ sym (turn-cut ls s (position k) n (omega arith)) ∙ t .rest)
+      (λ (l : 32 ≤ next .count). c ∙ sym (turn-end ls s (position k) n (omega arith)) ∙ t .rest)
+      (lt-or-le (next .count) 32)
 
-  module _ (b : Bool) (q : b ≡ ltb (position k + n) (8 * length s)) where
-    pub bit-missing : not b ≡ true → (r : Field) → outcome r ≡ bad (refusal 1 (position k)) → outcome r ≡ matching ls 0 32 s (position k)
-    bit-missing h r c = c ∙ sym (turn-cut ls s (position k) n (ltb-false (position k + n) (8 * length s) (sym q ∙ not-true b h))) ∙ t .rest
+  module _ (d : n ≡ next .count → ⊥) where
+    left : n < next .count
+    left = below-end n (next .count) (t .counted) d
 
-    pub bit-is-there : not b ≡ false → position k + n < 8 * length s
-    bit-is-there h = ltb-true (position k + n) (8 * length s) (sym q ∙ not-false b h)
+    pub few-taken : n < 32
+    few-taken = let f = b .few in let l = left in omega arith
 
-    pub taken-one : (n ≡ 32 → ⊥) → not b ≡ false → (v : ℕ) → v ≡ bitAt s (position k + n) → Searching ls ws s (position k) (word * 2 + v) (n + 1) e
-    taken-one d h v p =
-        let l = t .few in
-        let m : position k + n < 8 * length s = bit-is-there h in
+    bit-taken : (v : ℕ) → v ≡ next .bits / 2 ^ n % 2 → v ≡ bitAt s (position k + n)
+    bit-taken v p = p ∙ b .same n left
+
+    pub taken-one : (v : ℕ) → v ≡ next .bits / 2 ^ n % 2 → Searching ls ws s (position k) (next .count) (word * 2 + v) (n + 1) e
+    taken-one v p =
+        let f = few-taken in
+        let l = left in
+        let m : position k + n < 8 * length s = b .there n left in
         let x : n + 1 - 1 ≡ n = omega arith in
         record {
           some = omega arith;
-          few = not-32 n l d;
+          counted = omega arith;
+          few = omega arith;
           there = omega arith;
           within = t .within;
-          bits = bits-more s (position k) n word v (t .bits) p;
+          bits = bits-more s (position k) n word v (t .bits) (bit-taken v p);
           none = rw add-one (none-fewer ls ws s (position k) n e (t .none));
           rest = rw x (t .rest);
         }
 
--- a word with one bit more fits 32 bits
-module _ (ls ws s : List ℕ) (k : Cursor) (word n e : ℕ) (t : Taking ls ws s (position k) word n e) (d : n ≡ 32 → ⊥) where
-  pub doubled : Fits w32 (word * 2)
-  doubled = record { fits = double-fits s (position k) n word (below-end n 32 (t .few) d) (t .bits) }
+    -- a word with one bit more fits 32 bits
+    pub doubled : Fits w32 (word * 2)
+    doubled = record { fits = double-fits s (position k) n word few-taken (t .bits) }
 
-  pub lengthened : (v : ℕ) → v ≡ bitAt s (position k + n) → Fits w32 (word * 2 + v)
-  lengthened v p = record { fits = more-fits s (position k) n word v (below-end n 32 (t .few) d) (t .bits) p }
+    pub lengthened : (v : ℕ) → v ≡ next .bits / 2 ^ n % 2 → Fits w32 (word * 2 + v)
+    lengthened v p = record { fits = more-fits s (position k) n word v few-taken (t .bits) (bit-taken v p) }
 
 -- an entry is looked at
-module _ (ls ws : List ℕ) (book : Codebook ls ws) (s : List ℕ) (k : Cursor) (word n e : ℕ) (t : Searching ls ws s (position k) word n e) where
+module _ (ls ws : List ℕ) (book : Codebook ls ws) (s : List ℕ) (k : Cursor) (count word n e : ℕ)
+    (t : Searching ls ws s (position k) count word n e) where
   code : PrefixCode ls (ledgerCodewords ls)
   code = accepted-decodable ls (book .accepted) .prefixCode
 
@@ -118,11 +126,12 @@ module _ (ls ws : List ℕ) (book : Codebook ls ws) (s : List ℕ) (k : Cursor) 
     pub in-codewords : e < length ws
     in-codewords = rw (book .coded, codewords-length ls) inside
 
-    pub length-short : (len : ℕ) → len ≡ getD ls e 0 → len < n → Searching ls ws s (position k) word n (e + 1)
+    pub length-short : (len : ℕ) → len ≡ getD ls e 0 → len < n → Searching ls ws s (position k) count word n (e + 1)
     length-short len q l =
         let i = inside in
         record {
           some = t .some;
+          counted = t .counted;
           few = t .few;
           there = t .there;
           within = omega arith;
@@ -144,11 +153,12 @@ module _ (ls ws : List ℕ) (book : Codebook ls ws) (s : List ℕ) (k : Cursor) 
           let u = used-length ls (none-refused ls (book .accepted)) e (omega arith) .high in
           omega arith
 
-      pub other-word : (getD ws e 0 / 2 ^ (len - n) ≡ word → ⊥) → Searching ls ws s (position k) word n (e + 1)
+      pub other-word : (getD ws e 0 / 2 ^ (len - n) ≡ word → ⊥) → Searching ls ws s (position k) count word n (e + 1)
       other-word d =
           let i = inside in
           record {
             some = t .some;
+            counted = t .counted;
             few = t .few;
             there = t .there;
             within = omega arith;
@@ -173,7 +183,7 @@ module _ (ls ws : List ℕ) (book : Codebook ls ws) (s : List ℕ) (k : Cursor) 
             let f = turn-found ls code s (position k) (n - 1) (omega arith) (omega arith) e none i begun (omega arith) in
             rw (r, ← before) (sym f ∙ t .rest)
 
-        pub word-begun : (n ≡ len → ⊥) → Taking ls ws s (position k) word n e
+        pub word-begun : (n ≡ len → ⊥) → Taking ls ws s (position k) count word n e
         word-begun d =
             let a = t .some in
             let b = t .few in
@@ -181,6 +191,6 @@ module _ (ls ws : List ℕ) (book : Codebook ls ws) (s : List ℕ) (k : Cursor) 
             let m : n < len = below-end n len l d in
             let f = turn-on ls code s (position k) (n - 1) (omega arith) (omega arith) e begun (omega arith) in
             let r : matching ls n (32 - n) s (position k) ≡ matching ls (n - 1) (32 - (n - 1)) s (position k) = rw before at (sym f) in
-            record { few = t .few; within = t .within; bits = t .bits; none = t .none; rest = r ∙ t .rest }
+            record { counted = t .counted; within = t .within; bits = t .bits; none = t .none; rest = r ∙ t .rest }
 
-pub ruleset loop-laws = (needs, doubled, lengthened, in-codewords, taking-start, no-bit-left, bit-missing, bit-is-there, taken-one, all-passed, length-short, length-within, other-word, word-found, word-begun)
+pub ruleset loop-laws = (needs, doubled, lengthened, in-codewords, taking-start, no-bit-left, few-taken, taken-one, all-passed, length-short, length-within, other-word, word-found, word-begun)

@@ -1,3 +1,4 @@
 -- Statements that functions of this crate and their proofs share. No public contract rests on how they are worded.
 pub mod Book
 pub mod Claims
+pub mod Window

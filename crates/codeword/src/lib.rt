@@ -1,15 +1,16 @@
 // Reading one codeword of a packet, bit by bit (01, "Bits and books"; 002, "Using a codebook").
+pub mod window;
+
 use bits::Cursor;
 use bits::Field;
 use bits::Refusal;
 use reading::widths::wide_u8;
+use window::window_at;
 ghost use mathlib.Core.Path.{_≡_};
-ghost use Prim.Native.Nat.{_+_, _*_, _<_};
-ghost use lib.Dec.{ltb};
-ghost use lib.ListN.{length};
+ghost use Prim.Native.Nat.{_+_, _/_, _%_, _^_, _<_};
 ghost use Rattle.reading.specs.Outcome.{refusal, bad};
 ghost use Rattle.reading.specs.Reader.{mapped};
-ghost use Rattle.bits.specs.Field.{bitAt, field};
+ghost use Rattle.bits.specs.Field.{field};
 ghost use Rattle.bits.specs.inner.Cursors.{position, outcome};
 ghost use Rattle.codeword_assignment.specs.Book.{loneMark};
 ghost use Rattle.codeword.specs.Codeword.{codeword, loneBits, matching};
@@ -51,17 +52,15 @@ fn match_codeword(packet: &[u8], from: Cursor, lengths: &[u8], codewords: &[u32]
     requires { ⌜ Codebook (now lengths) (now codewords) ⌝ }
     ensures { λ r. ⌜ outcome r ≡ matching (now (lengths .entry)) 0 32 (now (packet .entry)) (position from) ⌝ }
 {
+    let next = window_at(packet, from);
     let mut word: u32 = 0;
     let mut taken: usize = 0;
     let mut entry: usize = 0;
     'word: loop {
-        if taken == 32 {
+        if taken == next.count {
             break 'word cut(from);
         }
-        if !has_bit(packet, from, taken) {
-            break 'word cut(from);
-        }
-        word = word * 2 + bit(packet, from, taken);
+        word = word * 2 + bit(next.bits, taken);
         taken = taken + 1;
         'entry: loop {
             if entry == lengths.len() {
@@ -91,26 +90,12 @@ fn cut(from: Cursor) -> Field
     })
 }
 
-// Whether the packet has the bit `taken` bits behind the cursor.
-fn has_bit(packet: &[u8], from: Cursor, taken: usize) -> bool
+// Bit `taken` of the next bits.
+fn bit(bits: u64, taken: usize) -> u32
     requires { ⌜ taken < 32 ⌝ }
-    ensures { λ r. ⌜ r ≡ ltb (position from + taken) (8 * length (now (packet .entry))) ⌝ }
+    ensures { λ r. ⌜ r ≡ bits / 2 ^ taken % 2 ⌝ }
 {
-    let byte = from.byte;
-    if packet.len() <= byte {
-        return false;
-    }
-    (wide_u8(from.bit) + taken) / 8 < packet.len() - byte
-}
-
-// The bit `taken` bits behind the cursor.
-fn bit(packet: &[u8], from: Cursor, taken: usize) -> u32
-    requires { ⌜ (taken < 32) × (position from + taken < 8 * length (now packet)) ⌝ }
-    ensures { λ r. ⌜ r ≡ bitAt (now (packet .entry)) (position from + taken) ⌝ }
-{
-    let bit = wide_u8(from.bit) + taken;
-    let byte = from.byte + bit / 8;
-    ((packet[byte] >> (bit % 8)) % 2) as u32
+    ((bits >> taken) % 2) as u32
 }
 
 // The position `taken` bits behind the cursor.

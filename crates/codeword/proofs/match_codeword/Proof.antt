@@ -1,4 +1,4 @@
--- `codeword::match_codeword` meets its contract, by Asked. Assumes nothing.
+-- `codeword::match_codeword` meets its contract, by LoopLaws. Assumes nothing.
 use Prim.Native.Nat.{_-_}
 use native.Mathlib.Omega.{arith}
 use mathlib.Core.Logic.{⊎-elim}
@@ -10,28 +10,25 @@ use Rattle.codeword.proofs.match_codeword.Statement.{statement}
 use Rattle.codeword.proofs.match_codeword.Tie as tie
 
 abbrev Inv-entry : tie.InvT-entry
-Inv-entry packet from lengths codewords word taken entry₀ entry = Searching lengths codewords packet (position from) word taken entry
+Inv-entry packet from lengths codewords next word taken entry₀ entry = Searching lengths codewords packet (position from) (next .count) word taken entry
 
 abbrev μ-entry : tie.MeasureT-entry
-μ-entry packet from lengths codewords word taken entry₀ entry = length lengths - entry
+μ-entry packet from lengths codewords next word taken entry₀ entry = length lengths - entry
 
 abbrev Inv-word : tie.InvT-word
-Inv-word packet from lengths codewords word₀ taken₀ entry₀ word taken entry = Taking lengths codewords packet (position from) word taken entry
+Inv-word packet from lengths codewords next word₀ taken₀ entry₀ word taken entry = Taking lengths codewords packet (position from) (next .count) word taken entry
 
 abbrev μ-word : tie.MeasureT-word
-μ-word packet from lengths codewords word₀ taken₀ entry₀ word taken entry = 32 - taken
+μ-word packet from lengths codewords next word₀ taken₀ entry₀ word taken entry = next .count - taken
+
+window-at-requires : tie.Need-window-at-requires Inv-entry μ-entry Inv-word μ-word
+window-at-requires c κs = search needs
 
 word-holds : tie.Need-word-holds Inv-entry μ-entry Inv-word μ-word
 word-holds c = search loop-laws
 
 cut-requires : tie.Need-cut-requires Inv-entry μ-entry Inv-word μ-word
 cut-requires c κs = search needs
-
-has-bit-requires : tie.Need-has-bit-requires Inv-entry μ-entry Inv-word μ-word
-has-bit-requires c κs = search needs
-
-cut-requires-2 : tie.Need-cut-requires-2 Inv-entry μ-entry Inv-word μ-word
-cut-requires-2 c κs = search needs
 
 mul-word : tie.Need-mul-word Inv-entry μ-entry Inv-word μ-word
 mul-word c = search loop-laws
@@ -46,10 +43,12 @@ add-taken : tie.Need-add-taken Inv-entry μ-entry Inv-word μ-word
 add-taken c = search needs
 
 entry-holds : tie.Need-entry-holds Inv-entry μ-entry Inv-word μ-word
-entry-holds c = taken-one _ _ _ _ _ _ _ (c .before .before .before .before .word .inv) _ (c .before .before .has-bit .ensures) (c .before .before .before .if1 .left) (c .before .if2 .left) _ (c .bit .ensures)
+entry-holds c =
+    let w = c .before .before .before in
+    taken-one _ _ _ _ _ (w .before .window-at .ensures) _ _ _ (w .word .inv) (c .before .if1 .left) _ (c .bit .ensures)
 
-cut-requires-3 : tie.Need-cut-requires-3 Inv-entry μ-entry Inv-word μ-word
-cut-requires-3 c κs = search needs
+cut-requires-2 : tie.Need-cut-requires-2 Inv-entry μ-entry Inv-word μ-word
+cut-requires-2 c κs = search needs
 
 shared-slice-read-wide-u8 : tie.Need-shared-slice-read-wide-u8 Inv-entry μ-entry Inv-word μ-word
 shared-slice-read-wide-u8 c = search needs
@@ -57,17 +56,25 @@ shared-slice-read-wide-u8 c = search needs
 wide-u8-requires : tie.Need-wide-u8-requires Inv-entry μ-entry Inv-word μ-word
 wide-u8-requires c κs = search needs
 
-mul-if5 : tie.Need-mul-if5 Inv-entry μ-entry Inv-word μ-word
-mul-if5 c = search needs
+mul-if4 : tie.Need-mul-if4 Inv-entry μ-entry Inv-word μ-word
+mul-if4 c = search needs
 
-shared-slice-read-if5 : tie.Need-shared-slice-read-if5 Inv-entry μ-entry Inv-word μ-word
-shared-slice-read-if5 c = search loop-laws
+shared-slice-read-if4 : tie.Need-shared-slice-read-if4 Inv-entry μ-entry Inv-word μ-word
+shared-slice-read-if4 c = search loop-laws
 
-cast-if5 : tie.Need-cast-if5 Inv-entry μ-entry Inv-word μ-word
-cast-if5 c = let h = length-within _ _ (c .before .before .before .before .before .before .before .before .before .before .before .before .before .before .pre) _ _ _ _ _ (c .before .before .before .before .before .entry .inv) (c .before .before .before .before .if3 .left) _ (c .before .before .wide-u8 .ensures) (c .before .if4 .taken) in omega arith
+cast-if4 : tie.Need-cast-if4 Inv-entry μ-entry Inv-word μ-word
+cast-if4 c =
+    let e = c .before .before .before .before in
+    let book = e .before .before .before .before .before .before .before .before .before .before .pre in
+    let h = length-within _ _ book _ _ _ _ _ _ (e .before .entry .inv) (e .if2 .left) _ (c .before .before .wide-u8 .ensures) (c .before .if3 .taken) in
+    omega arith
 
-shr-if5 : tie.Need-shr-if5 Inv-entry μ-entry Inv-word μ-word
-shr-if5 c = let h = length-within _ _ (c .before .before .before .before .before .before .before .before .before .before .before .before .before .before .pre) _ _ _ _ _ (c .before .before .before .before .before .entry .inv) (c .before .before .before .before .if3 .left) _ (c .before .before .wide-u8 .ensures) (c .before .if4 .taken) in omega arith
+shr-if4 : tie.Need-shr-if4 Inv-entry μ-entry Inv-word μ-word
+shr-if4 c =
+    let e = c .before .before .before .before in
+    let book = e .before .before .before .before .before .before .before .before .before .before .pre in
+    let h = length-within _ _ book _ _ _ _ _ _ (e .before .entry .inv) (e .if2 .left) _ (c .before .before .wide-u8 .ensures) (c .before .if3 .taken) in
+    omega arith
 
 cast-t26 : tie.Need-cast-t26 Inv-entry μ-entry Inv-word μ-word
 cast-t26 c = search needs
@@ -89,10 +96,13 @@ entry-less c = search needs
 
 entry-again : tie.Need-entry-again Inv-entry μ-entry Inv-word μ-word
 entry-again c =
+    let e = c .before .before .before in
+    let length = c .before .wide-u8 .ensures in
+    let book = e .before .before .before .before .before .before .before .before .before .before .pre in
     ⊎-elim
-    (λ w. other-word _ _ (c .before .before .before .before .before .before .before .before .before .before .before .before .before .pre) _ _ _ _ _ (c .before .before .before .before .entry .inv) (c .before .before .before .if3 .left) _ (c .before .wide-u8 .ensures) (w .0 .taken) (w .2 .left))
-    (λ w. length-short _ _ (c .before .before .before .before .before .before .before .before .before .before .before .before .before .pre) _ _ _ _ _ (c .before .before .before .before .entry .inv) (c .before .before .before .if3 .left) _ (c .before .wide-u8 .ensures) (w .left))
-    (c .if4 .came)
+    (λ w. other-word _ _ book _ _ _ _ _ _ (e .before .entry .inv) (e .if2 .left) _ length (w .0 .taken) (w .2 .left))
+    (λ w. length-short _ _ book _ _ _ _ _ _ (e .before .entry .inv) (e .if2 .left) _ length (w .left))
+    (c .if3 .came)
 
 returns : tie.Need-returns Inv-entry μ-entry Inv-word μ-word
 returns c = search loop-laws
@@ -103,9 +113,6 @@ returns-2 c = search loop-laws
 returns-3 : tie.Need-returns-3 Inv-entry μ-entry Inv-word μ-word
 returns-3 c = search loop-laws
 
-returns-4 : tie.Need-returns-4 Inv-entry μ-entry Inv-word μ-word
-returns-4 c = search loop-laws
-
 pub match-codeword-spec : {M : Type 1} → statement M
 match-codeword-spec =
     tie.close
@@ -114,22 +121,21 @@ match-codeword-spec =
     μ-entry
     Inv-word
     μ-word
+    window-at-requires
     word-holds
     cut-requires
-    has-bit-requires
-    cut-requires-2
     mul-word
     bit-requires
     add-word
     add-taken
     entry-holds
-    cut-requires-3
+    cut-requires-2
     shared-slice-read-wide-u8
     wide-u8-requires
-    mul-if5
-    shared-slice-read-if5
-    cast-if5
-    shr-if5
+    mul-if4
+    shared-slice-read-if4
+    cast-if4
+    shr-if4
     cast-t26
     after-requires
     word-less
@@ -139,5 +145,4 @@ match-codeword-spec =
     entry-again
     returns
     returns-2
-    returns-3
-    returns-4)
+    returns-3)

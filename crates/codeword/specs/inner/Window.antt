@@ -1,0 +1,13 @@
+-- The next bits of a packet, taken at once.
+use Prim.Native.Nat.{ℕ, _+_, _*_, _/_, _%_, _^_, _≤_, _<_}
+use mathlib.Core.List.{List}
+use mathlib.Core.Path.{_≡_}
+use lib.ListN.{length}
+use Rattle.bits.specs.Field.{bitAt}
+
+-- `bits` has the next `count` bits from bit k on, the first the lowest: 32, or as many as there are
+pub record NextBits (s : List ℕ) (k count bits : ℕ) : Type 0 where
+  pub few : count ≤ 32
+  pub there : (i : ℕ) → i < count → k + i < 8 * length s
+  pub all : count < 32 → 8 * length s ≤ k + count
+  pub same : (i : ℕ) → i < count → bits / 2 ^ i % 2 ≡ bitAt s (k + i)
