@@ -19,8 +19,8 @@ pub fn put_line(number: u64, answer: Answer, out: &mut [u8], at: usize) -> usize
     ensures { λ r. ⌜ (r ≡ at + length (line number answer)) × (r ≤ at + 128) ⌝ }
 {
     let at_words = fields::put_decimal(number, out, at);
-    let at_end = words::put_words(answer, out, at_words);
-    fields::put_text(b"\n", out, at_end)
+    let at_newline = words::put_words(answer, out, at_words);
+    fields::put_text(b"\n", out, at_newline)
 }
 
 // Puts the line that record `number` is torn.
