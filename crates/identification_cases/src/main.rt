@@ -1,5 +1,7 @@
 // Identification packets on both sides of each rule, one line each: the 30 bytes of 01's last figure, changed and cut.
 // The line's number names the case: 1 to 99 by what is changed, 100 + n for a packet cut to n bytes, 200 + n for a wrong opening byte n.
+use records::Answer;
+use torchvalley::IdentityAnswer;
 ghost use Prim.Native.Nat.{_<_, _≤_};
 
 // The good packet, and one byte more: one channel, rate 8000, block sizes 256 and 2048.
@@ -43,10 +45,26 @@ fn good() -> [u8; 31] {
 fn cut(number: u64, packet: [u8; 31], length: usize)
     requires { ⌜ length ≤ 31 ⌝ }
 {
-    lines::identification(
+    write_line(
         number,
-        torchvalley::torchvalley_identification(&packet[..length]),
+        came_to(torchvalley::torchvalley_identification(&packet[..length])),
     );
+}
+
+// What a packet came to, as the tool has it.
+fn came_to(answer: IdentityAnswer) -> Answer {
+    if answer.refusal == 0 {
+        let identity = answer.identity;
+        return Answer::Identified(identity);
+    }
+    Answer::Refused(answer.refusal)
+}
+
+// The tool's line, to standard output.
+fn write_line(number: u64, answer: Answer) {
+    let mut line = [0u8; record_lines::LONGEST];
+    let end = record_lines::put_line(number, answer, &mut line, 0);
+    io::write_all(libc::STDOUT_FILENO, &line[..end]);
 }
 
 // The good packet's first `length` bytes, one of them changed.

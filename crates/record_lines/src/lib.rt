@@ -1,4 +1,7 @@
 // The tool's lines (01, the tool), put into a lent buffer.
+mod fields;
+mod words;
+
 use records::Answer;
 ghost use mathlib.Core.Path.{_≡_};
 ghost use Prim.Native.Nat.{_+_, _≤_};
@@ -15,7 +18,9 @@ pub fn put_line(number: u64, answer: Answer, out: &mut [u8], at: usize) -> usize
     ensures { λ r. ⌜ now (out .exit) ≡ sets (now (out .entry)) at (line number answer) ⌝ }
     ensures { λ r. ⌜ (r ≡ at + length (line number answer)) × (r ≤ at + 128) ⌝ }
 {
-    at
+    let at_words = fields::put_decimal(number, out, at);
+    let at_newline = words::put_words(answer, out, at_words);
+    fields::put_text(b"\n", out, at_newline)
 }
 
 // Puts the line that record `number` is torn.
@@ -24,7 +29,8 @@ pub fn put_torn(number: u64, out: &mut [u8], at: usize) -> usize
     ensures { λ r. ⌜ now (out .exit) ≡ sets (now (out .entry)) at (tornLine number) ⌝ }
     ensures { λ r. ⌜ (r ≡ at + length (tornLine number)) × (r ≤ at + 128) ⌝ }
 {
-    at
+    let at_words = fields::put_decimal(number, out, at);
+    fields::put_text(b" torn\n", out, at_words)
 }
 
 // Puts the last line: there were `number` whole records.
@@ -33,5 +39,6 @@ pub fn put_end(number: u64, out: &mut [u8], at: usize) -> usize
     ensures { λ r. ⌜ now (out .exit) ≡ sets (now (out .entry)) at (endLine number) ⌝ }
     ensures { λ r. ⌜ (r ≡ at + length (endLine number)) × (r ≤ at + 128) ⌝ }
 {
-    at
+    let at_end = fields::put_field(b"end ", number, out, at);
+    fields::put_text(b"\n", out, at_end)
 }

@@ -14,8 +14,11 @@ slice-aggregate-torchvalley-identification c = simp length-take (omega arith)
 torchvalley-identification-requires : tie.Need-torchvalley-identification-requires
 torchvalley-identification-requires c κs = search needs
 
-identification-requires : tie.Need-identification-requires
-identification-requires c κs = search needs
+came-to-requires : tie.Need-came-to-requires
+came-to-requires c κs = search needs
+
+write-line-requires : tie.Need-write-line-requires
+write-line-requires c κs = search needs
 
 returns : tie.Need-returns
 returns c = search needs
@@ -27,5 +30,6 @@ cut-spec =
     array-share-prefix-packet
     slice-aggregate-torchvalley-identification
     torchvalley-identification-requires
-    identification-requires
+    came-to-requires
+    write-line-requires
     returns)
