@@ -81,22 +81,16 @@ pub fn compare_with(
     right: &str,
     run: impl Fn(&[u8]) -> Result<Ended, String>,
 ) -> Result<Seen, String> {
-    match difference(run(input), right) {
-        None => Ok(Seen::of(right)),
-        Some(difference) => {
-            let smallest = smallest(input, |input| self::difference(run(input), &lines(input)).is_some());
-            let shown = show(name, &smallest, self::difference(run(&smallest), &lines(&smallest)));
-            Err(format!("{difference}\n{shown}"))
-        }
-    }
+    let Some(found) = difference(run(input)?, right) else {
+        return Ok(Seen::of(right));
+    };
+    let again = |input: &[u8]| run(input).map_or_else(Some, |ended| difference(ended, &lines(input)));
+    let smallest = smallest(input, |input| again(input).is_some());
+    Err(format!("{found}\n{}", show(name, &smallest, again(&smallest))))
 }
 
 /// In what a run differs: how it ends, what it says besides, or its first wrong line.
-pub fn difference(ended: Result<Ended, String>, right: &str) -> Option<String> {
-    let ended = match ended {
-        Ok(ended) => ended,
-        Err(fault) => return Some(fault),
-    };
+pub fn difference(ended: Ended, right: &str) -> Option<String> {
     let errors: String = String::from_utf8_lossy(&ended.errors).chars().take(SHOWN_ERRORS).collect();
     let beside = format!("{}, standard error {errors:?}", ended.status);
     if ended.output != right.as_bytes() {

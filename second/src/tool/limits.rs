@@ -111,7 +111,7 @@ pub fn little_memory(program: &Program) -> Result<Seen, String> {
                 }
             }
         });
-        if let Some(difference) = difference(ended, &right) {
+        if let Some(difference) = difference(ended?, &right) {
             return Err(format!("32 MiB of memory, blocks of {} bytes: {difference}", block.len()));
         }
         seen.add(Seen::run());
@@ -142,7 +142,7 @@ pub fn under_valgrind(program: &Program, seed: u64) -> Result<Seen, String> {
     let mut seen = Seen::default();
     for (name, input) in [("made by hand", &whole), ("generated", &generated), ("largest", &largest(seed))] {
         let name = format!("valgrind, {name}, seed {seed}");
-        if let Some(difference) = difference(program.run_on(input), &lines(input)) {
+        if let Some(difference) = difference(program.run_on(input)?, &lines(input)) {
             return Err(format!("{name}: {difference}"));
         }
         seen.add(Seen::run());

@@ -7,7 +7,10 @@ use std::thread;
 use std::time::{Duration, Instant};
 
 /// No run takes longer, under valgrind neither.
-pub const LIMIT: Duration = Duration::from_secs(60);
+pub const LIMIT: Duration = Duration::from_secs(30);
+
+/// No run writes more, and what would write without end is not read to its end.
+const MOST_OUTPUT: u64 = 64 << 20;
 
 /// What runs the program: itself, or a shell that limits it first.
 #[derive(Clone, Debug)]
@@ -107,10 +110,10 @@ fn finish(mut child: Child, feed: impl FnOnce() + Send, limit: Duration) -> Resu
     })
 }
 
+/// What is beyond the most that is read, or cannot be read, is missed in the comparison.
 fn read_all(pipe: Option<impl Read>) -> Vec<u8> {
     let mut bytes = Vec::new();
-    // What cannot be read is missed in the comparison.
-    _ = pipe.map(|mut pipe| pipe.read_to_end(&mut bytes));
+    _ = pipe.map(|pipe| pipe.take(MOST_OUTPUT).read_to_end(&mut bytes));
     bytes
 }
 
