@@ -1,9 +1,10 @@
 //! The command line; `second` alone tells the commands.
 
 use second::check::{generated, published};
+use second::generate::{self, Generated};
 use second::lines::{write_lines, Accepted, Tool};
+use second::ogg;
 use second::records::{read_record, write_record, Kind, Record};
-use second::{generate, ogg};
 use std::error::Error;
 use std::io::{self, BufReader, BufWriter, Write};
 use std::path::Path;
@@ -59,9 +60,10 @@ fn ogg2records(file: &str) -> Outcome {
 fn generate(seed: &str, count: &str) -> Outcome {
     let (seed, count) = (seed.parse()?, count.parse()?);
     let mut output = BufWriter::new(io::stdout().lock());
-    let (records, streams) = generate::write_streams(seed, count, &mut output)?;
+    let Generated { records, streams, torn } = generate::write_streams(seed, count, &mut output)?;
     output.flush()?;
-    eprintln!("generate: seed {seed}, streams {streams}, records {records}");
+    let end = if torn { ", torn behind them" } else { "" };
+    eprintln!("generate: seed {seed}, streams {streams}, whole records {records}{end}");
     Ok(())
 }
 

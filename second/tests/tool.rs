@@ -1,5 +1,6 @@
 //! The tool's lines (01, "The tool reads standard input as records").
 
+use second::check::hand_made;
 use second::generate::fields::{base, IDENTITY};
 use second::lines::write_lines;
 use second::records::{write_record, Kind};
@@ -102,4 +103,11 @@ fn too_long_goes_before_kind_unknown() {
     let mut input = vec![1, 0xC0, 0, 0, 7, 0];
     input.resize(6 + 49_153, 0);
     assert_eq!(lines(&input), "1 too long\nend 1\n");
+}
+
+#[test]
+fn record_files_made_by_hand_give_their_lines() {
+    for file in hand_made::all().into_iter().chain([hand_made::small(), hand_made::most()]) {
+        assert_eq!(lines(&file.records), file.lines, "{}", file.name);
+    }
 }

@@ -1,6 +1,7 @@
 //! The program's own checks: published streams and generated ones.
 
 pub mod generated;
+pub mod hand_made;
 pub mod published;
 
 use crate::refusal::Refusal;

@@ -2,11 +2,12 @@
 
 pub mod content;
 pub mod fields;
+pub mod odd;
 pub mod packet;
 pub mod random;
 
 use crate::identification::Identity;
-use crate::records::{write_record, write_record_of, Kind, GREATEST_BODY};
+use crate::records::{write_record, Kind};
 use crate::setup::Setup;
 use crate::write::{write_identification, write_setup, Written};
 use packet::{AudioPacket, AudioWriter};
@@ -16,6 +17,9 @@ use std::io::{self, Write};
 /// Packets up to this many bytes are cut after every byte, longer ones at places
 /// picked at random.
 const CUT_EVERY_BYTE: usize = 160;
+
+/// Between packets of a record file odd records come so often.
+const ODD_RECORDS_ONCE_IN: u32 = 25;
 
 /// A sound stream.
 #[derive(Debug)]
@@ -130,30 +134,35 @@ pub fn random_bytes(random: &mut Random) -> Vec<u8> {
     bytes
 }
 
-/// Writes at least `count` records of the streams of `seed`, `seed + 1` and so on,
-/// whole streams each, and tells how many records and streams there are.
-pub fn write_streams(seed: u64, count: u64, output: &mut impl Write) -> io::Result<(u64, u64)> {
-    let (mut records, mut streams) = (0, 0);
-    while records < count {
-        let seed = seed.wrapping_add(streams);
-        let random = &mut Random::new(!seed);
-        let packets = Stream::new(seed).packets(random);
-        for (kind, body) in &packets {
-            write_record(output, *kind, body)?;
-        }
-        write_odd_record(random, output)?;
-        records += packets.len() as u64 + 1;
-        streams += 1;
-    }
-    Ok((records, streams))
+/// What a generated record file has in it.
+#[derive(Clone, Copy, Debug, Default, PartialEq, Eq)]
+pub struct Generated {
+    /// Whole ones.
+    pub records: u64,
+    pub streams: u64,
+    /// Whether the input ends inside one more.
+    pub torn: bool,
 }
 
-/// A record of an unknown kind or, now and then, one that is too long.
-fn write_odd_record(random: &mut Random, output: &mut impl Write) -> io::Result<()> {
-    if random.one_in(20) {
-        let kind = random.below(6) as u16;
-        return write_record_of(output, kind, &vec![0; GREATEST_BODY as usize + 1]);
+/// Writes at least `count` records of the streams of `seed`, `seed + 1` and so on, whole
+/// streams each with odd records among the packets, and the end of the last one.
+pub fn write_streams(seed: u64, count: u64, output: &mut impl Write) -> io::Result<Generated> {
+    let mut written = Generated::default();
+    loop {
+        let seed = seed.wrapping_add(written.streams);
+        let random = &mut Random::new(!seed);
+        let stream = Stream::new(seed);
+        for (kind, body) in &stream.packets(random) {
+            if random.one_in(ODD_RECORDS_ONCE_IN) {
+                written.records += odd::write_odd_records(&stream, random, output)?;
+            }
+            write_record(output, *kind, body)?;
+            written.records += 1;
+        }
+        written.streams += 1;
+        if written.records >= count {
+            written.torn = odd::write_end(&stream, random, output)?;
+            return Ok(written);
+        }
     }
-    let kind = *random.pick(&[0, 4, 0x0100, u16::MAX]);
-    write_record_of(output, kind, &random_bytes(random))
 }
