@@ -5,7 +5,7 @@ use mathlib.Core.Logic.{_⊎_}
 use mathlib.Core.Option.{Option, none, some}
 use mathlib.Core.Path.{_≡_}
 use lib.ListN.{length, getD, take, replicate}
-use Rattle.reading.specs.Outcome.{refusal, Outcome, ok, bad}
+use Rattle.reading.specs.Outcome.{Refusal, refusal, Outcome, ok, bad}
 use Rattle.reading.specs.Encoding.{Each}
 use Rattle.limits.specs.declared.Limits.{Limits}
 use Rattle.identification.specs.declared.Identity.{Identity}
@@ -83,7 +83,8 @@ pub record Outputs (limits : Limits) (i : Identity) (t : Tables) (tally : Tally)
   pub read-until-cut : (x : Accepted) → laterCall limits i t (accepted i tally room s) ≡ ok x
       → ReadUntilCut (lengthsOf (decodeSetup t)) (packetRequests i (decodeSetup t)) s (x .packet .items) (x .packet .position)
 
--- BOTH, of the audio call
+-- ALL OF IT, of the audio call; and a refusal has a number, so that 0 stands for acceptance alone
 pub record AudioClaims (limits : Limits) (i : Identity) (t : Tables) (tally : Tally) (s : List ℕ) (room : Room) : Type 0 where
   pub cut : CutStands limits i t tally room
   pub outputs : Outputs limits i t tally s room
+  pub numbered : (z : Refusal) → laterCall limits i t (accepted i tally room s) ≡ bad z → 1 ≤ z .number
