@@ -3,7 +3,6 @@
 use Prim.Native.Nat.{ℕ, zero, suc, _-_, _≤_}
 use native.Mathlib.Omega.{arith}
 use borrow.Author.Tests.{leb-true, le-leb}
-use mathlib.Core.Bool.{Bool, true, false, cond}
 use mathlib.Core.List.{List, [], _∷_, _++_, map, append-nil, append-assoc}
 use mathlib.Core.Logic.{_⊎_, inl, inr, ⊎-elim}
 use mathlib.Core.Path.{_≡_, refl, sym, ap, subst, _∙_}
@@ -22,7 +21,8 @@ use Rattle.requests.specs.Claims.{SameOrPrefix}
 use Rattle.requests.proofs.Cuts.{cut-theorem}
 use Rattle.requests.proofs.Values.{sequence}
 use Rattle.floor_requests.specs.Requests.{FloorRead, unused, floorRequests}
-use Rattle.residue_requests.specs.Listed.{isResidue, residueWords, listed}
+use Rattle.residue_requests.specs.Listed.{residueWords, listed}
+use Rattle.residue_requests.proofs.ListedLaws.{words-append}
 use Rattle.audio.specs.declared.Tally.{Tally}
 use Rattle.audio.specs.declared.Head.{Head}
 use Rattle.audio.specs.Head.{headRequests, headOf}
@@ -33,11 +33,11 @@ use Rattle.audio.specs.Claims.{CutPacket, CutStands}
 use Rattle.audio.proofs.Accepted.{Judged, packet-accepted}
 
 -- FLOORS: those before the cut, and unused ones
-channels-long : (n : ℕ) (l : List FloorRead) → length (byChannel n l) ≡ n
+pub by-channel-long : (n : ℕ) (l : List FloorRead) → length (byChannel n l) ≡ n
 unfolding byChannel
-channels-long zero l = refl
-channels-long (suc n) [] = ap suc (channels-long n [])
-channels-long (suc n) (x ∷ l) = ap suc (channels-long n l)
+by-channel-long zero l = refl
+by-channel-long (suc n) [] = ap suc (by-channel-long n [])
+by-channel-long (suc n) (x ∷ l) = ap suc (by-channel-long n l)
 
 all-unused : (n : ℕ) → byChannel n [] ≡ replicate n unused
 unfolding byChannel
@@ -54,16 +54,6 @@ channels-cut (suc n) (x ∷ l) r =
     rw less (ap (λ (t : List FloorRead). x ∷ t) (channels-cut n l r))
 
 -- CODEWORDS of items that follow each other
-words-append : (l m : List Item) → residueWords (l ++ m) ≡ residueWords l ++ residueWords m
-unfolding residueWords
-words-append [] m = refl
-words-append (x ∷ l) m = rw (words-append l m) (go (isResidue (x .request)))
-  where
-    go : (b : Bool) → cond b (x ∷ (residueWords l ++ residueWords m)) (residueWords l ++ residueWords m)
-        ≡ cond b (x ∷ residueWords l) (residueWords l) ++ residueWords m
-    go true = refl
-    go false = refl
-
 listed-append : (l m : List Item) → map listed (l ++ m) ≡ map listed l ++ map listed m
 listed-append [] m = refl
 listed-append (x ∷ l) m = ap (λ (t : List ℕ). listed x ∷ t) (listed-append l m)
@@ -92,7 +82,7 @@ module _ (channels : ℕ) (c : Setup) (s : List ℕ) (m : ℕ) (l : List Item) (
       record {
         head = refl;
         before = length values;
-        floors = rw (v .1, channels-long channels (values ++ v .0)) (channels-cut channels values (v .0));
+        floors = rw (v .1, by-channel-long channels (values ++ v .0)) (channels-cut channels values (v .0));
         rest = w .0;
         items = items;
         codewords = ap (λ (t : List Item). map listed (residueWords t)) items ∙ codewords-append (l ++ cut) (w .0);

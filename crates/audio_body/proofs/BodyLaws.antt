@@ -15,9 +15,10 @@ use Rattle.requests.specs.inner.Parts.{after, joined}
 use Rattle.requests.proofs.Laws.{run-bind}
 use Rattle.floor_requests.specs.Requests.{FloorRead, floorRequests}
 use Rattle.residue_requests.specs.Listed.{residueWords, listed}
+use Rattle.residue_requests.proofs.ListedLaws.{words-append}
 use Rattle.codeword_list.specs.inner.ListRead.{cut, endingIn}
 use Rattle.audio_body.specs.inner.Body.{endingWords}
-use Rattle.audio_body.proofs.BodyWords.{Asks, asks-each, floor-asks, run-kept, words-append}
+use Rattle.audio_body.proofs.BodyWords.{Asks, asks-each, floor-asks, run-kept}
 
 module _ (lengthsOf : ℕ → List ℕ) (s : List ℕ) (k : ℕ) (fs : List Floor) (residues : List FloorRead → Requests Unit) (asks : (vs : List FloorRead) → Asks true (residues vs)) where
   -- the floors' run, the whole run

@@ -3,7 +3,7 @@ use Prim.Native.Nat.{ℕ, suc, _*_, _≤_}
 use native.Mathlib.Omega.{arith}
 use mathlib.Core.Bool.{Bool, true, false}
 use mathlib.Core.List.{List, [], _∷_, map}
-use mathlib.Core.Option.{Option, none, some}
+use mathlib.Core.Option.{Option, none, some, Option·some-injective}
 use mathlib.Core.Path.{_≡_, refl, ap, sym, subst, _∙_}
 use lib.ListN.{length, length-map}
 use Rattle.reading.specs.Least.{one}
@@ -38,13 +38,10 @@ use Rattle.audio_body.specs.inner.Body.{floorsIn, residuesIn, bodyIn, Bo
 use Rattle.audio_body.proofs.BodyWords.{Asks, all-ask}
 use Rattle.audio_body.proofs.BodyLaws.{cut-ending, cut-list, whole-ending, whole-list}
 
-some-is : {A : Type 0} {a b : A} → _≡_ {A = Option A} (some a) (some b) → a ≡ b
-some-is e = cc
-
 -- floors that are all whole are as many as were asked for
 all-long : (reads : Request → Reader ℕ) (s : List ℕ) (fs : List Floor) (k : ℕ) (vs : List FloorRead) → run reads (each floorRequests fs) s k .value ≡ some vs → length vs ≡ length fs
 unfolding each run
-all-long reads s [] k vs e = ap length (sym (some-is e))
+all-long reads s [] k vs e = ap length (sym (Option·some-injective _ _ e))
 all-long reads s (f ∷ fs) k vs e =
     let a = both (run reads (floorRequests f) s k) (λ v n. run reads (bind (each floorRequests fs) (λ l. done (v ∷ l))) s n)
     (ap (λ (r : Run (List FloorRead)). r .value) (sym (run-bind reads s (floorRequests f) (λ v. bind (each floorRequests fs) (λ l. done (v ∷ l))) k)) ∙ e) in
@@ -52,7 +49,7 @@ all-long reads s (f ∷ fs) k vs e =
     let b = both (run reads (each floorRequests fs) s n) (λ l m. run reads (done (a .first ∷ l)) s m)
     (ap (λ (r : Run (List FloorRead)). r .value) (sym (run-bind reads s (each floorRequests fs) (λ l. done (a .first ∷ l)) n)) ∙ a .second) in
     let h = all-long reads s fs n (b .first) (b .came) in
-    ap length (sym (some-is (b .second))) ∙ ap suc h
+    ap length (sym (Option·some-injective _ _ (b .second))) ∙ ap suc h
 
 module _ (books lengths floors residues plans mappings : List ℕ) (n channels half : ℕ) (s : List ℕ) (k : ℕ) where
   abbrev fs : List Floor

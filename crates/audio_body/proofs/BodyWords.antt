@@ -3,7 +3,7 @@ use Prim.Native.Nat.{ℕ, zero, suc, _-_, _/_}
 use mathlib.Core.Bool.{Bool, true, false, cond}
 use mathlib.Core.List.{List, [], _∷_, _++_}
 use mathlib.Core.Option.{none}
-use mathlib.Core.Path.{_≡_, refl, ap}
+use mathlib.Core.Path.{_≡_, refl}
 use lib.Dec.{eqb}
 use lib.ListN.{getD}
 use Rattle.reading.specs.Outcome.{Outcome, ok, bad}
@@ -163,14 +163,3 @@ module _ {A : Type 0} (reads : Request → Reader ℕ) (s : List ℕ) where
       go : (o : Outcome (ℕ × ℕ)) → ((i n : ℕ) → Kept v (run reads (f i) s n .items)) → Kept v (continued q k o (λ i n. run reads (f i) s n) .items)
       go (ok y) h = one-kept v _ _ (p .0) (h (y .0) (y .1))
       go (bad z) h = none-kept v
-
--- and of lists one behind the other
-pub words-append : (l m : List Item) → residueWords (l ++ m) ≡ residueWords l ++ residueWords m
-unfolding residueWords
-words-append [] m = refl
-words-append (i ∷ l) m = go (words-append l m) (isResidue (i .request))
-  where
-    go : residueWords (l ++ m) ≡ residueWords l ++ residueWords m → (t : Bool)
-        → cond t (i ∷ residueWords (l ++ m)) (residueWords (l ++ m)) ≡ cond t (i ∷ residueWords l) (residueWords l) ++ residueWords m
-    go e true = ap (λ (x : List Item). i ∷ x) e
-    go e false = e

@@ -5,6 +5,7 @@ use floor::FLOOR_WIDTH;
 use floor::X_LIST_PLACE;
 use floor_curve::lines::draw_flat;
 use floor_values::values::read_values;
+use reading::widths::u8_from_u16;
 use reading::widths::wide_u16;
 ghost use mathlib.Core.Path.{_≡_};
 ghost use Prim.Native.Nat.{_≤_, _<_};
@@ -23,13 +24,6 @@ pub struct ChannelRead {
     pub cut: bool,
     // 1 where the floor is used; 0 on a cut.
     pub used: u8,
-}
-
-fn byte(v: u16) -> u8
-    requires { ⌜ v < 256 ⌝ }
-    ensures { λ r. ⌜ r ≡ v ⌝ }
-{
-    v as u8
 }
 
 // The curve of as many X as values, worked out in `y` and `flags`: final Y and flags, then the lines between the flagged points.
@@ -66,7 +60,7 @@ fn draw_floor(floors: &[u16], floor: usize, values: &[u16], out: &mut [u8])
 {
     let first = FLOOR_WIDTH * floor + X_LIST_PLACE;
     let end = first + wide_u16(floor_row::x_count(floors, floor));
-    let multiplier = byte(floor_row::multiplier(floors, floor));
+    let multiplier = u8_from_u16(floor_row::multiplier(floors, floor));
     draw_values(&floors[first..end], values, multiplier, out);
 }
 

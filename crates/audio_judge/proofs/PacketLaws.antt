@@ -1,5 +1,5 @@
 -- A packet behind its head, judged: 17 for the curves, the body, 17 for the codewords, the tally's step. Assumes nothing.
-use Prim.Native.Nat.{ℕ, zero, suc, _+_, _*_, _/_, _≤_, _<_}
+use Prim.Native.Nat.{ℕ, suc, _+_, _*_, _/_, _≤_, _<_}
 use native.Mathlib.Nat.{zero-mul, suc-mul}
 use native.Mathlib.Omega.{arith}
 use borrow.Author.Tests.{lt-leb, le-leb}
@@ -25,6 +25,7 @@ use Rattle.requests.specs.Run.{read, Item, Run, run}
 use Rattle.requests.specs.Values.{wholeValues}
 use Rattle.floor_requests.specs.Requests.{FloorRead, floorRequests}
 use Rattle.residue_requests.specs.Listed.{residueWords, listed}
+use Rattle.residue_requests.proofs.ListedLaws.{words-append}
 use Rattle.codeword_list.specs.inner.ListRead.{all, cut, full, endingOf, endingBy}
 use Rattle.codeword_list.specs.declared.ListRead.the-variants as L
 use Rattle.codeword_list.specs.declared.Progress.{Progress}
@@ -36,13 +37,14 @@ use Rattle.audio.specs.Packet.{Audio, mappingOf, byChannel, channelFloors, body
 use Rattle.audio.specs.Tally.{counted}
 use Rattle.audio.specs.Curves.{curveOf, curvesOf}
 use Rattle.audio.specs.Call.{Room, Accepted, judged}
+use Rattle.audio.proofs.Cuts.{by-channel-long}
 use Rattle.audio_floors.proofs.Agreement.{flags-agree, whole-few}
 use Rattle.audio_floors.proofs.FloorsLaws.{curve-long}
 use Rattle.audio_body.specs.declared.BodyRead.{BodyRead}
 use Rattle.audio_settle.specs.declared.Judged.{Judged}
 use Rattle.audio_body.specs.inner.Body.{endingWords, BodyIs}
 use Rattle.audio_settle.specs.inner.Judged.{refusedBy, acceptedBy, finishedBy, judgement, curvesBy, JudgedIs}
-use Rattle.audio_body.proofs.BodyWords.{Asks, asks-bind, asks-done, asks-if, asks-request, run-kept, words-append}
+use Rattle.audio_body.proofs.BodyWords.{Asks, asks-bind, asks-done, asks-if, asks-request, run-kept}
 
 -- no field of the head is a codeword
 flags-ask : (i : Identity) (mode blockflag : ℕ) → Asks false (flagRequests i mode blockflag)
@@ -101,12 +103,6 @@ pub bad-ok : {A : Type 0} {z : Refusal} {a : A} → bad z ≡ ok a → ⊥
 bad-ok e = let z : _≡_ {A = ℕ} 0 1 = cc in omega arith
 
 -- how many there are of each
-by-channel-long : (n : ℕ) (l : List FloorRead) → length (byChannel n l) ≡ n
-unfolding byChannel
-by-channel-long zero l = refl
-by-channel-long (suc n) [] = ap suc (by-channel-long n [])
-by-channel-long (suc n) (x ∷ l) = ap suc (by-channel-long n l)
-
 curves-bytes : (half : ℕ) (fs : List Floor) (vs : List FloorRead) → length vs ≡ length fs → length (curvesOf half fs vs) ≡ length fs * half
 unfolding curvesOf
 curves-bytes half [] [] e = sym (zero-mul half)

@@ -7,7 +7,7 @@ use audio_settle::Judged;
 use audio_settle::size::curve_bytes;
 use audio_tally::Counted;
 use bits::Cursor;
-use bits::Refusal;
+use bits::number_of;
 use codeword_list::ListRead;
 use identification::Identity;
 use reading::buffers::get_u32;
@@ -135,12 +135,6 @@ fn judge_body(
         ListRead::Cut(progress) => finish(tally, head, used, progress.count),
         ListRead::Full => refused(17),
     }
-}
-
-fn number_of(refusal: Refusal) -> u32
-    ensures { λ r. ⌜ r ≡ refusal .number ⌝ }
-{
-    refusal.number as u32
 }
 
 // A whole packet, by an identity and tables that are ready: 18 for the tally, the head (1, 15, 16), then what follows it.

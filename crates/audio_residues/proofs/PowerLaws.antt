@@ -5,6 +5,7 @@ use native.Mathlib.Numerals.{add-one}
 use native.Mathlib.Omega.{arith}
 use borrow.Author.Needs.{needs}
 use mathlib.Core.Path.{_≡_, refl, sym, ap, _∙_}
+use Rattle.reading.proofs.Basics.{one-power}
 
 -- the product of i factors
 pub record Product (base exponent total i : ℕ) : Type 0 where
@@ -27,11 +28,7 @@ module _ {base exponent total i : ℕ} (g : Product base exponent total i) where
   pub power-done : exponent ≤ i → total ≡ base ^ exponent
   power-done h = let w = g .within in let s : i ≡ exponent = omega arith in g .product ∙ ap (λ (n : ℕ). base ^ n) s
 
-one-pow : (n : ℕ) → 1 ^ n ≡ 1
-one-pow zero = pow-zero 1
-one-pow (suc n) = rw (pow-suc, one-pow n)
-
 pub power-of-one : (exponent : ℕ) {base : ℕ} → 1 ≤ base → base < 2 → 1 ≡ base ^ exponent
-power-of-one exponent {base} low high = let e : base ≡ 1 = omega arith in rw e (sym (one-pow exponent))
+power-of-one exponent {base} low high = let e : base ≡ 1 = omega arith in rw e (sym (one-power exponent))
 
 pub ruleset powers = (needs, power-of-one, power-start, power-fits, power-next, power-done)

@@ -5,14 +5,11 @@ use native.Mathlib.Omega.{arith}
 use mathlib.Core.Bool.{Bool}
 use mathlib.Core.List.{List}
 use mathlib.Core.Path.{_≡_, refl, ap, subst, _∙_}
-use lib.ListN.{length, getD, drop}
+use lib.ListN.{length, getD}
 use Rattle.book.specs.Layout.{dimensionsAt}
 use Rattle.book_codeword.specs.inner.Stored.{lengthsIn, dimensionsIn}
 use Rattle.residue.specs.Content.{Residue}
-use Rattle.residue.specs.Layout.{planWidth}
-use Rattle.residue.specs.Reading as R
-use Rattle.residue.specs.Reading.{withPlan}
-use Rattle.residue.specs.inner.Decode.{headAt, chunks}
+use Rattle.residue.specs.inner.Decode.{headAt}
 use Rattle.residue.specs.inner.Heads.{headOf}
 use Rattle.residue.specs.declared.head.Head.{Head}
 use Rattle.mapping.specs.Content.{Mapping}
@@ -28,6 +25,7 @@ use Rattle.codeword_list.specs.inner.ListRead.{ReadIntoList}
 use Rattle.codeword_list.specs.inner.WordsRun.{wordsRun}
 use Rattle.codeword_list.proofs.Laws.{whole, Alike, read-alike}
 use Rattle.residue_pass.specs.inner.Readable.{residueIn, residueBy, ResidueReadable, PassReadable}
+use Rattle.residue_pass.proofs.ReadableLaws.{residue-by-head}
 use Rattle.audio.specs.Channels.{channelsOf, liveOf, vectorSize, vectorCount, submapRequests}
 use Rattle.audio_channels.specs.inner.Live.{usedBools}
 use Rattle.audio_channels.specs.inner.Extents.{headResidue, ExtentIs}
@@ -48,11 +46,6 @@ module _ {books lengths codewords plans : List ℕ} {n : ℕ} {h : Head} (p : Re
   pub pass-readable : {top : ℕ} → top ≡ h .classifications ^ (digits - 1) → PassReadable books lengths codewords plans n h digits top
   unfolding dimensionsIn
   pass-readable q = record { readable = p; digits-are = d; top-is = q }
-
--- the residue
-residue-same : (h : Head) (residues plans : List ℕ) (n : ℕ) → headOf h ≡ headAt residues n → residueBy h plans n ≡ residueIn residues plans n
-unfolding residueBy residueIn
-residue-same h residues plans n e = ap (λ (x : R.Head). withPlan x (chunks (x .classifications) (drop (planWidth * n) plans))) e
 
 module _ (half : ℕ) (m : Mapping) (live : List Bool) (submap : ℕ) (h : Head) (plans : List ℕ) (n : ℕ) where
   unfoldable vectors-of : Residue → ℕ
@@ -76,7 +69,7 @@ module _ (half : ℕ) (m : Mapping) (live : List Bool) (submap : ℕ) (h : Head)
         ≡ flatResidue D (residueIn residues plans n) (vectors-of (residueIn residues plans n)) (partitions-of (residueIn residues plans n))
     unfolding vectors-of partitions-of
     flat-same =
-        let s = residue-same h residues plans n e in
+        let s = residue-by-head h residues plans n e in
         let v : vectors ≡ vectors-of (residueIn residues plans n) = x .vectors-are ∙ vectors-by ∙ ap vectors-of s in
         let p : partitions ≡ partitions-of (residueIn residues plans n) = rw (← l) at (x .partitions-are) ∙ partitions-by ∙ ap partitions-of s in
         λ j. flatResidue D (s j) (v j) (p j)

@@ -26,6 +26,10 @@ module _ {r : Field} {o : Outcome (ℕ × ℕ)} where
 pub value-below : {r : Field} (w : ℕ) (s : List ℕ) (k : ℕ) {v : ℕ} {c : Cursor} → outcome r ≡ field w s k → r ≡ Value v c → v < 2 ^ w
 value-below w s k p q = field-ok s k w (value-is p q) .below
 
+-- as a byte's cast asks it
+pub byte-below : (s : List ℕ) (k : Cursor) {r : Field} {v : ℕ} {c : Cursor} → outcome r ≡ field 8 s (position k) → r ≡ Value v c → v < 256
+byte-below s k p q = value-below 8 s (position k) p q
+
 -- the two ways out of reading at a cursor
 module _ (s : List ℕ) (c : Cursor) (w : ℕ) where
   pub cut-here : (z : Refusal) → z .number ≡ 1 → z .place ≡ c → 8 * length s < position c + w → outcome (Refused z) ≡ field w s (position c)

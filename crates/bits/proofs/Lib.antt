@@ -1,5 +1,6 @@
 pub mod Values
 pub mod Fields
+pub mod Numbers
 pub mod Bytes
 pub mod Answers
 pub mod Steps

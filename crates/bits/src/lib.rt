@@ -3,6 +3,7 @@
 pub mod ilog;
 pub mod kind;
 
+use reading::widths::wide_u8;
 ghost use mathlib.Core.Path.{_≡_};
 ghost use Prim.Native.Nat.{_+_, _*_, _%_, _^_, _≤_};
 ghost use lib.ListN.{length};
@@ -52,7 +53,7 @@ impl Cursor {
         ensures { λ r. ⌜ outcome r ≡ field width (now (packet .entry)) (position self) ⌝ }
     {
         let byte = self.byte;
-        let bit = wide(self.bit);
+        let bit = wide_u8(self.bit);
         if packet.len() < byte {
             return Field::Refused(Refusal {
                 number: 1,
@@ -85,10 +86,11 @@ impl Cursor {
     }
 }
 
-fn wide(x: u8) -> usize
-    ensures { λ r. ⌜ r ≡ x ⌝ }
+// The number of a refusal alone, for callers that 01 gives no place.
+pub fn number_of(refusal: Refusal) -> u32
+    ensures { λ r. ⌜ r ≡ refusal .number ⌝ }
 {
-    x as usize
+    refusal.number as u32
 }
 
 // The number that `count` bytes from `first` on make, the first of them lowest.

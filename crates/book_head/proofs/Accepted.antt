@@ -1,14 +1,15 @@
 -- A HEAD THAT WAS READ meets every rule: by the judgement of each field, and its width. Assumes nothing.
 use Prim.Native.Nat.{ℕ, _+_, _≤_, _<_}
 use native.Mathlib.Omega.{arith}
-use borrow.Author.Tests.{leb-true, eqb-false, not-true}
-use mathlib.Core.Bool.{true, not}
+use borrow.Author.Tests.{leb-true}
+use mathlib.Core.Bool.{not}
 use mathlib.Core.List.{List}
 use mathlib.Core.Path.{_≡_, refl, sym, ap, _∙_}
 use lib.Dec.{eqb, leb}
 use Rattle.reading.specs.Outcome.{ok}
 use Rattle.reading.specs.Reader.{Reader, judged}
 use Rattle.reading.proofs.Outcomes.{then-ok, judged-ok, same-ok}
+use Rattle.reading.proofs.Basics.{tested-above-zero}
 use Rattle.bits.specs.declared.Cursor.{Cursor}
 use Rattle.bits.specs.Field.{field}
 use Rattle.bits.proofs.Fields.{field-ok}
@@ -26,9 +27,6 @@ pub record HeadKnown (l : Limits) (before : Before) (h : Head) : Type 0 where
   pub entries-high : h .entries < 16777216
   pub entries-book : h .entries ≤ l .«book_entries»
   pub entries-all : before .entries + h .entries ≤ l .entries
-
-not-zero : (v : ℕ) → not (eqb v 0) ≡ true → 1 ≤ v
-not-zero v t = let n = eqb-false v 0 (not-true (eqb v 0) t) in omega arith
 
 pub head-ok : (l : Limits) (before : Before) (s : List ℕ) (k : ℕ) {h : Head} {n : ℕ} → head l before s k ≡ ok (h, n) → HeadKnown l before h
 unfolding head
@@ -48,9 +46,9 @@ head-ok l before s k {h} {n} e =
     let c₄ = field-ok s (b .0 .1) 24 (c₃ .0) .below in
     rw (← (ap (λ (x : Head × ℕ). x .0) q))
     (record {
-      dimensions-low = not-zero (b .0 .0) (d .1);
+      dimensions-low = tested-above-zero (b .0 .0) (d .1);
       dimensions-high = omega arith;
-      entries-low = not-zero (c .0 .0) (c₃ .1);
+      entries-low = tested-above-zero (c .0 .0) (c₃ .1);
       entries-high = omega arith;
       entries-book = leb-true _ _ (c₂ .1);
       entries-all = leb-true _ _ (c₁ .1);

@@ -12,7 +12,8 @@ use lib.Seq.{sets}
 use lib.Pow.{pow-mono}
 use Rattle.reading.specs.Outcome.{Outcome, ok, bad, then, need, refusal}
 use Rattle.reading.specs.Reader.{many, mapped}
-use Rattle.reading.proofs.Outcomes.{then-ok, same-ok}
+use Rattle.reading.proofs.Outcomes.{then-ok, same-ok, then-into}
+use Rattle.reading.proofs.Basics.{product-fits}
 use Rattle.bits.specs.declared.Cursor.{Cursor}
 use Rattle.bits.specs.declared.Refusal.{Refusal}
 use Rattle.bits.specs.declared.Field.{Field}
@@ -24,7 +25,6 @@ use Rattle.bits.specs.Field.{field}
 use Rattle.bits.proofs.Answers.{value-is, refused-is, value-below}
 use Rattle.bits.proofs.Fields.{field-ok}
 use Rattle.bits.proofs.Steps.{wrote-refused, wrote-next}
-use Rattle.power.proofs.Laws.{product-fits}
 use Rattle.book_lookup.specs.Reading.{Lookup, lookup1Values, valueCount, values, lookup}
 use Rattle.book_lookup.specs.inner.Parts.{Parameters, parameters, stored}
 use Rattle.book_lookup.specs.inner.Answers.{parametersRead}
@@ -76,12 +76,6 @@ count-two type entries dimensions n = rw (ne-eqb _ _ n)
 
 pub multiplicand-fits : {r : Field} (w : ℕ) (s : List ℕ) (k : ℕ) {v : ℕ} {c : Cursor} → w ≤ 16 → outcome r ≡ field w s k → r ≡ Value v c → v < 65536
 multiplicand-fits w s k h p q = lt-of-lt-of-le (value-below w s k p q) (pow-mono {i = w} {j = 16} h)
-
--- a step, and then another, of which the first part is named
-module _ {A B C : Type 0} (h : B → Outcome C) where
-  then-into : (o : Outcome A) (f : A → Outcome B) (g : A → Outcome C) → ((a : A) → g a ≡ then (f a) h) → then o g ≡ then (then o f) h
-  then-into (ok a) f g e = e a
-  then-into (bad z) f g e = refl
 
 abbrev pub withValues : ℕ → Parameters → List ℕ → Lookup
 withValues type p list =

@@ -111,31 +111,31 @@ fn without(step: Step) -> LookupRead
     }
 }
 
-// What follows a type that is not 0: `count` multiplicands go from place `first` of their table on, and `most` is the limit for all.
+// What follows a type that is not 0: `multiplicand_count` multiplicands go from place `first` of their table on, and `most` is the limit for all.
 fn read_values(
     packet: &[u8],
     from: Cursor,
     place: Cursor,
     lookup: u32,
-    count: u64,
+    multiplicand_count: u64,
     first: u32,
     most: u32,
     multiplicands: &mut [u16],
 ) -> LookupRead
     requires { ⌜ (first ≤ most) × (most ≤ length (now multiplicands)) ⌝ }
     ensures { λ r. ⌜ Wrote (mapped (stored (now (multiplicands .entry)) first)
-        (values (position place) lookup count most first (now (packet .entry)) (position from))) (r .step)
+        (values (position place) lookup «multiplicand_count» most first (now (packet .entry)) (position from))) (r .step)
         (numbersOf r, now (multiplicands .exit)) ⌝ }
     ensures { λ r. ⌜ first + r .count ≤ most ⌝ }
 {
     match read_parameters(packet, from) {
         ParametersRead::Refused(z) => without(Step::Refused(z)),
         ParametersRead::Value(p, next) => {
-            if ((most - first) as u64) < count {
+            if ((most - first) as u64) < multiplicand_count {
                 return without(Step::Refused(Refusal { number: 14, place }));
             }
             let start = first as usize;
-            let end = start + count as usize;
+            let end = start + multiplicand_count as usize;
             let width = p.width as usize;
             let step = read_multiplicands(packet, next, width, &mut multiplicands[start..end]);
             LookupRead {
@@ -145,7 +145,7 @@ fn read_values(
                 delta: p.delta,
                 width: p.width,
                 sequence: p.sequence,
-                count: count as u32,
+                count: multiplicand_count as u32,
             }
         }
     }
@@ -180,13 +180,13 @@ pub fn read_lookup(
             if lookup == 0 {
                 return without(Step::Next(next));
             }
-            let count = value_count(lookup, entries, dimensions);
+            let multiplicand_count = value_count(lookup, entries, dimensions);
             read_values(
                 packet,
                 next,
                 place,
                 lookup,
-                count,
+                multiplicand_count,
                 first,
                 most,
                 multiplicands,

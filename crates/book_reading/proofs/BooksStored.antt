@@ -11,9 +11,9 @@ use Rattle.reading.specs.Lists.{rows}
 use Rattle.reading.specs.Reader.{puts}
 use Rattle.reading.proofs.Pads.{pad-nil}
 use Rattle.reading.proofs.Tables.{sets-pad}
-use Rattle.reading.proofs.Tabulate.{tabulate-length}
 use Rattle.limits.specs.declared.Limits.{Limits}
-use Rattle.codeword_assignment.specs.Book.{ledgerCodewords, codewordOf}
+use Rattle.codeword_assignment.specs.Book.{ledgerCodewords}
+use Rattle.codeword_assignment.proofs.Laws.{codewords-length}
 use Rattle.book.specs.Content.{Book}
 use Rattle.book.specs.Layout.{bookWidth, bookRow}
 use Rattle.book_head.specs.Reading.{Before}
@@ -21,10 +21,6 @@ use Rattle.book_reading.specs.Reading.{andThis}
 use Rattle.book_reading.specs.inner.Layout.{Tables, tables, putBook}
 use Rattle.book_reading.specs.Rows.{bookRows, allLengths, allCodewords, allMultiplicands, andThese, decodeBook, decodeBooks}
 use Rattle.book_reading.specs.inner.Valid.{ValidBooks}
-
-pub codewords-length : (ls : List ℕ) → length (ledgerCodewords ls) ≡ length ls
-unfolding ledgerCodewords
-codewords-length ls = tabulate-length (codewordOf ls) (length ls)
 
 pub row-length : (e v : ℕ) (b : Book) → length (bookRow e v b) ≡ bookWidth
 unfolding bookRow

@@ -1,20 +1,18 @@
 -- THE RULES OF A BOOK AS BOUNDS: 6 is three comparisons, 7 and 8 together are the ledger's verdict, 14 is a comparison. Assumes nothing.
 use Prim.Native.Nat.{ℕ, _≤_}
 use native.Mathlib.Omega.{arith}
-use borrow.Author.Tests.{leb-true, le-leb, eqb-false, ne-eqb, not-true}
+use borrow.Author.Tests.{leb-true, le-leb, ne-eqb}
 use mathlib.Core.Bool.{true, not}
 use mathlib.Core.Path.{_≡_}
 use lib.Dec.{eqb}
 use lib.ListN.{length}
+use Rattle.reading.proofs.Basics.{tested-above-zero}
 use Rattle.limits.specs.declared.Limits.{Limits}
 use Rattle.codeword_assignment.specs.Book.{verdict}
 use Rattle.codeword_assignment.specs.declared.book.Assigned.the-variants.{Accepted}
 use Rattle.book.specs.Content.{Book}
 use Rattle.book_lengths.proofs.Verdict.{accepted-meets, meets-accepted}
 use Rattle.book_reading.specs.Rules.{Rule6, Rule7, Rule8, Book14}
-
-not-zero : (v : ℕ) → not (eqb v 0) ≡ true → 1 ≤ v
-not-zero v t = let n = eqb-false v 0 (not-true (eqb v 0) t) in omega arith
 
 positive : (v : ℕ) → 1 ≤ v → not (eqb v 0) ≡ true
 positive v h = rw (ne-eqb v 0 (λ z. omega arith))
@@ -24,10 +22,10 @@ module _ (b : Book) where
   rule6-met d e l = record { dimensions = positive _ d; entries = positive _ e; lookup = le-leb _ _ l }
 
   pub some-dimensions : Rule6 b → 1 ≤ b .dimensions
-  some-dimensions r = not-zero _ (r .dimensions)
+  some-dimensions r = tested-above-zero _ (r .dimensions)
 
   pub some-entries : Rule6 b → 1 ≤ length (b .lengths)
-  some-entries r = not-zero _ (r .entries)
+  some-entries r = tested-above-zero _ (r .entries)
 
   pub known-lookup : Rule6 b → b .lookup ≤ 2
   known-lookup r = leb-true _ _ (r .lookup)

@@ -3,22 +3,17 @@
 pub mod mark; // whether a book has a sole used entry, and which
 
 use book::WIDTH;
+use reading::widths::wide_u32;
 ghost use mathlib.Core.Path.{_≡_};
 ghost use Prim.Native.Nat.{_<_};
 ghost use Rattle.book.specs.Layout.{bookWidth, numberAt, dimensionsAt, entriesAt, firstEntryAt, lookupAt, loneAt};
-
-fn wide(x: u32) -> usize
-    ensures { λ r. ⌜ r ≡ x ⌝ }
-{
-    x as usize
-}
 
 // Number `column` of a book's row.
 fn number(books: &[u32], book: u32, column: usize) -> u32
     requires { ⌜ column < bookWidth ⌝ }
     ensures { λ r. ⌜ r ≡ numberAt (now (books .entry)) book column ⌝ }
 {
-    let place = WIDTH * wide(book) + column;
+    let place = WIDTH * wide_u32(book) + column;
     reading::buffers::get_u32(books, place)
 }
 

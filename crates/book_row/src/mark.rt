@@ -1,6 +1,6 @@
 // The mark of a book in its row: whether it has a sole used entry of length 1, and which. Reading such an entry takes no bits (01, "Bits and books"), so
 // that a packet of a few bytes can ask for very many: each has to be found without a search.
-use crate::wide;
+use reading::widths::wide_u32;
 ghost use mathlib.Core.Path.{_≡_};
 ghost use mathlib.Core.Bool.{true};
 ghost use Prim.Native.Nat.{_+_, _<_, _≤_};
@@ -12,8 +12,8 @@ pub fn lone_mark_at(lengths: &[u8], first: u32, count: u32) -> u32
     requires { ⌜ first + count ≤ length (now lengths) ⌝ }
     ensures { λ r. ⌜ r ≡ loneMark (take count (drop first (now (lengths .entry)))) ⌝ }
 {
-    let start = wide(first);
-    let end = start + wide(count);
+    let start = wide_u32(first);
+    let end = start + wide_u32(count);
     lone_mark(&lengths[start..end])
 }
 

@@ -13,13 +13,14 @@ use Rattle.reading.proofs.Pads.{pad-nil}
 use Rattle.reading.proofs.Encodes.{pad-append}
 use Rattle.limits.specs.declared.Limits.{Limits}
 use Rattle.codeword_assignment.specs.Book.{ledgerCodewords}
+use Rattle.codeword_assignment.proofs.Laws.{codewords-length}
 use Rattle.book.specs.Content.{Book}
 use Rattle.book.specs.Layout.{bookWidth, bookRow}
 use Rattle.book_head.specs.inner.Answers.{totals}
 use Rattle.book_reading.specs.Reading.{andThis}
 use Rattle.book_reading.specs.Rows.{bookRows, allLengths, allCodewords, allMultiplicands, decodeBooks}
 use Rattle.book_reading.specs.inner.Valid.{ValidBooks}
-use Rattle.book_reading.proofs.BooksStored.{codewords-length, row-length, within-entries, within-values, decode-books}
+use Rattle.book_reading.proofs.BooksStored.{row-length, within-entries, within-values, decode-books}
 use Rattle.book_tables.specs.declared.row.Row.{Row}
 use Rattle.book_tables.specs.inner.Rules.{rowOf, BookRules}
 use Rattle.book_tables.specs.inner.Recognised.{Countable, BooksLeft, Clear, OneContent}

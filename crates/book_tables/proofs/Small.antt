@@ -2,32 +2,22 @@
 use Prim.Native.Nat.{ℕ, suc, _≤_, _<_}
 use native.Mathlib.Omega.{arith}
 use borrow.Author.Tests.{le-leb}
-use mathlib.Core.Bool.{true, cond, _||_}
+use mathlib.Core.Bool.{true}
 use mathlib.Core.List.{List, [], _∷_}
 use mathlib.Core.Logic.{⊎-elim}
-use mathlib.Core.Option.{Option, none, some}
 use mathlib.Core.Path.{_≡_, refl}
-use lib.Dec.{eqb, leb}
+use lib.Dec.{leb}
 use lib.ListN.{getD}
 use Rattle.reading.specs.Lists.{all}
 use Rattle.reading.proofs.Least.{lt-or-le}
-use Rattle.codeword_assignment.specs.Book.{used, isLone, verdict, refusedOr, firstRefused, freeAfter, ledgerCodewords, entryAnswer, handedOutBefore}
-use Rattle.codeword_assignment.specs.declared.book.Assigned.the-variants.{Accepted, Underspecified}
-use Rattle.codeword_assignment.proofs.Laws.{entry-answer}
+use Rattle.codeword_assignment.specs.Book.{verdict, ledgerCodewords, entryAnswer, handedOutBefore}
+use Rattle.codeword_assignment.specs.declared.book.Assigned.the-variants.{Accepted}
+use Rattle.codeword_assignment.proofs.Laws.{entry-answer, accepted-none-refused}
 use Rattle.codespace.proofs.Whole.{some-says}
-
-none-refused : (ls : List ℕ) → verdict ls ≡ Accepted → firstRefused ls ≡ none
-unfolding verdict
-none-refused ls accepted = go (firstRefused ls) refl accepted
-  where
-    go : (o : Option ℕ) → firstRefused ls ≡ o → refusedOr o (cond (eqb (freeAfter ls) 0 || isLone (used ls)) Accepted Underspecified) ≡ Accepted
-        → firstRefused ls ≡ none
-    go none p q = p
-    go (some e) p q = let z : _≡_ {A = ℕ} 0 1 = cc in absurd (omega arith)
 
 used-small : (ls : List ℕ) (e : ℕ) → verdict ls ≡ Accepted → 0 < getD ls e 0 → getD ls e 0 ≤ 32
 unfolding entryAnswer
-used-small ls e a h = some-says (handedOutBefore ls e) (getD ls e 0) (getD (ledgerCodewords ls) e 0) (entry-answer ls (none-refused ls a) e h) .0 .high
+used-small ls e a h = some-says (handedOutBefore ls e) (getD ls e 0) (getD (ledgerCodewords ls) e 0) (entry-answer ls (accepted-none-refused ls a) e h) .0 .high
 
 each-small : (ls : List ℕ) → ((e : ℕ) → getD ls e 0 ≤ 32) → all (λ l. leb l 32) ls ≡ true
 unfolding all

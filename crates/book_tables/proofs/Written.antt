@@ -10,15 +10,16 @@ use lib.ListN.{length, getD, take}
 use lib.Seq.{take-at, length-take-le}
 use Rattle.reading.specs.Lists.{all}
 use Rattle.reading.proofs.Least.{lt-or-le}
+use Rattle.reading.proofs.Basics.{length-zero}
 use Rattle.limits.specs.declared.Limits.{Limits}
 use Rattle.codeword_assignment.specs.Book.{ledgerCodewords, loneMark}
+use Rattle.codeword_assignment.proofs.Laws.{codewords-length}
 use Rattle.book.specs.Content.{Book}
 use Rattle.book.specs.Layout.{bookWidth, bookRow}
 use Rattle.book_head.specs.inner.Answers.{totals}
 use Rattle.book_reading.specs.Carried.{NoLookup, SomeLookup}
 use Rattle.book_reading.specs.inner.Valid.{ValidBook}
 use Rattle.book_reading.proofs.RuleLaws.{rule6-met, rule7-met, rule8-met, rule14-met, some-dimensions, some-entries, known-lookup, lengths-accepted, few-entries}
-use Rattle.book_reading.proofs.BooksStored.{codewords-length}
 use Rattle.book_tables.specs.declared.row.Row.{Row}
 use Rattle.book_tables.specs.inner.Rules.{rowOf, NoneRules, SomeRules, BookRules}
 use Rattle.book_tables.proofs.Small.{accepted-small}
@@ -54,10 +55,6 @@ rowFor entries values b =
       lone = loneMark (b .lengths);
     }
 
-empty : (l : List ℕ) → length l ≡ 0 → l ≡ []
-empty [] e = refl
-empty (x ∷ l) e = absurd (omega arith)
-
 module _ (limits : Limits) (entries values : ℕ) where
   -- what is left of the tables has room for what the limits allow
   module _ (row : Row) (ls ws ms : List ℕ) (room : limits .entries ≤ entries + length ls) (room-values : limits .multiplicands ≤ values + length ms)
@@ -75,7 +72,7 @@ module _ (limits : Limits) (entries values : ℕ) where
           delta = n .delta;
           width = n .width;
           sequence = n .sequence;
-          multiplicands = empty (take (row .count) ms) (values-long ∙ n .count);
+          multiplicands = length-zero (take (row .count) ms) (values-long ∙ n .count);
         }
 
     some-values : SomeRules row → SomeLookup (bookOf row ls ms)

@@ -4,6 +4,7 @@ use crate::row::Row;
 use book_row::mark::lone_mark_at;
 use limits::Limits;
 use reading::widths::u32_from_u16;
+use reading::widths::u64_from_u32;
 use reading::widths::wide_u32;
 ghost use mathlib.Core.Path.{_≡_};
 ghost use mathlib.Core.Bool.{true};
@@ -14,12 +15,6 @@ ghost use lib.ListN.{length, take, drop};
 ghost use Rattle.reading.specs.Lists.{all};
 ghost use Rattle.codeword_assignment.specs.Book.{Coded, loneMark};
 ghost use Rattle.book_tables.specs.inner.Rules.{HeadRules, PlaceRules, NoneRules, SomeRules, LookupRules, BookRules, Begun};
-
-fn long(x: u32) -> u64
-    ensures { λ r. ⌜ r ≡ x ⌝ }
-{
-    x as u64
-}
 
 // The dimensions and the number of entries (01, refusals 6 and 14). `entries` is how many the books before have.
 fn is_head(limits: Limits, entries: u32, row: Row) -> bool
@@ -100,7 +95,7 @@ fn is_valued(row: Row) -> bool
         return false;
     }
     let count = book_lookup::lookup::value_count(row.lookup, row.entries, row.dimensions);
-    if long(row.count) != count {
+    if u64_from_u32(row.count) != count {
         return false;
     }
     true

@@ -21,14 +21,13 @@ use Rattle.bits.proofs.Cuts.{field-cut-packet}
 use Rattle.codeword_assignment.specs.Book.{used, isUsed, isLone, firstUsed, loneMark, orZero, ledgerCodewords, verdict, Begins, PrefixCode, Decodable}
 use Rattle.codespace.specs.Ledger.{share}
 use Rattle.codeword_assignment.specs.declared.book.Assigned.the-variants.{Accepted}
-use Rattle.codeword_assignment.proofs.Laws.{accepted-decodable, used-length}
+use Rattle.codeword_assignment.proofs.Laws.{accepted-decodable, used-length, accepted-none-refused}
 use Rattle.codeword.specs.Codeword.{bitsAt, isCodeword, entryOf, orGoOn, matching, loneBits, codeword}
 use Rattle.bits.specs.inner.Cursors.{position, outcome}
 use Rattle.bits.specs.declared.Cursor.{Cursor}
 use Rattle.bits.specs.declared.Field.{Field}
 use Rattle.codeword.specs.inner.Book.{Codebook}
 use Rattle.codeword.specs.inner.Claims.{Settled}
-use Rattle.codeword.proofs.Accepted.{none-refused}
 use Rattle.codeword.proofs.Bits.{bits-lt, bits-begin, bits-cut}
 use Rattle.codeword_assignment.proofs.Lone.{none-used, mark-none, mark-lone}
 use Rattle.codeword.proofs.Matching.{Starts, NoneBefore, turn-on, turn-found}
@@ -43,7 +42,7 @@ module _ (ls : List ℕ) (accepted : verdict ls ≡ Accepted) where
     len = getD ls e 0
 
     few : len ≤ 32
-    few = used-length ls (none-refused ls accepted) e (b .used) .high
+    few = used-length ls (accepted-none-refused ls accepted) e (b .used) .high
 
     whole-word : bitsAt s k len ≡ getD (ledgerCodewords ls) e 0
     whole-word =

@@ -1,4 +1,3 @@
-pub mod Accepted
 pub mod Bits
 pub mod Windows
 pub mod Lone

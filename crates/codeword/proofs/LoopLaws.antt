@@ -17,12 +17,11 @@ use Rattle.bits.specs.declared.Field.{Field}
 use Rattle.bits.specs.declared.Field.the-variants.{Value}
 use Rattle.reading.proofs.Least.{lt-or-le}
 use Rattle.codeword_assignment.specs.Book.{ledgerCodewords, PrefixCode}
-use Rattle.codeword_assignment.proofs.Laws.{accepted-decodable, used-length, codewords-length}
+use Rattle.codeword_assignment.proofs.Laws.{accepted-decodable, used-length, codewords-length, accepted-none-refused}
 use Rattle.codeword.specs.Codeword.{bitsAt, matching}
 use Rattle.codeword.specs.inner.Book.{Codebook}
 use Rattle.codeword.specs.inner.Window.{NextBits}
 use Rattle.codeword.specs.declared.window.Window.{Window}
-use Rattle.codeword.proofs.Accepted.{none-refused}
 use Rattle.codeword.proofs.Bits.{bits-more, double-fits, more-fits}
 use Rattle.codeword.proofs.Matching.{Starts, NoneBefore, none-fewer, passes-short, passes-other, turn-never, turn-on, turn-found, turn-end, turn-cut}
 
@@ -150,7 +149,7 @@ module _ (ls ws : List ℕ) (book : Codebook ls ws) (s : List ℕ) (k : Cursor) 
       pub length-within : len ≤ 32
       length-within =
           let i = t .some in
-          let u = used-length ls (none-refused ls (book .accepted)) e (omega arith) .high in
+          let u = used-length ls (accepted-none-refused ls (book .accepted)) e (omega arith) .high in
           omega arith
 
       pub other-word : (getD ws e 0 / 2 ^ (len - n) ≡ word → ⊥) → Searching ls ws s (position k) count word n (e + 1)

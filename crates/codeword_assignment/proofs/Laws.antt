@@ -6,6 +6,7 @@
 --   some-entry         with nothing left, every string begins with the codeword of an entry
 --   exactly-one-entry  and with that of no other
 --   lone-length, lone-codeword   a lone entry has length 1 and codeword 0
+--   accepted-none-refused   where the verdict is `Accepted`
 --   accepted-decodable all of it for a book with the verdict `Accepted`
 -- Assumes nothing.
 use mathlib.Core.Bool.{Bool, true, false, cond, not, _&&_, _||_}
@@ -307,6 +308,15 @@ accepted-by ls (some i) q t = let z : _≡_ {A = ℕ} 0 1 = cc in absurd (omega 
 accepted-by ls none q t = decodable ls q (either ls (eqb (freeAfter ls) 0) (isLone (used ls)) refl refl t)
 
 -- AN ACCEPTED BOOK
+pub accepted-none-refused : (ls : List ℕ) → verdict ls ≡ Accepted → firstRefused ls ≡ none
+unfolding verdict
+accepted-none-refused ls accepted = go (firstRefused ls) refl accepted
+  where
+    go : (o : Option ℕ) → firstRefused ls ≡ o → refusedOr o (cond (eqb (freeAfter ls) 0 || isLone (used ls)) Accepted Underspecified) ≡ Accepted
+        → firstRefused ls ≡ none
+    go none p q = p
+    go (some e) p q = let z : _≡_ {A = ℕ} 0 1 = cc in absurd (omega arith)
+
 pub accepted-decodable : (ls : List ℕ) → verdict ls ≡ Accepted → Decodable ls (ledgerCodewords ls)
 unfolding verdict
 accepted-decodable ls e = accepted-by ls (firstRefused ls) refl e

@@ -5,6 +5,7 @@ use codespace::space::empty_space;
 use codespace::space::enter;
 use codespace::space::is_full;
 use reading::buffers::clear_u32;
+use reading::widths::u64_from_u32;
 ghost use mathlib.Core.Path.{_≡_};
 ghost use mathlib.Core.Bool.{true, cond};
 ghost use mathlib.Core.Logic.{_↔_};
@@ -90,7 +91,7 @@ pub fn are_codewords(lengths: &[u8], codewords: &[u32]) -> bool
     let mut entry = 0;
     while entry < lengths.len() {
         let value = entry_codeword(&mut blocks, lengths[entry]);
-        if value != wide(codewords[entry]) {
+        if value != u64_from_u32(codewords[entry]) {
             return false;
         }
         entry += 1;
@@ -102,12 +103,6 @@ pub fn are_codewords(lengths: &[u8], codewords: &[u32]) -> bool
         return true;
     }
     false
-}
-
-fn wide(x: u32) -> u64
-    ensures { λ r. ⌜ (r ≡ x) × (x < 4294967296) ⌝ }
-{
-    x as u64
 }
 
 // What an entry's place holds: 0 for an unused entry, which takes nothing; else the codeword taken, or VACANT.

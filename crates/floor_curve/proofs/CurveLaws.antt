@@ -1,17 +1,17 @@
 -- Laws of the curve as it is drawn, from one flagged point to the next. Assumes nothing.
-use Prim.Native.Nat.{ℕ, zero, suc, _+_, _-_, _≤_, _<_}
+use Prim.Native.Nat.{ℕ, _-_, _≤_, _<_}
 use native.Mathlib.Omega.{arith}
-use mathlib.Core.Bool.{Bool, true, false, _&&_, cond}
+use mathlib.Core.Bool.{Bool, true, false, cond}
 use mathlib.Core.List.{List}
 use mathlib.Core.Logic.{_⊎_, ⊎-elim}
-use mathlib.Core.Path.{_≡_, refl, sym, ap, _∙_}
+use mathlib.Core.Path.{_≡_, refl, sym, _∙_}
 use lib.Dec.{ltb, eqb}
 use lib.ListN.{length, getD, replicate, length-replicate, getD-replicate}
 use lib.Seq.{ext-getD}
 use borrow.Author.Tests.{lt-ltb, le-ltb, eq-eqb, ne-eqb, ltb-true, eqb-true}
-use Rattle.floor_line.proofs.Integers.{lt-or-le}
+use Rattle.reading.proofs.Least.{lt-or-le, and-split}
 use Rattle.floor_line.proofs.LineLaws.{height-le}
-use Rattle.floor_curve.specs.Curve.{xOr, lastAt, nextAfter, heightAt, lineAt, between, curveAt, places, fitting, Left, left, curve, Bytes}
+use Rattle.floor_curve.specs.Curve.{xOr, lastAt, nextAfter, heightAt, lineAt, between, curveAt, places, fitting, left, curve, Bytes}
 use Rattle.floor_curve.specs.inner.Drawing.{Drawn, Flat, Points}
 use Rattle.floor_curve.proofs.PointLaws.{within, last-le, last-ge, next-is, Clear, last-same, next-same, clear-next, clear-past}
 use Rattle.floor_curve.proofs.DrawLaws.{are-places, line-height-at}
@@ -104,16 +104,12 @@ module _ (xs : List ℕ) (y f : ℕ) where
   unfolding fitting
   other-flags h b e = rw (lt-ltb 0 (length xs) h, eq-eqb (getD xs 0 0) 0 b, eq-eqb y (length xs) e)
 
-both : (a b : Bool) → (a && b) ≡ true → (a ≡ true) × (b ≡ true)
-both true b e = (refl, e)
-both false b e = let z : _≡_ {A = ℕ} 0 1 = cc in absurd (omega arith)
-
 pub fit-points : (xs ys fs : List ℕ) (t : Bool) → t ≡ fitting xs (length ys) (length fs) → t ≡ true → Points xs ys fs
 unfolding fitting
 fit-points xs ys fs t e h =
-    let p1 = both (ltb 0 (length xs)) _ (sym e ∙ h) in
-    let p2 = both (eqb (getD xs 0 0) 0) _ (p1 .1) in
-    let p3 = both (eqb (length ys) (length xs)) _ (p2 .1) in
+    let p1 = and-split (ltb 0 (length xs)) _ (sym e ∙ h) in
+    let p2 = and-split (eqb (getD xs 0 0) 0) _ (p1 .1) in
+    let p3 = and-split (eqb (length ys) (length xs)) _ (p2 .1) in
     record { some = ltb-true 0 (length xs) (p1 .0); begins = eqb-true (getD xs 0 0) 0 (p2 .0); heights = eqb-true (length ys) (length xs) (p3 .0); flagged = eqb-true (length fs) (length xs) (p3 .1) }
 
 module _ (xs ys fs : List ℕ) (m n : ℕ) (t : Bool) (out : List ℕ) where

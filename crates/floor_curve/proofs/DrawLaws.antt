@@ -8,8 +8,8 @@ use mathlib.Core.Path.{_≡_, refl, sym, ap, _∙_}
 use lib.IntN.{pos}
 use lib.ListN.{length, getD, set, length-set}
 use lib.Seq.{getD-set-same, getD-set-other, ext-getD}
+use Rattle.reading.proofs.Least.{lt-or-le}
 use Rattle.floor_line.specs.inner.LineHeight.{lineHeight}
-use Rattle.floor_line.proofs.Integers.{lt-or-le}
 use Rattle.floor_line.proofs.LineLaws.{line-pos, height-le}
 use Rattle.floor_line.specs.inner.RenderLine.{renderLine}
 use Rattle.floor_line.proofs.RenderLaws.{render-is-line}

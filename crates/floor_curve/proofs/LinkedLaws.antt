@@ -6,8 +6,8 @@ use mathlib.Core.List.{List}
 use mathlib.Core.Logic.{⊎-elim}
 use mathlib.Core.Path.{_≡_, refl, sym, ap, _∙_}
 use lib.ListN.{length, getD}
+use Rattle.reading.proofs.Least.{lt-or-le}
 use Rattle.floor_line.specs.inner.Order.{Follows, Ordered}
-use Rattle.floor_line.proofs.Integers.{lt-or-le}
 use Rattle.floor_line.proofs.Searching.{search-keeps}
 use Rattle.floor_curve.specs.Curve.{xOr, takesLeft, takesRight, lastAt, nextAfter, heightAt, curveAt, places}
 use Rattle.floor_curve.specs.inner.Drawing.{Drawn, Flat, Points}

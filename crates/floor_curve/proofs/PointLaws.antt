@@ -1,18 +1,19 @@
 -- Laws of the flagged points around a place: one for each way out of a turn of the search, what the place found is, and that it is the same from one
 -- point up to the next. Assumes nothing.
-use Prim.Native.Nat.{ℕ, zero, suc, _+_, _-_, _*_, _≤_, _<_, min}
+use Prim.Native.Nat.{ℕ, zero, suc, _+_, _-_, _≤_, _<_}
 use native.Mathlib.Nat.{sub-zero}
 use native.Mathlib.Omega.{arith}
 use mathlib.Core.Bool.{Bool, true, false, not, cond, _&&_}
 use mathlib.Core.List.{List, [], _∷_}
-use mathlib.Core.Logic.{_⊎_, inl, inr, ⊎-elim}
-use mathlib.Core.Path.{_≡_, refl, sym, ap, _∙_}
+use mathlib.Core.Logic.{_⊎_, ⊎-elim}
+use mathlib.Core.Path.{_≡_, refl, sym, _∙_}
 use lib.Dec.{eqb, leb, ltb}
 use lib.ListN.{length, getD}
-use borrow.Author.Tests.{lt-ltb, le-ltb, le-leb, lt-leb, eq-eqb, ne-eqb, ltb-true, ltb-false, leb-true, leb-false, eqb-true, eqb-false}
+use borrow.Author.Tests.{lt-ltb, le-ltb, le-leb, lt-leb, eq-eqb, ne-eqb, ltb-true, leb-true, eqb-false, not-true}
+use Rattle.reading.proofs.Least.{lt-or-le, and-split, true-not-false}
 use Rattle.floor_line.specs.Search.{searched}
 use Rattle.floor_line.proofs.Searching.{search-keeps, search-same, search-best}
-use Rattle.floor_line.proofs.Integers.{lt-or-le, same-leb, same-ltb}
+use Rattle.floor_line.proofs.Integers.{same-leb, same-ltb}
 use Rattle.floor_curve.specs.Curve.{isSet, xOr, takesLeft, takesRight, lastAt, nextAfter, IsLast, IsNext}
 
 -- a list read past its end gives what is asked for there, and else does not mind
@@ -85,38 +86,27 @@ record Righter (xs fs : List ℕ) (x j : ℕ) : Type 0 where
   pub flag : getD fs j 0 ≡ 0 → ⊥
   pub at : x < xOr xs j
 
-unequal : true ≡ false → ⊥
-unequal e = let z : _≡_ {A = ℕ} 0 1 = cc in omega arith
-
-both : (a b : Bool) → (a && b) ≡ true → (a ≡ true) × (b ≡ true)
-both true b e = (refl, e)
-both false b e = absurd (unequal (sym e))
-
-negated : (a : Bool) → not a ≡ true → a ≡ false
-negated true e = absurd (unequal (sym e))
-negated false e = refl
-
 module _ (xs fs : List ℕ) (x : ℕ) where
   left-inv : (j best : ℕ) → takesLeft xs fs x j best ≡ true → Lefter xs fs x j × (getD xs best 0 < getD xs j 0)
   unfolding takesLeft
   left-inv j best e =
-      let p = both (isSet fs j) _ e in
-      let q = both (leb (getD xs j 0) x) _ (p .1) in
-      (record { flag = eqb-false (getD fs j 0) 0 (negated _ (p .0)); at = leb-true (getD xs j 0) x (q .0) }, ltb-true (getD xs best 0) (getD xs j 0) (q .1))
+      let p = and-split (isSet fs j) _ e in
+      let q = and-split (leb (getD xs j 0) x) _ (p .1) in
+      (record { flag = eqb-false (getD fs j 0) 0 (not-true _ (p .0)); at = leb-true (getD xs j 0) x (q .0) }, ltb-true (getD xs best 0) (getD xs j 0) (q .1))
 
   right-inv : (j best : ℕ) → takesRight xs fs x j best ≡ true → Righter xs fs x j × (xOr xs j < xOr xs best)
   unfolding takesRight
   right-inv j best e =
-      let p = both (isSet fs j) _ e in
-      let q = both (ltb x (xOr xs j)) _ (p .1) in
-      (record { flag = eqb-false (getD fs j 0) 0 (negated _ (p .0)); at = ltb-true x (xOr xs j) (q .0) }, ltb-true (xOr xs j) (xOr xs best) (q .1))
+      let p = and-split (isSet fs j) _ e in
+      let q = and-split (ltb x (xOr xs j)) _ (p .1) in
+      (record { flag = eqb-false (getD fs j 0) 0 (not-true _ (p .0)); at = ltb-true x (xOr xs j) (q .0) }, ltb-true (xOr xs j) (xOr xs best) (q .1))
 
   left-false : (j best : ℕ) → Lefter xs fs x j → takesLeft xs fs x j best ≡ false → getD xs j 0 ≤ getD xs best 0
   unfolding takesLeft
   left-false j best w e =
       ⊎-elim
       (λ (h : getD xs best 0 < getD xs j 0).
-      absurd (unequal (sym (rw (ne-eqb (getD fs j 0) 0 (w .flag), le-leb (getD xs j 0) x (w .at), lt-ltb (getD xs best 0) (getD xs j 0) h) at (sym e)))))
+      absurd (true-not-false true refl (sym (rw (ne-eqb (getD fs j 0) 0 (w .flag), le-leb (getD xs j 0) x (w .at), lt-ltb (getD xs best 0) (getD xs j 0) h) at (sym e)))))
       (λ (h : getD xs j 0 ≤ getD xs best 0). h)
       (lt-or-le (getD xs best 0) (getD xs j 0))
 
@@ -125,7 +115,7 @@ module _ (xs fs : List ℕ) (x : ℕ) where
   right-false j best w e =
       ⊎-elim
       (λ (h : xOr xs j < xOr xs best).
-      absurd (unequal (sym (rw (ne-eqb (getD fs j 0) 0 (w .flag), lt-ltb x (xOr xs j) (w .at), lt-ltb (xOr xs j) (xOr xs best) h) at (sym e)))))
+      absurd (true-not-false true refl (sym (rw (ne-eqb (getD fs j 0) 0 (w .flag), lt-ltb x (xOr xs j) (w .at), lt-ltb (xOr xs j) (xOr xs best) h) at (sym e)))))
       (λ (h : xOr xs best ≤ xOr xs j). h)
       (lt-or-le (xOr xs j) (xOr xs best))
 

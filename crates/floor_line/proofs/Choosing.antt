@@ -1,18 +1,18 @@
 -- Laws of the neighbours: one for each way out of a turn, and where the place held lies. Assumes nothing.
-use Prim.Native.Nat.{ℕ, zero, suc, _+_, _-_, _≤_, _<_}
+use Prim.Native.Nat.{ℕ, _-_, _≤_, _<_}
 use native.Mathlib.Nat.{sub-zero}
 use native.Mathlib.Omega.{arith}
-use mathlib.Core.Bool.{Bool, true, false, cond, _&&_}
+use mathlib.Core.Bool.{true, false, cond}
 use mathlib.Core.List.{List}
 use mathlib.Core.Logic.{⊎-elim}
-use mathlib.Core.Path.{_≡_, refl, sym, ap, _∙_}
+use mathlib.Core.Path.{_≡_, refl, sym}
 use borrow.Author.Tests.{lt-ltb, le-ltb, ltb-true}
 use lib.Dec.{ltb}
 use lib.ListN.{getD}
+use Rattle.reading.proofs.Least.{lt-or-le, and-split, true-not-false}
 use Rattle.floor_line.specs.Search.{searched}
 use Rattle.floor_line.specs.Neighbours.{takesLow, takesHigh, lowNeighbour, highNeighbour, IsLow, IsHigh}
 use Rattle.floor_line.proofs.Searching.{search-keeps, search-best}
-use Rattle.floor_line.proofs.Integers.{lt-or-le}
 
 module _ (xs : List ℕ) (x j best : ℕ) where
   pub low-not-below : x ≤ getD xs j 0 → best ≡ cond (takesLow xs x j best) j best
@@ -49,32 +49,25 @@ module _ (xs : List ℕ) (i : ℕ) where
   high-begun = rw sub-zero
 
 -- ---- the neighbours in 01's words
-unequal : true ≡ false → ⊥
-unequal e = let z : _≡_ {A = ℕ} 0 1 = cc in omega arith
-
-both : (a b : Bool) → (a && b) ≡ true → (a ≡ true) × (b ≡ true)
-both true b e = (refl, e)
-both false b e = absurd (unequal (sym e))
-
 module _ (xs : List ℕ) (x j best : ℕ) where
   low-inv : takesLow xs x j best ≡ true → (getD xs j 0 < x) × (getD xs best 0 < getD xs j 0)
   unfolding takesLow
-  low-inv e = let p = both (ltb (getD xs j 0) x) _ e in (ltb-true (getD xs j 0) x (p .0), ltb-true (getD xs best 0) (getD xs j 0) (p .1))
+  low-inv e = let p = and-split (ltb (getD xs j 0) x) _ e in (ltb-true (getD xs j 0) x (p .0), ltb-true (getD xs best 0) (getD xs j 0) (p .1))
 
   low-false : getD xs j 0 < x → takesLow xs x j best ≡ false → getD xs j 0 ≤ getD xs best 0
   unfolding takesLow
   low-false h e =
-      ⊎-elim (λ (l : getD xs best 0 < getD xs j 0). absurd (unequal (sym (rw (lt-ltb (getD xs j 0) x h, lt-ltb (getD xs best 0) (getD xs j 0) l) at (sym e)))))
+      ⊎-elim (λ (l : getD xs best 0 < getD xs j 0). absurd (true-not-false true refl (sym (rw (lt-ltb (getD xs j 0) x h, lt-ltb (getD xs best 0) (getD xs j 0) l) at (sym e)))))
       (λ (l : getD xs j 0 ≤ getD xs best 0). l) (lt-or-le (getD xs best 0) (getD xs j 0))
 
   high-inv : takesHigh xs x j best ≡ true → (x < getD xs j 0) × (getD xs j 0 < getD xs best 0)
   unfolding takesHigh
-  high-inv e = let p = both (ltb x (getD xs j 0)) _ e in (ltb-true x (getD xs j 0) (p .0), ltb-true (getD xs j 0) (getD xs best 0) (p .1))
+  high-inv e = let p = and-split (ltb x (getD xs j 0)) _ e in (ltb-true x (getD xs j 0) (p .0), ltb-true (getD xs j 0) (getD xs best 0) (p .1))
 
   high-false : x < getD xs j 0 → takesHigh xs x j best ≡ false → getD xs best 0 ≤ getD xs j 0
   unfolding takesHigh
   high-false h e =
-      ⊎-elim (λ (l : getD xs j 0 < getD xs best 0). absurd (unequal (sym (rw (lt-ltb x (getD xs j 0) h, lt-ltb (getD xs j 0) (getD xs best 0) l) at (sym e)))))
+      ⊎-elim (λ (l : getD xs j 0 < getD xs best 0). absurd (true-not-false true refl (sym (rw (lt-ltb x (getD xs j 0) h, lt-ltb (getD xs j 0) (getD xs best 0) l) at (sym e)))))
       (λ (l : getD xs best 0 ≤ getD xs j 0). l) (lt-or-le (getD xs j 0) (getD xs best 0))
 
 pub is-low : (xs : List ℕ) (i r : ℕ) → 0 < i → r ≡ lowNeighbour xs i → getD xs 0 0 < getD xs i 0 → IsLow xs i r

@@ -1,15 +1,16 @@
 -- Laws of the line rule: how the program computes it, that it stays between its ends, and that heights stand for Y values on it, from
 -- whatever number they are counted. Assumes nothing.
 use Prim.Native.Nat.{ℕ, zero, suc, _+_, _-_, _*_, _/_, _≤_, _<_, min}
-use native.Mathlib.Nat.{div-le-of-le-mul, div-zero, zero-div, mul-zero, mul-comm, mul-le-mul, mul-le-mul-left, mul-div-cancel}
+use native.Mathlib.Nat.{div-le-of-le-mul, div-zero, zero-div, mul-zero, mul-comm, mul-le-mul-left, mul-div-cancel}
 use native.Mathlib.Omega.{arith}
 use mathlib.Core.Logic.{⊎-elim}
-use mathlib.Core.Path.{_≡_, refl, sym, ap, _∙_}
-use lib.IntN.{ℤ, pos, natAbs, _+ℤ_, _-ℤ_}
+use mathlib.Core.Path.{_≡_, sym, ap, _∙_}
+use lib.IntN.{pos, natAbs, _-ℤ_}
 use borrow.Author.Tests.{lt-ltb, le-ltb}
+use Rattle.reading.proofs.Least.{lt-or-le}
 use Rattle.floor_line.specs.Line.{offset, line}
 use Rattle.floor_line.specs.inner.LineHeight.{difference, lineHeight}
-use Rattle.floor_line.proofs.Integers.{lt-or-le, same-difference, pos-difference, minus-difference, abs-difference, ltZ-difference, plus, minus}
+use Rattle.floor_line.proofs.Integers.{same-difference, pos-difference, minus-difference, abs-difference, ltZ-difference, plus, minus}
 
 -- ---- the offset, as the program computes it
 module _ (x0 x1 ady x : ℕ) where
@@ -37,11 +38,7 @@ pub offset-le : (x0 x1 ady x : ℕ) → offset x0 x1 ady x ≤ ady
 unfolding offset
 offset-le x0 x1 ady x = part-le ady (min x x1 - x0) (x1 - x0) (omega arith)
 
--- the product of two numbers of 32 bits fits 64 bits
-pub product-fits : (a b : ℕ) → a < 4294967296 → b < 4294967296 → a * b < 18446744073709551616
-product-fits a b p q = omega (arith, mul-le-mul {n₁ = a} {m₁ = b} {n₂ = 4294967295} {m₂ = 4294967295} (omega arith) (omega arith))
-
--- and a part of a number of 32 bits has 32 bits
+-- a part of a number of 32 bits has 32 bits
 pub small-part : (a d w : ℕ) → a < 4294967296 → d ≤ w → a * d / w < 4294967296
 small-part a d w p q = omega (arith, part-le a d w q)
 

@@ -10,10 +10,11 @@ use lib.Dec.{ltb, leb}
 use lib.IntN.{ℤ, pos, negsuc, negℤ, natAbs, _+ℤ_, _-ℤ_, +ℤ-assoc, +ℤ-idr, negℤ-+ℤ}
 use lib.Signed.{ltZ, quotZ}
 use borrow.Author.Tests.{lt-ltb, le-ltb, le-leb, lt-leb}
+use Rattle.reading.proofs.Least.{lt-or-le}
 use Rattle.floor_line.specs.Line.{offset, line}
 use Rattle.floor_line.specs.inner.LineHeight.{difference}
 use Rattle.floor_line.specs.inner.RenderLine.{State, nextState, stateAfter, baseOf, syOf, adyOf, renderLine}
-use Rattle.floor_line.proofs.Integers.{lt-or-le, same-ltb, pos-difference, neg-difference, minus-difference, ltZ-difference}
+use Rattle.floor_line.proofs.Integers.{same-ltb, pos-difference, neg-difference, minus-difference, ltZ-difference}
 use Rattle.floor_line.proofs.LineLaws.{offset-part}
 
 -- ---- quotient and remainder of a * n, from one n to the next

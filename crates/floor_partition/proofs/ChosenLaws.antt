@@ -4,20 +4,18 @@ use Prim.Native.Nat.{ℕ, zero, suc, _+_, _-_, _*_, _/_, _%_, _^_, _≤_, _<_}
 use native.Mathlib.Nat.{add-zero, sub-zero, mod-lt}
 use native.Mathlib.Omega.{arith}
 use borrow.Author.Tests.{leb-true}
-use mathlib.Core.Bool.{Bool, true}
 use mathlib.Core.List.{List, [], _∷_}
 use mathlib.Core.Path.{_≡_, refl, sym, ap, _∙_}
 use lib.Dec.{leb}
 use lib.ListN.{length, getD, take}
 use lib.Pow.{pow-mono, pow-pos}
 use lib.Seq.{getD-take, getD-drop}
-use Rattle.reading.specs.Lists.{all}
 use Rattle.reading.specs.Outcome.{ok, bad}
 use Rattle.reading.specs.Outcome as O
 use Rattle.reading.specs.Reader.{each, into, into1}
 use Rattle.reading.specs.inner.Table.{Table, table, putRow}
-use Rattle.reading.proofs.Least.{and-split}
 use Rattle.reading.proofs.Readers.{each-done, each-bad, each-next, mapped-ok, mapped-bad}
+use Rattle.reading.proofs.EachLaws.{all-at}
 use Rattle.bits.specs.declared.Cursor.{Cursor}
 use Rattle.bits.specs.declared.Refusal.{Refusal}
 use Rattle.bits.specs.declared.Step.{Step}
@@ -30,12 +28,6 @@ use Rattle.floor_class.specs.inner.Decode.{classAt}
 use Rattle.floor_partition.specs.Partition.{chosen, value}
 use Rattle.book_codeword.specs.inner.Stored.{lengthsIn}
 use Rattle.floor_partition.specs.inner.Stored.{classIn, PlaceStored, ClassStored}
-
-pub all-get : (f : ℕ → Bool) (l : List ℕ) (i : ℕ) → all f l ≡ true → i < length l → f (getD l i 0) ≡ true
-unfolding all
-all-get f [] i a h = absurd (omega arith)
-all-get f (x ∷ l) zero a h = and-split (f x) (all f l) a .0
-all-get f (x ∷ l) (suc i) a h = all-get f l i (and-split (f x) (all f l) a .1) (omega arith)
 
 -- one turn, m more of them to come
 module _ (lengthsOf : ℕ → List ℕ) (c : Class) (s : List ℕ) (left m k : ℕ) (t : Table) where
@@ -67,7 +59,7 @@ module _ {floors books lengths codewords : List ℕ} {n c : ℕ} (l : ClassStore
   book-stored : (j : ℕ) → j < 2 ^ classIn floors n c .subclasses → PlaceStored books lengths codewords (getD (classIn floors n c .books) j 0)
   book-stored j h =
       let long = l .valid .carried .count in
-      let most = leb-true _ _ (all-get (λ b. leb b (l .count)) (classIn floors n c .books) j (l .valid .rules .subclasses) (omega arith)) in
+      let most = leb-true _ _ (all-at (λ b. leb b (l .count)) (classIn floors n c .books) (l .valid .rules .subclasses) j (omega arith)) in
       record { readable = λ some. l .readable (getD (classIn floors n c .books) j 0 - 1) (below (getD (classIn floors n c .books) j 0) some most) }
     where
       below : (p : ℕ) → (p ≡ 0 → ⊥) → p ≤ l .count → p - 1 < l .count

@@ -1,8 +1,8 @@
 -- Laws of lists that fit each other, and of what final Y leaves. Assumes nothing.
-use Prim.Native.Nat.{ℕ, zero, suc, _+_, _-_, _*_, _≤_, _<_}
+use Prim.Native.Nat.{ℕ, zero, suc, _-_, _*_, _≤_, _<_}
 use native.Mathlib.Nat.{mul-zero, zero-mul}
 use native.Mathlib.Omega.{arith}
-use mathlib.Core.Bool.{Bool, true, false, _&&_, cond}
+use mathlib.Core.Bool.{Bool, true, false}
 use mathlib.Core.List.{List, [], _∷_, map}
 use mathlib.Core.Path.{_≡_, refl, sym, ap, _∙_}
 use lib.Dec.{ltb, eqb}
@@ -10,6 +10,7 @@ use lib.IntN.{ℤ, pos, negsuc}
 use lib.ListN.{length, getD, replicate, take}
 use lib.Seq.{length-take-le}
 use borrow.Author.Tests.{lt-ltb, le-ltb, eq-eqb, ne-eqb, ltb-true, eqb-true}
+use Rattle.reading.proofs.Least.{and-split}
 use Rattle.floor_points.specs.FinalY.{rangeOf, fitting, Left, left, finalYs, clamped, points, Multiplies}
 use Rattle.floor_points.specs.inner.Heights.{Ready}
 
@@ -69,18 +70,14 @@ pub record Fit (x m v y f : ℕ) : Type 0 where
   pub ys : y ≡ x
   pub flags : f ≡ x
 
-both : (a b : Bool) → (a && b) ≡ true → (a ≡ true) × (b ≡ true)
-both true b e = (refl, e)
-both false b e = let z : _≡_ {A = ℕ} 0 1 = cc in absurd (omega arith)
-
 pub fit : (x m v y f : ℕ) → fitting x m v y f ≡ true → Fit x m v y f
 unfolding fitting
 fit x m v y f e =
-    let p1 = both (ltb 1 x) _ e in
-    let p2 = both (ltb x 66) _ (p1 .1) in
-    let p3 = both (ltb 0 (rangeOf m)) _ (p2 .1) in
-    let p4 = both (eqb v x) _ (p3 .1) in
-    let p5 = both (eqb y x) _ (p4 .1) in
+    let p1 = and-split (ltb 1 x) _ e in
+    let p2 = and-split (ltb x 66) _ (p1 .1) in
+    let p3 = and-split (ltb 0 (rangeOf m)) _ (p2 .1) in
+    let p4 = and-split (eqb v x) _ (p3 .1) in
+    let p5 = and-split (eqb y x) _ (p4 .1) in
     record { some = ltb-true 1 x (p1 .0); few = ltb-true x 66 (p2 .0); range = ltb-true 0 (rangeOf m) (p3 .0); values = eqb-true v x (p4 .0); ys = eqb-true y x (p5 .0); flags = eqb-true f x (p5 .1) }
 
 -- ---- what final Y leaves

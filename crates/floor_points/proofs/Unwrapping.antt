@@ -12,10 +12,11 @@ use lib.ListN.{set}
 use lib.IntN.{ℤ, pos, negsuc, _+ℤ_, _-ℤ_, _*ℤ_, -ℤ-+ℤ-cancel}
 use lib.Signed.{ltZ, leZ}
 use borrow.Author.Tests.{lt-ltb, le-ltb, le-leb, lt-leb, eq-eqb, ne-eqb}
+use Rattle.reading.proofs.Least.{lt-or-le}
 use Rattle.floor_points.specs.FinalY.{room, unwrapped, clamped, flagged}
 use Rattle.floor_line.specs.inner.LineHeight.{difference}
 use Rattle.floor_points.specs.inner.Heights.{yOf, movedHeight}
-use Rattle.floor_line.proofs.Integers.{lt-or-le, same-ltb, same-leb, below, above, same-difference, pos-difference, add-difference, twice-difference, ltZ-difference, leZ-difference, plus, minus, from}
+use Rattle.floor_line.proofs.Integers.{same-ltb, same-leb, below, above, same-difference, pos-difference, add-difference, twice-difference, ltZ-difference, leZ-difference, plus, minus, from}
 
 -- a height moved by half a value
 module _ (h val : ℕ) where

@@ -12,9 +12,9 @@ use lib.ListN.{length, getD, take, List·getD-eq-default}
 use lib.Seq.{slice, length-slice, getD-drop, getD-take, ext-getD}
 use Rattle.reading.specs.Lists.{all}
 use Rattle.reading.specs.Pad.{pad}
-use Rattle.reading.proofs.Least.{and-split}
 use Rattle.reading.proofs.Pads.{pad-get, length-pad}
 use Rattle.reading.proofs.Stored.{Stored, stored-both}
+use Rattle.reading.proofs.EachLaws.{all-at}
 use Rattle.floor_tables.specs.inner.ClassRules.{Below}
 
 -- ---- tests of every number, place by place
@@ -23,12 +23,6 @@ pub all-of : (f : ℕ → Bool) (l : List ℕ) → ((i : ℕ) → i < length l �
 unfolding all
 all-of f [] h = refl
 all-of f (x ∷ l) h = rw (h 0 (omega arith), all-of f l (λ i k. h (suc i) (omega arith)))
-
-pub all-at : (f : ℕ → Bool) (l : List ℕ) → all f l ≡ true → (i : ℕ) → i < length l → f (getD l i 0) ≡ true
-unfolding all
-all-at f [] e i h = absurd (omega arith)
-all-at f (x ∷ l) e zero h = and-split (f x) (all f l) e .0
-all-at f (x ∷ l) e (suc i) h = all-at f l (and-split (f x) (all f l) e .1) i (omega arith)
 
 pub below-one : {v : ℕ} → v < 1 → v ≡ 0
 below-one h = omega arith

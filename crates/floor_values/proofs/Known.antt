@@ -17,6 +17,7 @@ use Rattle.reading.proofs.Least.{and-split}
 use Rattle.reading.proofs.Outcomes.{then-ok, ok-is}
 use Rattle.reading.proofs.Accepted.{many-number, many-each}
 use Rattle.reading.proofs.Readers.{Long, each-long, mapped-ok}
+use Rattle.reading.proofs.Basics.{other-than-zero}
 use Rattle.bits.specs.Field.{field}
 use Rattle.bits.proofs.Fields.{field-ok}
 use Rattle.codeword.specs.Codeword.{codeword}
@@ -102,10 +103,6 @@ places-low count [] v p j = omega arith
 places-low count (c ∷ cs) v zero j = all-low count (c .books) (v .0 .subclasses) j
 places-low count (c ∷ cs) v (suc p) j = places-low count cs (v .1) p j
 
-positive : (x : ℕ) → (x ≡ 0 → ⊥) → 1 ≤ x
-positive zero n = absurd (n refl)
-positive (suc x) n = omega arith
-
 module _ (lengthsOf : ℕ → List ℕ) (count : ℕ) (entries : (b : ℕ) → b < count → (s : List ℕ) (k v n : ℕ) → codeword (lengthsOf b) s k ≡ ok (v, n) → v < 65536) (s : List ℕ) where
   value-small : (p k : ℕ) → p ≤ count → {x : ℕ × ℕ} → value lengthsOf p s k ≡ ok x → x .0 < 65536
   unfolding value
@@ -113,7 +110,7 @@ module _ (lengthsOf : ℕ → List ℕ) (count : ℕ) (entries : (b : ℕ) → b
     where
       go : (t : Bool) → eqb p 0 ≡ t → cond t (ok (0, k)) (codeword (lengthsOf (p - 1)) s k) ≡ ok x → x .0 < 65536
       go true q e = let g : (0, k) ≡ x = ok-is e in subst (λ (y : ℕ × ℕ). y .0 < 65536) g (omega arith)
-      go false q e = let low = positive p (eqb-false p 0 q) in entries (p - 1) (omega arith) s k (x .0) (x .1) e
+      go false q e = let low = other-than-zero p (eqb-false p 0 q) in entries (p - 1) (omega arith) s k (x .0) (x .1) e
 
   module _ (c : Class) (low : (j : ℕ) → getD (c .books) j 0 ≤ count) where
     chosen-small : (v n k : ℕ) {x : List ℕ × ℕ} → each (value lengthsOf) (chosen c v n) s k ≡ ok x → Small (x .0)

@@ -3,6 +3,7 @@ use bits::Cursor;
 use bits::Field;
 use bits::Step;
 use floor_partition::partition;
+use reading::widths::u8_from_u16;
 use reading::widths::wide_u16;
 ghost use mathlib.Core.Path.{_≡_};
 ghost use Prim.Native.Nat.{_<_};
@@ -18,13 +19,6 @@ ghost use Rattle.book_codeword.specs.inner.Stored.{lengthsIn};
 ghost use Rattle.floor_values.specs.Values.{firstBits, partitionOf, usedValues, floorValues, answeredValues};
 ghost use Rattle.floor_values.specs.inner.Stored.{floorIn, FloorStored};
 ghost use Rattle.floor_values.specs.Claims.{FloorValues};
-
-fn byte(x: u16) -> u8
-    requires { ⌜ x < 256 ⌝ }
-    ensures { λ r. ⌜ r ≡ x ⌝ }
-{
-    x as u8
-}
 
 // The first two values, into the first two places of the list.
 fn read_first_two(
@@ -42,7 +36,7 @@ fn read_first_two(
         (many (field (firstBits (floorIn (now (floors .entry)) floor .multiplier))) 2 (now (packet .entry)) (position from))
         (table (now (values .entry)) 0)) r (table (now (values .exit)) 2) ⌝ }
 {
-    let range = floor_points::range_of(byte(floor_row::multiplier(floors, floor)));
+    let range = floor_points::range_of(u8_from_u16(floor_row::multiplier(floors, floor)));
     let width = bits::ilog::ilog(range - 1);
     numbers::read_numbers(packet, from, width, 2, values, 0)
 }

@@ -1,26 +1,26 @@
 -- An accepted identity is sound, and the test of soundness is exact. Assumes nothing.
-use Prim.Native.Nat.{ℕ, zero, suc, _+_, _-_, _*_, _^_, _≤_, _<_}
-use native.Mathlib.Nat.{le-of-suc-le-suc}
+use Prim.Native.Nat.{ℕ, zero, suc, _+_, _-_, _^_, _≤_, _<_}
 use native.Mathlib.Numerals.{add-one}
 use native.Mathlib.Omega.{arith}
 use borrow.Author.Needs.{needs}
-use borrow.Author.Tests.{le-leb, leb-true, leb-false, eqb-true, eqb-false, eq-eqb, ne-eqb, not-true, not-false}
-use mathlib.Core.Bool.{Bool, true, false, not, _&&_, _||_}
-use mathlib.Core.List.{List, [], _∷_}
+use borrow.Author.Tests.{le-leb, leb-true, leb-false, eq-eqb, ne-eqb, not-true, not-false}
+use mathlib.Core.Bool.{Bool, true, false, not, _&&_}
+use mathlib.Core.List.{List}
 use mathlib.Core.Logic.{_↔_}
 use mathlib.Core.Path.{_≡_, refl, sym, ap, _∙_, subst}
 use lib.Dec.{eqb, leb}
 use lib.ListN.{length, getD, drop, drop-of-length-le}
 use lib.Seq.{drop-cons}
-use Rattle.reading.specs.Outcome.{Refusal, refusal, Outcome, ok, bad, then, need}
+use Rattle.reading.specs.Outcome.{Outcome, ok, bad}
 use Rattle.reading.specs.Reader.{judged, mapped}
-use Rattle.reading.proofs.Outcomes.{then-ok, need-ok, judged-ok, ok-is}
+use Rattle.reading.proofs.Outcomes.{then-ok, judged-ok, ok-is}
 use Rattle.bits.specs.Field.{field}
-use Rattle.bits.specs.inner.Cursors.{refusalOf}
 use Rattle.header.specs.Header.{commonHeader, framing}
 use Rattle.identification.specs.Identification.{stream, bitrates, blockSize, blockSizes, identification}
 use Rattle.identification.specs.inner.Answers.{identified}
 use Rattle.reading.specs.Lists.{listed}
+use Rattle.reading.proofs.Basics.{other-than-zero, tested-above-zero}
+use Rattle.reading.proofs.Least.{and-split}
 use Rattle.identification.specs.Sound.{allowedSizes, Sound, isSound, AcceptedSound}
 use Rattle.identification.specs.declared.Identity.{Identity}
 use Rattle.identification.specs.declared.Identified.{Identified}
@@ -28,13 +28,6 @@ use Rattle.identification.specs.declared.Identified.the-variants.{Accept
 use Rattle.identification.specs.declared.fields.Stream.{Stream}
 use Rattle.identification.specs.declared.fields.BlockSizes.{BlockSizes}
 use Rattle.identification.proofs.FieldLaws.{small, large}
-
-positive : (v : ℕ) → (v ≡ 0 → ⊥) → 1 ≤ v
-positive zero n = absurd (n refl)
-positive (suc v) n = omega arith
-
-not-zero : (v : ℕ) → not (eqb v 0) ≡ true → 1 ≤ v
-not-zero v e = positive v (eqb-false v 0 (not-true _ e))
 
 -- the powers of two from 64 to 8192 are the allowed sizes
 power : (j : ℕ) → j ≤ 7 → listed (2 ^ (6 + j)) allowedSizes ≡ true
@@ -94,7 +87,7 @@ stream-fits most s k {x} e =
     let rate = judged-ok (λ v. not (eqb v 0)) 4 (field 32) s (b .0 .1) (c .1) in
     let same : _≡_ {A = Stream × ℕ} (record { channels = b .0 .0; rate = c .0 .0 }, c .0 .1) x = ok-is (c .2) in
     subst (λ (y : Stream × ℕ). StreamFits most (y .0)) same
-    (record { some-channel = not-zero _ (some .1); few-channels = leb-true _ _ (few .1); some-rate = not-zero _ (rate .1) })
+    (record { some-channel = tested-above-zero _ (some .1); few-channels = leb-true _ _ (few .1); some-rate = tested-above-zero _ (rate .1) })
 
 record SizesFit (a : BlockSizes) : Type 0 where
   pub first-size : listed (a .first) allowedSizes ≡ true
@@ -181,9 +174,9 @@ module _ (most : ℕ) (i : Identity) where
   last-tested c f t o b p e r q = (
     λ g.
         record {
-          some-channel = positive (i .channels) c;
+          some-channel = other-than-zero (i .channels) c;
           few-channels = f;
-          some-rate = positive (i .rate) t;
+          some-rate = other-than-zero (i .rate) t;
           first-size = sym p ∙ not-false b e;
           second-size = sym q ∙ g;
           in-order = o;
@@ -194,19 +187,15 @@ module _ (most : ℕ) (i : Identity) where
 pub ruleset sound-laws = (needs, no-channel, many-channels, no-rate, reversed, first-unlisted, last-tested)
 
 -- soundness and its test
-both : (a b : Bool) → a && b ≡ true → (a ≡ true) × (b ≡ true)
-both true b e = (refl, e)
-both false b e = let z : _≡_ {A = ℕ} 0 1 = cc in absurd (omega arith)
-
 pub sound-test : (most : ℕ) (i : Identity) → (isSound most i ≡ true) ↔ Sound most i
 unfolding isSound
 sound-test most i = (
   (λ e.
-      let a = both _ _ e in
-      let b = both _ _ (a .1) in
-      let c = both _ _ (b .1) in
-      let d = both _ _ (c .1) in
-      let f = both _ _ (d .1) in
+      let a = and-split _ _ e in
+      let b = and-split _ _ (a .1) in
+      let c = and-split _ _ (b .1) in
+      let d = and-split _ _ (c .1) in
+      let f = and-split _ _ (d .1) in
       record { some-channel = leb-true _ _ (a .0); few-channels = leb-true _ _ (b .0); some-rate = leb-true _ _ (c .0); first-size = d .0; second-size = f .0; in-order = leb-true _ _ (f .1) }),
   (λ s. rw (le-leb _ _ (s .some-channel), le-leb _ _ (s .few-channels), le-leb _ _ (s .some-rate), s .first-size, s .second-size, le-leb _ _ (s .in-order)) refl),
 )

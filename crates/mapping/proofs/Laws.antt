@@ -18,6 +18,7 @@ use Rattle.reading.proofs.Pads.{length-pad}
 use Rattle.reading.proofs.Outcomes.{then-ok, judged-ok}
 use Rattle.reading.proofs.Accepted.{many-each, many-number}
 use Rattle.reading.proofs.PairRows.{PairRow}
+use Rattle.reading.proofs.Basics.{length-zero}
 use Rattle.bits.specs.Field.{field}
 use Rattle.bits.specs.Ilog.{ilog}
 use Rattle.mapping.specs.Content.{Coupling, Submap, Mapping}
@@ -88,13 +89,9 @@ multiplexes-valid channels submaps s k x e = go (leb submaps 1) e
     go true e = let p : ([], k) ≡ x = cc in subst (λ (y : List ℕ × ℕ). all (λ v. ltb v submaps) (y .0) ≡ true) p (each-all submaps [] tt)
     go false e = each-all submaps (x .0) (many-each (multiplex submaps) s (ValidMultiplex submaps) below channels k e)
 
-empty : (l : List ℕ) → length l ≡ 0 → l ≡ []
-empty [] e = refl
-empty (a ∷ l) e = absurd (omega arith)
-
 -- a multiplex has the size that the rules give it
 pub sized-none : (n channels : ℕ) (l : List ℕ) → length l ≡ cond (leb n 1) 0 channels → n ≡ 1 → l ≡ []
-sized-none n channels l e h = empty l (e ∙ rw (le-leb n 1 (omega arith)))
+sized-none n channels l e h = length-zero l (e ∙ rw (le-leb n 1 (omega arith)))
 
 pub sized-some : (n channels : ℕ) (l : List ℕ) → length l ≡ cond (leb n 1) 0 channels → 2 ≤ n → length l ≡ channels
 sized-some n channels l e h = e ∙ rw (lt-leb n 1 (omega arith))

@@ -30,9 +30,6 @@ abbrev at : ℕ → Cursor → Refusal
 at n c = record { number = n; place = c }
 
 -- what is written fits 8 bits
-pub byte-fits : (s : List ℕ) (k : Cursor) {r : Field} {v : ℕ} {k₁ : Cursor} → outcome r ≡ field 8 s (position k) → r ≡ Value v k₁ → v < 256
-byte-fits s k p q = value-below 8 s (position k) p q
-
 pub multiplex-fits : (s : List ℕ) (k : Cursor) {r : Field} {v : ℕ} {k₁ : Cursor} → outcome r ≡ field 4 s (position k) → r ≡ Value v k₁ → v + 1 < 256
 multiplex-fits s k p q = let b = value-below 4 s (position k) p q in omega arith
 

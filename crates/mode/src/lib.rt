@@ -7,15 +7,46 @@ use bits::Cursor;
 use bits::Field;
 use bits::Refusal;
 use bits::Step;
+ghost use mathlib.Core.Path.{_≡_};
 ghost use Prim.Native.Nat.{_+_, _*_, _≤_};
 ghost use Rattle.reading.specs.Reader.{many, into, into1};
 ghost use Rattle.reading.specs.inner.Table.{table, putRow};
-ghost use Rattle.bits.specs.inner.Cursors.{position, Wrote};
+ghost use Rattle.bits.specs.inner.Cursors.{position, stepped, Wrote};
 ghost use Rattle.mode.specs.Reading.{mode};
 ghost use Rattle.mode.specs.Layout.{modeWidth, modeRow};
+ghost use Rattle.mode.specs.inner.Types.{types};
 
 // The width of a mode's row in the table (specs/Layout.antt).
 pub const MODE_WIDTH: usize = 2;
+
+// The window type and the transform type: each has to be 0 (01, refusal 9).
+fn read_types(packet: &[u8], from: Cursor) -> Step
+    ensures { λ r. ⌜ stepped r ≡ types (now (packet .entry)) (position from) ⌝ }
+{
+    match from.field(packet, 16) {
+        Field::Refused(z) => Step::Refused(z),
+        Field::Value(window, at_transform) => {
+            if window != 0 {
+                return Step::Refused(Refusal {
+                    number: 9,
+                    place: from,
+                });
+            }
+            match at_transform.field(packet, 16) {
+                Field::Refused(z) => Step::Refused(z),
+                Field::Value(transform, next) => {
+                    if transform != 0 {
+                        return Step::Refused(Refusal {
+                            number: 9,
+                            place: at_transform,
+                        });
+                    }
+                    Step::Next(next)
+                }
+            }
+        }
+    }
+}
 
 // One mode, its row written at `at`. `mapping_count` is how many mappings are set up.
 pub fn read_mode(
@@ -31,41 +62,22 @@ pub fn read_mode(
 {
     match from.bit(packet) {
         Field::Refused(z) => Step::Refused(z),
-        Field::Value(blockflag, at_window) => match at_window.field(packet, 16) {
-            Field::Refused(z) => Step::Refused(z),
-            Field::Value(window, at_transform) => {
-                if window != 0 {
-                    return Step::Refused(Refusal {
-                        number: 9,
-                        place: at_window,
-                    });
-                }
-                match at_transform.field(packet, 16) {
-                    Field::Refused(z) => Step::Refused(z),
-                    Field::Value(transform, at_mapping) => {
-                        if transform != 0 {
-                            return Step::Refused(Refusal {
-                                number: 9,
-                                place: at_transform,
-                            });
-                        }
-                        match at_mapping.field(packet, 8) {
-                            Field::Refused(z) => Step::Refused(z),
-                            Field::Value(mapping, next) => {
-                                if mapping >= mapping_count {
-                                    return Step::Refused(Refusal {
-                                        number: 11,
-                                        place: at_mapping,
-                                    });
-                                }
-                                let row: [u8; 2] = [blockflag as u8, mapping as u8];
-                                reading::buffers::write_u8(modes, at, &row);
-                                Step::Next(next)
-                            }
-                        }
+        Field::Value(blockflag, at_types) => match read_types(packet, at_types) {
+            Step::Refused(z) => Step::Refused(z),
+            Step::Next(at_mapping) => match at_mapping.field(packet, 8) {
+                Field::Refused(z) => Step::Refused(z),
+                Field::Value(mapping, next) => {
+                    if mapping >= mapping_count {
+                        return Step::Refused(Refusal {
+                            number: 11,
+                            place: at_mapping,
+                        });
                     }
+                    let row: [u8; 2] = [blockflag as u8, mapping as u8];
+                    reading::buffers::write_u8(modes, at, &row);
+                    Step::Next(next)
                 }
-            }
+            },
         },
     }
 }

@@ -50,22 +50,22 @@ pub fn read_number(
     }
 }
 
-// `count` numbers of `width` bits, into the places from `at` on.
+// `number_count` numbers of `width` bits, into the places from `at` on.
 pub fn read_numbers(
     packet: &[u8],
     from: Cursor,
     width: usize,
-    count: usize,
+    number_count: usize,
     numbers: &mut [u16],
     at: usize,
 ) -> Step
-    requires { ⌜ (width ≤ 16) × (count ≤ 63) × (at ≤ 2) ⌝ }
-    ensures { λ r. ⌜ Wrote (into (putRow cell) (many (field width) count (now (packet .entry)) (position from))
-        (table (now (numbers .entry)) at)) r (table (now (numbers .exit)) (at + count)) ⌝ }
+    requires { ⌜ (width ≤ 16) × («number_count» ≤ 63) × (at ≤ 2) ⌝ }
+    ensures { λ r. ⌜ Wrote (into (putRow cell) (many (field width) «number_count» (now (packet .entry)) (position from))
+        (table (now (numbers .entry)) at)) r (table (now (numbers .exit)) (at + «number_count»)) ⌝ }
 {
     let mut next = from;
     let mut i: usize = 0;
-    while i < count {
+    while i < number_count {
         match read_number(packet, next, width, numbers, at + i) {
             Step::Refused(z) => {
                 return Step::Refused(z);

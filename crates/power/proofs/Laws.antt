@@ -1,21 +1,18 @@
 -- Powers against a bound: what the powers passed say of the last one. Assumes nothing.
 use Prim.Native.Nat.{ℕ, zero, suc, _+_, _*_, _^_, _≤_, _<_}
-use native.Mathlib.Nat.{pow-suc, pow-succ', pow-le-pow-right, mul-le-mul, zero-mul, pow-zero}
+use native.Mathlib.Nat.{pow-suc, pow-succ', pow-le-pow-right, zero-mul, pow-zero}
 use native.Mathlib.Numerals.{add-one}
 use native.Mathlib.Omega.{arith}
 use borrow.Author.Needs.{needs}
-use borrow.Author.Tests.{le-leb, lt-leb}
-use mathlib.Core.Bool.{Bool, true, false}
+use borrow.Author.Tests.{lt-leb}
+use mathlib.Core.Bool.{false}
 use mathlib.Core.Path.{_≡_, refl, sym, ap, _∙_}
 use lib.Dec.{leb}
+use Rattle.reading.proofs.Basics.{product-fits, one-power}
 
 -- no factor at all
 pub none-within : (base exponent bound : ℕ) → exponent ≡ 0 → leb 1 bound ≡ leb (base ^ exponent) bound
 none-within base exponent bound e = rw (e, pow-zero)
-
-one-power : (n : ℕ) → 1 ^ n ≡ 1
-one-power zero = refl
-one-power (suc n) = rw (pow-suc, one-power n)
 
 -- a base of 0 or 1 is its own power
 same-power : (base exponent : ℕ) → (exponent ≡ 0 → ⊥) → base < 2 → base ≡ base ^ exponent
@@ -50,9 +47,5 @@ module _ (base exponent power done : ℕ) (w : Growing base exponent power done)
       let i = w .within in
       let same : done ≡ exponent = omega arith in
       ap (λ (p : ℕ). leb p bound) (w .product ∙ ap (λ (n : ℕ). base ^ n) same)
-
--- a product of two numbers of 32 bits has 64
-pub product-fits : (a b : ℕ) → a < 4294967296 → b < 4294967296 → a * b < 18446744073709551616
-product-fits a b h l = let m = mul-le-mul {n₁ = a} {m₁ = b} {n₂ = 4294967295} {m₂ = 4294967295} (omega arith) (omega arith) in omega arith
 
 pub ruleset powers = (needs, none-within, same-within, growing-start, growing-turn, grown-past, grown, product-fits)

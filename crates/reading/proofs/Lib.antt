@@ -3,6 +3,7 @@ pub mod Readers
 pub mod Pads
 pub mod Count
 pub mod Least
+pub mod Basics
 pub mod BufferLaws
 pub mod Tabulate
 pub mod Tables

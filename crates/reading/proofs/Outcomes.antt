@@ -5,7 +5,7 @@ use mathlib.Core.List.{List}
 use mathlib.Core.Path.{_≡_, refl, _∙_}
 use native.Mathlib.Omega.{arith}
 use Rattle.reading.specs.Outcome.{Refusal, refusal, Outcome, ok, bad, then, need}
-use Rattle.reading.specs.Reader.{Reader, judged}
+use Rattle.reading.specs.Reader.{Reader, judged, mapped}
 
 module _ {A : Type 0} where
   pub ok-is : {a b : A} → _≡_ {A = Outcome A} (ok a) (ok b) → a ≡ b
@@ -24,6 +24,12 @@ module _ {A : Type 0} where
 pub then-ok : {A B : Type 0} (o : Outcome A) (f : A → Outcome B) {b : B} → then o f ≡ ok b → (a : A) × (o ≡ ok a) × (f a ≡ ok b)
 then-ok (ok a) f e = (a, refl, e)
 then-ok (bad z) f e = let x : _≡_ {A = ℕ} 0 1 = cc in absurd (omega arith)
+
+-- a step, and then another, of which the first part is named
+module _ {A B C : Type 0} (h : B → Outcome C) where
+  pub then-into : (o : Outcome A) (f : A → Outcome B) (g : A → Outcome C) → ((a : A) → g a ≡ then (f a) h) → then o g ≡ then (then o f) h
+  then-into (ok a) f g e = e a
+  then-into (bad z) f g e = refl
 
 pub need-ok : {A : Type 0} (t : Bool) (z : Refusal) (o : Outcome A) {a : A} → need t z o ≡ ok a → (t ≡ true) × (o ≡ ok a)
 need-ok true z o e = (refl, e)
@@ -53,6 +59,11 @@ need-numbered false z h n = number z h
 pub then-numbered : {A B : Type 0} {o : Outcome A} {f : A → Outcome B} → Numbered o → ((a : A) → Numbered (f a)) → Numbered (then o f)
 then-numbered (value a) g = g a
 then-numbered (number z h) g = number z h
+
+pub mapped-numbered : {A C : Type 0} (f : A → C) {o : Outcome (A × ℕ)} → Numbered o → Numbered (mapped f o)
+unfolding mapped
+mapped-numbered f (value x) = value (f (x .0), x .1)
+mapped-numbered f (number z h) = number z h
 
 pub judged-numbered : (test : ℕ → Bool) (n : ℕ) (r : Reader ℕ) (p : List ℕ) (k : ℕ) → 1 ≤ n → Numbered (r p k) → Numbered (judged test n r p k)
 judged-numbered test n r p k h w = then-numbered w (λ x. need-numbered (test (x .0)) (refusal n k) h (value x))

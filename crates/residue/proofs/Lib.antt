@@ -4,3 +4,4 @@ pub mod PlanSound
 pub mod RowsLaws
 pub mod FitsLaws
 pub mod Laws
+pub mod DecodeLaws

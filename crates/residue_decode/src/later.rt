@@ -1,9 +1,10 @@
 // One later pass: its class words stand in the list, where pass 0 put them.
 use codeword_list::ListRead;
 use codeword_list::Progress;
+use reading::lower::lower_u32;
 use residue::head::Head;
 ghost use mathlib.Core.Path.{_≡_};
-ghost use Prim.Native.Nat.{_≤_, _<_, min};
+ghost use Prim.Native.Nat.{_≤_, _<_};
 ghost use lib.ListN.{length};
 ghost use Rattle.bits.specs.inner.Cursors.{position};
 ghost use Rattle.residue_requests.specs.inner.Again.{nextClass, ClassWordsBefore};
@@ -24,13 +25,6 @@ pub fn next_class(list: &[u32], from: usize) -> usize
         at = at + 1;
     }
     at
-}
-
-// The lower of two numbers.
-fn fewer(a: u32, b: u32) -> u32
-    ensures { λ r. ⌜ r ≡ min a b ⌝ }
-{
-    if a <= b { a } else { b }
 }
 
 // A pass over so many partitions of each vector, whose class words stand in the list from place `start` on.
@@ -62,7 +56,7 @@ pub fn later_pass(
     let mut left = partitions;
     while 0 < left {
         let at = next_class(out, place);
-        let rows = fewer(digits, left);
+        let rows = lower_u32(digits, left);
         let after = at + live;
         match residue_pass::partition::read_rows(
             packet,

@@ -3,10 +3,11 @@
 use super::partition;
 use codeword_list::ListRead;
 use codeword_list::Progress;
+use reading::lower::lower_u32;
 use residue::head::Head;
 ghost use mathlib.Core.List.{[]};
 ghost use mathlib.Core.Path.{_≡_};
-ghost use Prim.Native.Nat.{_-_, _≤_, _<_, min};
+ghost use Prim.Native.Nat.{_-_, _≤_, _<_};
 ghost use lib.ListN.{length};
 ghost use Rattle.bits.specs.inner.Cursors.{position};
 ghost use Rattle.book_codeword.specs.inner.Stored.{BookStored};
@@ -49,13 +50,6 @@ pub fn read_class_words(
         left = left - 1;
     }
     ListRead::Whole(next)
-}
-
-// The lower of two numbers.
-fn fewer(a: u32, b: u32) -> u32
-    ensures { λ r. ⌜ r ≡ min a b ⌝ }
-{
-    if a <= b { a } else { b }
 }
 
 // The class words of `left` partitions of each of `live` vectors, each with its group of partitions after it.
@@ -126,7 +120,7 @@ pub fn group(
         (now (packet .entry)) (position (from .at))) (now (out .entry)) (from .count) r (now (out .exit)) ⌝ }
 {
     let count = from.count;
-    let rows = fewer(digits, left);
+    let rows = lower_u32(digits, left);
     match partition::read_rows(
         packet,
         from,

@@ -5,7 +5,7 @@ use native.Mathlib.Omega.{arith}
 use borrow.Author.Tests.{eq-eqb, ne-eqb}
 use mathlib.Core.Bool.{Bool, true, false, cond}
 use mathlib.Core.List.{List, [], _∷_, _++_, map, append-assoc, append-nil}
-use mathlib.Core.Option.{Option, some}
+use mathlib.Core.Option.{Option, some, Option·some-injective}
 use mathlib.Core.Path.{_≡_, refl, sym, ap, _∙_}
 use lib.Dec.{eqb}
 use lib.ListN.{length, getD, drop, length-append, length-drop}
@@ -67,9 +67,6 @@ class-place vs k w ws j l at t e =
     let b : drop (at + length vs + length (w ∷ ws)) l ≡ t =
     sym (drop-drop (length (w ∷ ws)) (at + length vs) l) ∙ ap (drop (length (w ∷ ws))) a ∙ drop-at (numbers (w ∷ ws)) t (length (w ∷ ws)) (numbers-long (w ∷ ws)) in
     (ap (λ (m : List ℕ). at + oddFront m) e ∙ ap (λ (n : ℕ). at + n) (front vs k w (j .0) (numbers ws ++ t)), a, b)
-
-some-is : {A : Type 0} {a b : A} → _≡_ {A = Option A} (some a) (some b) → a ≡ b
-some-is e = cc
 
 module _ (reads : Request → Reader ℕ) (dimensionsOf : ℕ → ℕ) (r : Residue) (live : ℕ) (s : List ℕ) (l tail : List ℕ) (end : ℕ) where
   -- the run h came to `classes`, and its codewords stand from place `at` of the list on, after some vectors, and end at place `end`
@@ -140,7 +137,7 @@ module _ (reads : Request → Reader ℕ) (dimensionsOf : ℕ → ℕ) (r : Resi
       → ListedFrom (run reads (flatFirstPass dimensionsOf r (suc live) left unused es acc) s k) classes at
       → classes ≡ acc ++ again (dimensionsOf (r .classbook)) r (suc live) l left unused es at
   unfolding flatFirstPass again run
-  again-is zero unused es acc k x = sym (some-is (x .came)) ∙ sym (append-nil acc)
+  again-is zero unused es acc k x = sym (Option·some-injective _ _ (x .came)) ∙ sym (append-nil acc)
   again-is (suc left) (suc unused) es acc k {classes} {at} x =
       let cs = classesOf r unused es in
       let y = row-listed (flatFirstPass dimensionsOf r (suc live) left unused es (acc ++ cs)) cs k x in

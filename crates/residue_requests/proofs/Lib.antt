@@ -3,3 +3,4 @@ pub mod KindLaws
 pub mod AgainLaws
 pub mod PassLaws
 pub mod FirstPassLaws
+pub mod ListedLaws

@@ -9,7 +9,7 @@ use mathlib.Core.Logic.{_↔_}
 use mathlib.Core.Path.{_≡_, refl, sym, ap, _∙_}
 use lib.Dec.{eqb, leb}
 use lib.ListN.{length, take, drop, replicate}
-use lib.Seq.{getD-drop, drop-drop}
+use lib.Seq.{drop-drop}
 use Rattle.reading.specs.Lists.{all}
 use Rattle.reading.specs.Encoding.{Zeros}
 use Rattle.reading.proofs.Least.{and-split}
@@ -21,6 +21,7 @@ use Rattle.residue.specs.inner.Plans.{headFits}
 use Rattle.residue.specs.inner.Decode.{headAt}
 use Rattle.residue_tables.specs.inner.Recognised.{headTest, placesTest, residueTest, residuesTest}
 use Rattle.residue.specs.declared.head.Head as D
+use Rattle.residue.proofs.DecodeLaws.{head-dropped}
 
 -- the fields before the plan, one law for each way out
 module _ (count : ℕ) (t : List ℕ) (h : D.Head) where
@@ -74,17 +75,6 @@ module _ (count : ℕ) (t : List ℕ) (h : D.Head) where
                     rw
                     (le-leb (h .kind) 2 a, lt-ltb (h .begin) (2 ^ 24) b, lt-ltb (h .end) (2 ^ 24) c, le-leb 1 (h .size) d, le-leb (h .size) (2 ^ 24) e, le-leb 1 (h .classifications) f, le-leb (h .classifications) 64 g, lt-ltb (h .classbook) count x)
                     p
-
-head-dropped : (l : List ℕ) (i : ℕ) → headAt (drop (6 * i) l) 0 ≡ headAt l i
-head-dropped l i =
-    λ j. record {
-      type = getD-drop (6 * i) l 0 0 j;
-      begin = getD-drop (6 * i) l 1 0 j;
-      end = getD-drop (6 * i) l 2 0 j;
-      size = getD-drop (6 * i) l 3 0 j;
-      classifications = getD-drop (6 * i) l 4 0 j;
-      classbook = getD-drop (6 * i) l 5 0 j;
-    }
 
 -- zeros alone, as a test of each number
 zeros-tested : (n : ℕ) → all (λ b. eqb b 0) (replicate n 0) ≡ true

@@ -6,13 +6,15 @@ use mathlib.Core.List.{List, [], _∷_, map}
 use mathlib.Core.Path.{_≡_, subst}
 use lib.Dec.{eqb, leb, ltb}
 use lib.ListN.{length}
-use Rattle.reading.specs.Outcome.{Refusal, refusal, Outcome, ok, bad, then, need}
+use Rattle.reading.specs.Outcome.{Refusal, refusal, Outcome, ok, bad, then}
 use Rattle.reading.specs.Reader.{Reader, judged, mapped, many, each}
 use Rattle.reading.specs.Lists.{distinct}
-use Rattle.reading.proofs.Outcomes.{Numbered, value, number, need-numbered, then-numbered, judged-numbered}
-use Rattle.bits.specs.Field.{valueAt, field}
+use Rattle.reading.proofs.Outcomes.{Numbered, value, number, need-numbered, then-numbered, judged-numbered, mapped-numbered}
+use Rattle.bits.specs.Field.{field}
 use Rattle.bits.specs.Ilog.{ilog}
-use Rattle.header.specs.Header.{exactly, opening, commonHeader, framing}
+use Rattle.bits.proofs.Numbers.{field-numbered, judged-field}
+use Rattle.header.specs.Header.{opening, commonHeader, framing}
+use Rattle.header.proofs.Numbers.{exactly-numbered}
 use Rattle.limits.specs.declared.Limits.{Limits}
 use Rattle.identification.specs.declared.Identity.{Identity}
 use Rattle.identification.specs.Sound.{isSound}
@@ -42,15 +44,6 @@ use Rattle.setup.specs.Layout.{Tables, hasRoom}
 use Rattle.setup.specs.Call.{setupOf}
 
 -- ways to build an outcome
-field-numbered : (w : ℕ) (s : List ℕ) (k : ℕ) → Numbered (field w s k)
-unfolding field
-field-numbered w s k = need-numbered (leb (k + w) (8 * length s)) (refusal 1 k) (omega arith) (value (valueAt s k w, k + w))
-
-mapped-numbered : {A C : Type 0} (f : A → C) {o : Outcome (A × ℕ)} → Numbered o → Numbered (mapped f o)
-unfolding mapped
-mapped-numbered f (value x) = value (f (x .0), x .1)
-mapped-numbered f (number z h) = number z h
-
 either : {A : Type 0} (t : Bool) {o p : Outcome A} → Numbered o → Numbered p → Numbered (cond t o p)
 either true n m = n
 either false n m = m
@@ -64,15 +57,6 @@ each-numbered : {A C : Type 0} (r : C → Reader A) (s : List ℕ) → ((c : C) 
 unfolding each
 each-numbered r s h [] k = value ([], k)
 each-numbered {A} r s h (c ∷ l) k = then-numbered (h c k) (λ (x : A × ℕ). then-numbered (each-numbered r s h l (x .1)) (λ (y : List A × ℕ). value _))
-
-judged-field : (test : ℕ → Bool) (n w : ℕ) (s : List ℕ) (k : ℕ) → 1 ≤ n → Numbered (judged test n (field w) s k)
-judged-field test n w s k h = judged-numbered test n (field w) s k h (field-numbered w s k)
-
--- the opening
-exactly-numbered : (bs : List ℕ) (s : List ℕ) (k : ℕ) → Numbered (exactly bs s k)
-unfolding exactly
-exactly-numbered [] s k = value k
-exactly-numbered (b ∷ bs) s k = then-numbered (judged-field (λ v. eqb v b) 2 8 s k (omega arith)) (λ (x : ℕ × ℕ). exactly-numbered bs s (x .1))
 
 -- books
 length-numbered : (sparse : ℕ) (s : List ℕ) (k : ℕ) → Numbered (L.entryLength sparse s k)

@@ -1,13 +1,12 @@
 -- Laws of the ten tables as the code asks them: room, clearing, and what both say of each table. Assumes nothing.
 use Prim.Native.Nat.{ℕ, _≤_, _<_}
-use borrow.Author.Needs.{needs}
 use borrow.Author.Tests.{le-leb, lt-leb, leb-true}
 use native.Mathlib.Omega.{arith}
-use mathlib.Core.Bool.{Bool, true, false, _&&_}
+use mathlib.Core.Bool.{true, false}
 use mathlib.Core.List.{List}
-use mathlib.Core.Path.{_≡_, refl, sym, ap, _∙_}
-use lib.Dec.{leb}
+use mathlib.Core.Path.{_≡_, refl}
 use lib.ListN.{length, replicate}
+use Rattle.reading.proofs.Least.{and-split}
 use Rattle.limits.specs.declared.Limits.{Limits}
 use Rattle.book.specs.Layout.{booksNeed}
 use Rattle.setup.specs.Layout.{Tables, hasRoom, cleared, tables}
@@ -84,10 +83,6 @@ module _ (c b l w m f r p a o : List ℕ) {c′ b′ l′ w′ m′ f′ r′ p�
   all-cleared e0 e1 e2 e3 e4 e5 e6 e7 e8 e9 = λ j. tables (e0 j) (e1 j) (e2 j) (e3 j) (e4 j) (e5 j) (e6 j) (e7 j) (e8 j) (e9 j)
 
 -- what room says of each table
-and-true : (a b : Bool) → a && b ≡ true → (a ≡ true) × (b ≡ true)
-and-true true b e = (refl, e)
-and-true false b e = let z : _≡_ {A = ℕ} 0 1 = cc in absurd (omega arith)
-
 pub record RoomParts (limits : Limits) (t : Tables) : Type 0 where
   pub counts : 5 ≤ length (t .counts)
   pub books : booksNeed ≤ length (t .books)
@@ -103,15 +98,15 @@ pub record RoomParts (limits : Limits) (t : Tables) : Type 0 where
 pub room-parts : (limits : Limits) (t : Tables) → hasRoom limits t ≡ true → RoomParts limits t
 unfolding hasRoom
 room-parts limits t e =
-    let a0 = and-true _ _ e in
-    let a1 = and-true _ _ (a0 .1) in
-    let a2 = and-true _ _ (a1 .1) in
-    let a3 = and-true _ _ (a2 .1) in
-    let a4 = and-true _ _ (a3 .1) in
-    let a5 = and-true _ _ (a4 .1) in
-    let a6 = and-true _ _ (a5 .1) in
-    let a7 = and-true _ _ (a6 .1) in
-    let a8 = and-true _ _ (a7 .1) in
+    let a0 = and-split _ _ e in
+    let a1 = and-split _ _ (a0 .1) in
+    let a2 = and-split _ _ (a1 .1) in
+    let a3 = and-split _ _ (a2 .1) in
+    let a4 = and-split _ _ (a3 .1) in
+    let a5 = and-split _ _ (a4 .1) in
+    let a6 = and-split _ _ (a5 .1) in
+    let a7 = and-split _ _ (a6 .1) in
+    let a8 = and-split _ _ (a7 .1) in
     record {
       counts = leb-true _ _ (a0 .0);
       books = leb-true _ _ (a1 .0);

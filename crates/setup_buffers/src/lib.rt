@@ -1,6 +1,6 @@
 // All ten tables of a setup: whether they have room, clearing them, and how a call leaves them.
-use bits::Refusal;
 use bits::Step;
+use bits::number_of;
 use limits::Limits;
 use reading::buffers;
 use reading::widths::wide_u32;
@@ -111,12 +111,6 @@ pub fn clear(
     buffers::clear_u32(counts);
     clear_books(books, lengths, codewords, multiplicands);
     clear_after(floors, residues, plans, mappings, modes);
-}
-
-fn number_of(refusal: Refusal) -> u32
-    ensures { λ r. ⌜ r ≡ refusal .number ⌝ }
-{
-    refusal.number as u32
 }
 
 // 0 where the packet was read through: the tables stay as they are. Else the number of the refusal, and every table is all zero.

@@ -1,13 +1,14 @@
 -- The books of sound tables: each book's numbers in its row are those of the content, for every number a caller may name; it can be read and has dimensions.
 -- Assumes nothing.
-use Prim.Native.Nat.{ℕ, zero, suc, _^_, _≤_, _<_}
+use Prim.Native.Nat.{ℕ, _^_, _≤_, _<_}
 use native.Mathlib.Omega.{arith}
 use borrow.Author.Tests.{leb-true, eq-eqb, not-true}
 use mathlib.Core.List.{List, [], map}
 use mathlib.Core.Logic.{⊎-elim}
-use mathlib.Core.Path.{_≡_, refl, sym, ap, _∙_}
+use mathlib.Core.Path.{_≡_, sym, ap, _∙_}
 use lib.ListN.{length, getD, take, drop, List·getD-eq-default, List·getD-map, length-map}
 use Rattle.reading.proofs.Least.{true-not-false, lt-or-le}
+use Rattle.reading.proofs.Basics.{other-than-zero}
 use Rattle.limits.specs.declared.Limits.{Limits}
 use Rattle.book.specs.Content.{Book}
 use Rattle.book.specs.Layout.{dimensionsAt, entriesAt, firstEntryAt}
@@ -22,11 +23,6 @@ use Rattle.setup.proofs.BookLinks.{noBook, books-link}
 use Rattle.setup.proofs.WrittenLaws.{SoundFacts, sound-facts}
 use Rattle.setup_rows.specs.inner.Rows.{CountsSound, BookSound}
 use Rattle.setup_rows.proofs.StoredLaws.{entries-are, book-valid, entries-of, book-stored}
-
--- a number that is not 0
-pub not-zero : (n : ℕ) → (n ≡ 0 → ⊥) → 1 ≤ n
-not-zero zero f = absurd (f refl)
-not-zero (suc n) f = omega arith
 
 module _ {limits : Limits} {channels : ℕ} {t : Tables} (x : Sound limits channels t) where
   abbrev items : List Book
@@ -74,7 +70,7 @@ module _ {limits : Limits} {channels : ℕ} {t : Tables} (x : Sound limits chann
       pub some-dimension : 1 ≤ dimensionsAt (t .books) b
       some-dimension =
           let e = dimensions-are ∙ List·getD-map (λ y. y .dimensions) items b noBook in
-          let l = not-zero (getD items b noBook .dimensions) (λ z. true-not-false _ (eq-eqb _ 0 z) (not-true _ (book-valid x b h .rule6 .dimensions))) in
+          let l = other-than-zero (getD items b noBook .dimensions) (λ z. true-not-false _ (eq-eqb _ 0 z) (not-true _ (book-valid x b h .rule6 .dimensions))) in
           omega arith
 
       pub few-entries : entriesAt (t .books) b < 2 ^ 24

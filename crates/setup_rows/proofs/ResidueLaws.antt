@@ -4,16 +4,16 @@ use Prim.Native.Nat.{ℕ, zero, suc, _+_, _-_, _*_, _^_, _≤_, _<_}
 use native.Mathlib.Omega.{arith}
 use native.Mathlib.Nat.{pow-le-pow-right}
 use borrow.Author.Tests.{leb-true, ltb-true}
-use mathlib.Core.Bool.{Bool, true}
-use mathlib.Core.List.{List, [], _∷_}
+use mathlib.Core.List.{List}
 use mathlib.Core.Path.{_≡_, refl, sym, ap, subst, _∙_}
 use lib.Dec.{leb}
 use lib.ListN.{length, getD, drop}
-use lib.Seq.{getD-drop, drop-drop}
-use Rattle.reading.specs.Lists.{all, rows}
-use Rattle.reading.proofs.EachLaws.{each-at}
+use lib.Seq.{drop-drop}
+use Rattle.reading.specs.Lists.{rows}
+use Rattle.reading.proofs.EachLaws.{each-at, all-at}
 use Rattle.reading.proofs.Least.{and-split}
 use Rattle.reading.proofs.Stored.{stored-number}
+use Rattle.reading.proofs.Basics.{other-than-zero}
 use Rattle.limits.specs.declared.Limits.{Limits}
 use Rattle.book.specs.Layout.{dimensionsAt, entriesAt}
 use Rattle.book_codeword.specs.inner.Stored.{dimensionsIn}
@@ -26,8 +26,10 @@ use Rattle.residue.specs.inner.Heads.{headOf}
 use Rattle.residue.specs.inner.Valid.{ValidResidue}
 use Rattle.residue.specs.declared.head.Head.{Head}
 use Rattle.residue.proofs.Laws.{rows8-long}
+use Rattle.residue.proofs.DecodeLaws.{head-dropped}
 use Rattle.residue_row.proofs.Laws.{residues-stored}
 use Rattle.residue_pass.specs.inner.Readable.{residueIn, residueBy, placeIn, ResidueReadable}
+use Rattle.residue_pass.proofs.ReadableLaws.{residue-by-head}
 use Rattle.setup.specs.Content.{Setup, booksKnown}
 use Rattle.setup.specs.Layout.{Tables}
 use Rattle.setup.specs.Sound.{Sound}
@@ -35,15 +37,8 @@ use Rattle.setup.specs.inner.Decode.{decodeSetup}
 use Rattle.setup.proofs.DecodeLaws.{content-decoded}
 use Rattle.setup.proofs.WrittenLaws.{SoundFacts, sound-facts}
 use Rattle.setup_rows.specs.inner.Rows.{ResidueSound}
-use Rattle.setup_rows.proofs.BookLaws.{not-zero, books-are, some-dimension, few-entries}
+use Rattle.setup_rows.proofs.BookLaws.{books-are, some-dimension, few-entries}
 use Rattle.setup_rows.proofs.StoredLaws.{book-stored}
-
--- a test of every number, of the number at a place
-all-at : (f : ℕ → Bool) (l : List ℕ) → all f l ≡ true → (i : ℕ) → i < length l → f (getD l i 0) ≡ true
-unfolding all
-all-at f [] e i h = absurd (omega arith)
-all-at f (v ∷ l) e zero h = and-split (f v) (all f l) e .0
-all-at f (v ∷ l) e (suc i) h = all-at f l (and-split (f v) (all f l) e .1) i (omega arith)
 
 -- a power grows with its exponent
 power-less : (c d : ℕ) → 1 ≤ c → 1 ≤ d → c ^ (d - 1) ≤ c ^ d
@@ -61,27 +56,10 @@ residue-at (suc m) (suc n) h p d l =
     ∙ (λ j. decodeResidue (drop-drop (6 * n) 6 h j) (drop-drop (512 * n) 512 p j))
     ∙ (λ j. decodeResidue (drop (a j) h) (drop (b j) p))
 
--- and its fields before the plan
-head-at : (t : List ℕ) (n : ℕ) → headAt (drop (6 * n) t) 0 ≡ headAt t n
-head-at t n =
-    λ j.
-    record {
-      type = getD-drop (6 * n) t 0 0 j;
-      begin = getD-drop (6 * n) t 1 0 j;
-      end = getD-drop (6 * n) t 2 0 j;
-      size = getD-drop (6 * n) t 3 0 j;
-      classifications = getD-drop (6 * n) t 4 0 j;
-      classbook = getD-drop (6 * n) t 5 0 j;
-    }
-
 decoded-in : (residues plans : List ℕ) (n : ℕ) → decodeResidue (drop (6 * n) residues) (drop (512 * n) plans) ≡ residueIn residues plans n
 unfolding decodeResidue residueIn
 decoded-in residues plans n =
-    ap (λ (f : R.Head). withPlan f (chunks (f .classifications) (drop (512 * n) plans))) (head-at residues n)
-
-by-head : (h : Head) (residues plans : List ℕ) (n : ℕ) → headOf h ≡ headAt residues n → residueBy h plans n ≡ residueIn residues plans n
-unfolding residueIn residueBy
-by-head h residues plans n e = ap (λ (f : R.Head). withPlan f (chunks (f .classifications) (drop (512 * n) plans))) e
+    ap (λ (f : R.Head). withPlan f (chunks (f .classifications) (drop (512 * n) plans))) (head-dropped residues n)
 
 module _ {limits : Limits} {channels : ℕ} {t : Tables} (x : Sound limits channels t) (n : ℕ) (l : n < length (x .content .residues)) where
   abbrev own : Residue
@@ -135,13 +113,13 @@ module _ {limits : Limits} {channels : ℕ} {t : Tables} (x : Sound limits chann
         let a = all-at (λ b. leb b (length (x .content .books))) (rows (λ row. row) (own .plan)) (own-valid .rule11 .plan) (8 * class + pass) (omega arith) in
         let b : getD (rows (λ row. row) (own .plan)) (8 * class + pass) 0 ≤ length (x .content .books) = leb-true _ _ a in
         let e = place-is in
-        let z = not-zero (placeIn (t .plans) n class pass) some in
+        let z = other-than-zero (placeIn (t .plans) n class pass) some in
         omega arith
 
   -- where its fields before the plan were read as h
   module _ (h : Head) (e : headOf h ≡ headAt (t .residues) n) where
     own-by : residueBy h (t .plans) n ≡ own
-    own-by = by-head h (t .residues) (t .plans) n e ∙ own-content
+    own-by = residue-by-head h (t .residues) (t .plans) n e ∙ own-content
 
     same-size : h .size ≡ own .size
     unfolding residueBy

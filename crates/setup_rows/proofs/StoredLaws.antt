@@ -10,6 +10,7 @@ use Rattle.reading.specs.Pad.{pad}
 use Rattle.reading.proofs.Pads.{pad-get}
 use Rattle.limits.specs.declared.Limits.{Limits}
 use Rattle.codeword_assignment.specs.Book.{ledgerCodewords, loneMark}
+use Rattle.codeword_assignment.proofs.Laws.{codewords-length}
 use Rattle.codeword.specs.inner.Book.{Codebook}
 use Rattle.book.specs.Content.{Book}
 use Rattle.book.specs.Layout.{bookWidth, bookRow, numberAt, entriesAt, firstEntryAt, loneAt}
@@ -18,7 +19,7 @@ use Rattle.book_reading.specs.Reading.{andThis}
 use Rattle.book_reading.specs.Rows.{bookRows, allLengths, allCodewords, andThese}
 use Rattle.book_reading.specs.inner.Valid.{ValidBook, ValidBooks}
 use Rattle.book_reading.proofs.RuleLaws.{lengths-accepted}
-use Rattle.book_reading.proofs.BooksStored.{codewords-length, row-at, these-entries, within-entries, pad-fits}
+use Rattle.book_reading.proofs.BooksStored.{row-at, these-entries, within-entries, pad-fits}
 use Rattle.book_codeword.specs.inner.Stored.{entriesOf, BookStored}
 use Rattle.setup.specs.Content.{lengthsOf}
 use Rattle.setup.specs.Layout.{Tables}

@@ -87,12 +87,12 @@ fn read_time_value(packet: &[u8], from: Cursor) -> Step
     }
 }
 
-fn read_time_values(packet: &[u8], from: Cursor, count: u32) -> Step
-    ensures { λ r. ⌜ stepped r ≡ then (many timeValue count (now (packet .entry)) (position from)) (λ x. ok (x .1)) ⌝ }
+fn read_time_values(packet: &[u8], from: Cursor, time_value_count: u32) -> Step
+    ensures { λ r. ⌜ stepped r ≡ then (many timeValue «time_value_count» (now (packet .entry)) (position from)) (λ x. ok (x .1)) ⌝ }
 {
     let mut at = from;
     let mut i: u32 = 0;
-    while i < count {
+    while i < time_value_count {
         match read_time_value(packet, at) {
             Step::Refused(z) => {
                 return Step::Refused(z);

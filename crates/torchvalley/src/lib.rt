@@ -5,7 +5,7 @@ pub mod floor;
 pub mod packet;
 pub mod tables;
 
-use bits::Refusal;
+use bits::number_of;
 use identification::Identified;
 use identification::Identity;
 use limits::Limits;
@@ -49,13 +49,6 @@ pub extern "C" fn torchvalley_identity_sound(identity: Identity) -> bool
     ensures { λ r. ⌜ (r ≡ true) ↔ Sound 8 identity ⌝ }
 {
     identification::sound::is_sound(identity, Limits::standard())
-}
-
-// The number alone: 01 has no place at the front door.
-fn number_of(refusal: Refusal) -> u32
-    ensures { λ r. ⌜ r ≡ refusal .number ⌝ }
-{
-    refusal.number as u32
 }
 
 fn no_identity() -> Identity

@@ -123,7 +123,7 @@ fn codeword_answer(read: Field) -> CodewordAnswer
 {
     match read {
         Field::Refused(refusal) => CodewordAnswer {
-            refusal: crate::number_of(refusal),
+            refusal: bits::number_of(refusal),
             entry: 0,
             byte: 0,
             bit: 0,

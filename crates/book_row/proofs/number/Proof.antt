@@ -3,8 +3,8 @@ use borrow.Author.Needs.{needs}
 use Rattle.book_row.proofs.number.Statement.{statement}
 use Rattle.book_row.proofs.number.Tie as tie
 
-wide-requires : tie.Need-wide-requires
-wide-requires c κs = search needs
+wide-u32-requires : tie.Need-wide-u32-requires
+wide-u32-requires c κs = search needs
 
 mul-place : tie.Need-mul-place
 mul-place c = search needs
@@ -16,7 +16,7 @@ get-u32-requires : tie.Need-get-u32-requires
 get-u32-requires c κs = search needs
 
 returns : tie.Need-returns
-returns c = rw (← c .before .wide .ensures) (c .«get-u32» .ensures)
+returns c = rw (← c .before .wide-u32 .ensures) (c .«get-u32» .ensures)
 
 pub number-spec : {M : Type 1} → statement M
-number-spec = tie.close (tie.spec wide-requires mul-place add-place get-u32-requires returns)
+number-spec = tie.close (tie.spec wide-u32-requires mul-place add-place get-u32-requires returns)

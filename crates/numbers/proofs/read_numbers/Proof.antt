@@ -9,10 +9,10 @@ use Rattle.numbers.proofs.read_numbers.Statement.{statement}
 use Rattle.numbers.proofs.read_numbers.Tie as tie
 
 abbrev Inv-loop : tie.InvT-loop
-Inv-loop packet width count numbers₀ at next₀ i₀ numbers next i = (width ≤ 16) × (count ≤ 63) × (at ≤ 2) × Filling cell (field width) packet count 1 numbers₀ at next₀ numbers next i
+Inv-loop packet width number-count numbers₀ at next₀ i₀ numbers next i = (width ≤ 16) × (number-count ≤ 63) × (at ≤ 2) × Filling cell (field width) packet number-count 1 numbers₀ at next₀ numbers next i
 
 abbrev μ-loop : tie.MeasureT-loop
-μ-loop packet width count numbers₀ at next₀ i₀ numbers next i = count - i
+μ-loop packet width number-count numbers₀ at next₀ i₀ numbers next i = number-count - i
 
 loop-holds : tie.Need-loop-holds Inv-loop μ-loop
 loop-holds c = (search needs, search needs, search needs, fill-start)

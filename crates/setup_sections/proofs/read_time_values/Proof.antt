@@ -10,10 +10,10 @@ use Rattle.setup_sections.proofs.read_time_values.Statement.{statement}
 use Rattle.setup_sections.proofs.read_time_values.Tie as tie
 
 abbrev Inv-loop : tie.InvT-loop
-Inv-loop packet count at₀ i₀ at i = TimesLeft packet count (then (many timeValue count packet (position at₀)) (λ x. ok (x .1))) i at
+Inv-loop packet time-value-count at₀ i₀ at i = TimesLeft packet time-value-count (then (many timeValue time-value-count packet (position at₀)) (λ x. ok (x .1))) i at
 
 abbrev μ-loop : tie.MeasureT-loop
-μ-loop packet count at₀ i₀ at i = count - i
+μ-loop packet time-value-count at₀ i₀ at i = time-value-count - i
 
 loop-holds : tie.Need-loop-holds Inv-loop μ-loop
 loop-holds c = search time-laws

@@ -23,8 +23,8 @@ add-end c = search (needs, c .before .before .before .before .before .pre .few)
 multiplier-requires : tie.Need-multiplier-requires
 multiplier-requires c κs = c .before .before .before .before .before .pre .few
 
-byte-requires : tie.Need-byte-requires
-byte-requires c κs = multiplier-few (c .before .before .before .before .before .before .pre) (c .multiplier .ensures)
+u8-from-u16-requires : tie.Need-u8-from-u16-requires
+u8-from-u16-requires c κs = multiplier-few (c .before .before .before .before .before .before .pre) (c .multiplier .ensures)
 
 mul-draw-values : tie.Need-mul-draw-values
 mul-draw-values c = search needs
@@ -57,7 +57,7 @@ returns c =
     let at-x-count = at-wide-u16 .before in
     let at-pre = at-x-count .before .before .before .before in
     floor-drawn (at-pre .pre) _ _ (at-wide-u16 .wide-u16 .ensures ∙ at-x-count .x-count .ensures) (at-multiplier .multiplier .ensures)
-    (at-byte .byte .ensures) (at-draw-values .draw-values .ensures)
+    (at-byte .u8-from-u16 .ensures) (at-draw-values .draw-values .ensures)
 
 pub draw-floor-spec : {M : Type 1} → statement M
 draw-floor-spec =
@@ -69,7 +69,7 @@ draw-floor-spec =
     wide-u16-requires
     add-end
     multiplier-requires
-    byte-requires
+    u8-from-u16-requires
     mul-draw-values
     sub-draw-values
     part-draw-values-start

@@ -7,8 +7,8 @@ use Rattle.bits.proofs.Bytes.{bits-of-bytes}
 use Rattle.bits.proofs.Cursor.field.Statement.{statement}
 use Rattle.bits.proofs.Cursor.field.Tie as tie
 
-wide-requires : tie.Need-wide-requires
-wide-requires c κs = search needs
+wide-u8-requires : tie.Need-wide-u8-requires
+wide-u8-requires c κs = search needs
 
 returns : tie.Need-returns
 returns c = cut-here _ _ _ _ refl refl (omega arith)
@@ -56,7 +56,7 @@ pub field-spec : {M : Type 1} → statement M
 field-spec =
     tie.close
     (tie.spec
-    wide-requires
+    wide-u8-requires
     returns
     add-end
     sub-if2

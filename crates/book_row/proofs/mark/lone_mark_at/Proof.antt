@@ -4,11 +4,11 @@ use Rattle.book_row.proofs.Marks.{mark-part}
 use Rattle.book_row.proofs.mark.lone_mark_at.Statement.{statement}
 use Rattle.book_row.proofs.mark.lone_mark_at.Tie as tie
 
-wide-requires : tie.Need-wide-requires
-wide-requires c κs = search needs
+wide-u32-requires : tie.Need-wide-u32-requires
+wide-u32-requires c κs = search needs
 
-wide-requires-2 : tie.Need-wide-requires-2
-wide-requires-2 c κs = search needs
+wide-u32-requires-2 : tie.Need-wide-u32-requires-2
+wide-u32-requires-2 c κs = search needs
 
 add-end : tie.Need-add-end
 add-end c = search needs
@@ -32,8 +32,8 @@ pub lone-mark-at-spec : {M : Type 1} → statement M
 lone-mark-at-spec =
     tie.close
     (tie.spec
-    wide-requires
-    wide-requires-2
+    wide-u32-requires
+    wide-u32-requires-2
     add-end
     sub-lone-mark
     part-lone-mark-start

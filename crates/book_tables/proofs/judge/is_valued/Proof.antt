@@ -16,8 +16,8 @@ returns-3 c = search valued-laws
 value-count-requires : tie.Need-value-count-requires
 value-count-requires c κs = search needs
 
-long-requires : tie.Need-long-requires
-long-requires c κs = search needs
+u64-from-u32-requires : tie.Need-u64-from-u32-requires
+u64-from-u32-requires c κs = search needs
 
 returns-4 : tie.Need-returns-4
 returns-4 c = search valued-laws
@@ -28,4 +28,4 @@ returns-5 c = search valued-laws
 pub is-valued-spec : {M : Type 1} → statement M
 is-valued-spec =
     tie.close
-    (tie.spec returns returns-2 returns-3 value-count-requires long-requires returns-4 returns-5)
+    (tie.spec returns returns-2 returns-3 value-count-requires u64-from-u32-requires returns-4 returns-5)

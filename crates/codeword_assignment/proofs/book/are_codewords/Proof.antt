@@ -29,18 +29,18 @@ shared-slice-read-entry-codeword c = search needs
 entry-codeword-requires : tie.Need-entry-codeword-requires Inv-loop μ-loop
 entry-codeword-requires c κs = reached-length _ _ (c .before .before .before .loop .inv .entered .reached)
 
-mul-wide : tie.Need-mul-wide Inv-loop μ-loop
-mul-wide c = search needs
+mul-u64-from-u32 : tie.Need-mul-u64-from-u32 Inv-loop μ-loop
+mul-u64-from-u32 c = search needs
 
-shared-slice-read-wide : tie.Need-shared-slice-read-wide Inv-loop μ-loop
-shared-slice-read-wide c = search needs
+shared-slice-read-u64-from-u32 : tie.Need-shared-slice-read-u64-from-u32 Inv-loop μ-loop
+shared-slice-read-u64-from-u32 c = search needs
 
-wide-requires : tie.Need-wide-requires Inv-loop μ-loop
-wide-requires c κs = search needs
+u64-from-u32-requires : tie.Need-u64-from-u32-requires Inv-loop μ-loop
+u64-from-u32-requires c κs = search needs
 
 returns-2 : tie.Need-returns-2 Inv-loop μ-loop
 returns-2 c =
-    not-coded _ _ (other-word _ _ _ _ _ (c .before .before .before .before .before .before .loop-test .taken) (c .before .before .before .before .before .before .before .loop .inv) (c .before .before .before .entry-codeword .ensures .0) (c .before .wide .ensures) (c .if2 .taken))
+    not-coded _ _ (other-word _ _ _ _ _ (c .before .before .before .before .before .before .loop-test .taken) (c .before .before .before .before .before .before .before .loop .inv) (c .before .before .before .entry-codeword .ensures .0) (c .before .u64-from-u32 .ensures) (c .if2 .taken))
 
 add-entry : tie.Need-add-entry Inv-loop μ-loop
 add-entry c = search needs
@@ -50,7 +50,7 @@ loop-less c = search needs
 
 loop-again : tie.Need-loop-again Inv-loop μ-loop
 loop-again c =
-    comparing-turn _ _ _ _ _ (c .before .before .before .before .before .before .loop-test .taken) (c .before .before .before .before .before .before .before .loop .inv) (c .before .before .before .entry-codeword .ensures .0) (c .before .wide .ensures) (c .if2 .left) _ (c .before .before .before .entry-codeword .ensures .1)
+    comparing-turn _ _ _ _ _ (c .before .before .before .before .before .before .loop-test .taken) (c .before .before .before .before .before .before .before .loop .inv) (c .before .before .before .entry-codeword .ensures .0) (c .before .u64-from-u32 .ensures) (c .if2 .left) _ (c .before .before .before .entry-codeword .ensures .1)
 
 is-full-requires : tie.Need-is-full-requires Inv-loop μ-loop
 is-full-requires c κs = reached-length _ _ (c .before .before .loop .inv .entered .reached)
@@ -79,9 +79,9 @@ are-codewords-spec =
     loop-holds
     shared-slice-read-entry-codeword
     entry-codeword-requires
-    mul-wide
-    shared-slice-read-wide
-    wide-requires
+    mul-u64-from-u32
+    shared-slice-read-u64-from-u32
+    u64-from-u32-requires
     returns-2
     add-entry
     loop-less

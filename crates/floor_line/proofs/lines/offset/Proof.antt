@@ -1,5 +1,6 @@
 -- `floor_line::lines::offset` meets its contract. The product of two 32-bit numbers fits 64 bits, and a part of a number fits where the number does; each return is one law of the offset. Assumes nothing.
-use Rattle.floor_line.proofs.LineLaws.{offset-none, offset-left, offset-whole, offset-part, product-fits, small-part}
+use Rattle.reading.proofs.Basics.{product-fits}
+use Rattle.floor_line.proofs.LineLaws.{offset-none, offset-left, offset-whole, offset-part, small-part}
 use native.Mathlib.Omega.{arith}
 use borrow.Author.Needs.{needs}
 use Rattle.floor_line.proofs.lines.offset.Statement.{statement}

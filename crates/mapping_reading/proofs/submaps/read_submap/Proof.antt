@@ -1,5 +1,6 @@
 -- `mapping_reading::submaps::read_submap` meets its contract, by SubmapLaws. Assumes nothing.
-use Rattle.mapping_reading.proofs.SubmapLaws.{byte-fits, floor-unknown, residue-unknown, discarded-cut, floor-cut, residue-cut, submap-whole}
+use Rattle.bits.proofs.Answers.{byte-below}
+use Rattle.mapping_reading.proofs.SubmapLaws.{floor-unknown, residue-unknown, discarded-cut, floor-cut, residue-cut, submap-whole}
 use borrow.Author.Needs.{needs}
 use Rattle.mapping_reading.proofs.submaps.read_submap.Statement.{statement}
 use Rattle.mapping_reading.proofs.submaps.read_submap.Tie as tie
@@ -38,10 +39,10 @@ returns-2 : tie.Need-returns-2
 returns-2 c = search residue-unknown
 
 cast-t25 : tie.Need-cast-t25
-cast-t25 c = record { fits = byte-fits _ _ (c .before .before .before .before .before .before .before .before .before .before .before .field2 .ensures) (c .before .before .before .before .before .before .before .before .before .floor .given .1) }
+cast-t25 c = record { fits = byte-below _ _ (c .before .before .before .before .before .before .before .before .before .before .before .field2 .ensures) (c .before .before .before .before .before .before .before .before .before .floor .given .1) }
 
 cast-t26 : tie.Need-cast-t26
-cast-t26 c = record { fits = byte-fits _ _ (c .before .before .before .before .before .field3 .ensures) (c .before .before .before .residue .given .1) }
+cast-t26 c = record { fits = byte-below _ _ (c .before .before .before .before .before .field3 .ensures) (c .before .before .before .residue .given .1) }
 
 slice-aggregate-write-u8 : tie.Need-slice-aggregate-write-u8
 slice-aggregate-write-u8 c = search needs

@@ -4,7 +4,7 @@ use Rattle.residue_decode.proofs.later.later_pass.Statement.{statement}
 use Rattle.residue_decode.proofs.later.later_pass.Tie as tie
 use Rattle.residue_decode.proofs.later.later_pass.Reads as reads
 use Rattle.residue_decode.proofs.later.later_pass.Lts as lts
-use Rattle.residue_decode.proofs.later.fewer.Reads as fewer-reads
+use Rattle.reading.proofs.lower.lower_u32.Reads as lower-u32-reads
 use Rattle.residue_decode.proofs.later.next_class.Reads as next-class-reads
 use Rattle.residue_pass.proofs.partition.read_rows.Reads as read-rows-reads
 
@@ -24,14 +24,14 @@ next-class-requires : tie.Need-next-class-requires Inv-loop μ-loop
 next-class-requires c κs = search asked
 
 -- src/later.rt:65:13
-fewer-requires : tie.Need-fewer-requires Inv-loop μ-loop
-fewer-requires c κs = search asked
+lower-u32-requires : tie.Need-lower-u32-requires Inv-loop μ-loop
+lower-u32-requires c κs = search asked
 
 -- src/later.rt:66:21
 add-after : tie.Need-add-after Inv-loop μ-loop
 add-after c =
     let g = c .before .before .before .before .loop .inv in
-    let t = later-within g (search needs) (c .before .next-class .ensures) (c .fewer .ensures) in
+    let t = later-within g (search needs) (c .before .next-class .ensures) (c .lower-u32 .ensures) in
     let p = c .before .before .before .before .before .before .before .before .before .before .before .pre .0 in
     search needs
 
@@ -39,7 +39,7 @@ add-after c =
 read-rows-requires : tie.Need-read-rows-requires Inv-loop μ-loop
 read-rows-requires c κs =
     let g = c .before .before .before .before .before .loop .inv in
-    let there = later-there g (search needs) (c .before .before .next-class .ensures) (c .before .fewer .ensures) in
+    let there = later-there g (search needs) (c .before .before .next-class .ensures) (c .before .lower-u32 .ensures) in
     (later-fits g, later-readable g, g .pass-few, there, search needs, g .readable .top-is)
 
 -- src/later.rt:70:29
@@ -98,7 +98,7 @@ later-pass-spec =
     μ-loop
     loop-holds
     next-class-requires
-    fewer-requires
+    lower-u32-requires
     add-after
     read-rows-requires
     enum-known-progress

@@ -13,7 +13,7 @@ use Rattle.residue_pass.proofs.cycle.+class_word+group.Lts-class_word a
 use Rattle.residue_pass.proofs.cycle.group.Reads as group
 use Rattle.residue_pass.proofs.cycle.group.Kinds as group-kinds
 use Rattle.residue_pass.proofs.cycle.+class_word+group.Lts-group as group-lts
-use Rattle.residue_pass.proofs.cycle.fewer.Reads as fewer-reads
+use Rattle.reading.proofs.lower.lower_u32.Reads as lower-u32-reads
 use Rattle.residue_pass.proofs.cycle.read_class_words.Reads as read-class-words-reads
 use Rattle.residue_pass.proofs.partition.read_rows.Reads as read-rows-reads
 use Rattle.residue_pass.proofs.cycle.+class_word+group.{statement}
@@ -143,19 +143,19 @@ class-word-returns-4 : (t : ℕ) → class-word-lts.Need-returns-4 (
 ) (class-word-at t) class-word.Post
 class-word-returns-4 t c = search asked
 
-group-fewer-requires : (t : ℕ) → group-lts.Need-fewer-requires (
-  fewer-reads.Asked,
-  fewer-reads.Learnt,
+group-lower-u32-requires : (t : ℕ) → group-lts.Need-lower-u32-requires (
+  lower-u32-reads.Asked,
+  lower-u32-reads.Learnt,
   read-rows-reads.Asked,
   read-rows-reads.Learnt,
   class-word-below t,
   class-word.Post,
 ) (group-at t) group.Post
-group-fewer-requires t c κs = search asked
+group-lower-u32-requires t c κs = search asked
 
 group-sub-read-rows : (t : ℕ) → group-lts.Need-sub-read-rows (
-  fewer-reads.Asked,
-  fewer-reads.Learnt,
+  lower-u32-reads.Asked,
+  lower-u32-reads.Learnt,
   read-rows-reads.Asked,
   read-rows-reads.Learnt,
   class-word-below t,
@@ -164,8 +164,8 @@ group-sub-read-rows : (t : ℕ) → group-lts.Need-sub-read-rows (
 group-sub-read-rows t c = search needs
 
 group-read-rows-requires : (t : ℕ) → group-lts.Need-read-rows-requires (
-  fewer-reads.Asked,
-  fewer-reads.Learnt,
+  lower-u32-reads.Asked,
+  lower-u32-reads.Learnt,
   read-rows-reads.Asked,
   read-rows-reads.Learnt,
   class-word-below t,
@@ -174,8 +174,8 @@ group-read-rows-requires : (t : ℕ) → group-lts.Need-read-rows-requires (
 group-read-rows-requires t c κs = search asked
 
 group-enum-known-progress : (t : ℕ) → group-lts.Need-enum-known-progress (
-  fewer-reads.Asked,
-  fewer-reads.Learnt,
+  lower-u32-reads.Asked,
+  lower-u32-reads.Learnt,
   read-rows-reads.Asked,
   read-rows-reads.Learnt,
   class-word-below t,
@@ -184,8 +184,8 @@ group-enum-known-progress : (t : ℕ) → group-lts.Need-enum-known-progress (
 group-enum-known-progress t c = search needs
 
 group-sub-class-word : (t : ℕ) → group-lts.Need-sub-class-word (
-  fewer-reads.Asked,
-  fewer-reads.Learnt,
+  lower-u32-reads.Asked,
+  lower-u32-reads.Learnt,
   read-rows-reads.Asked,
   read-rows-reads.Learnt,
   class-word-below t,
@@ -194,8 +194,8 @@ group-sub-class-word : (t : ℕ) → group-lts.Need-sub-class-word (
 group-sub-class-word t c = search needs
 
 group-class-word-requires : (t : ℕ) → group-lts.Need-class-word-requires (
-  fewer-reads.Asked,
-  fewer-reads.Learnt,
+  lower-u32-reads.Asked,
+  lower-u32-reads.Learnt,
   read-rows-reads.Asked,
   read-rows-reads.Learnt,
   class-word-below t,
@@ -211,8 +211,8 @@ group-class-word-requires t c κs =
     (omega (arith, s .0), (read-room x q, p .1))
 
 group-enum-known-progress-2 : (t : ℕ) → group-lts.Need-enum-known-progress-2 (
-  fewer-reads.Asked,
-  fewer-reads.Learnt,
+  lower-u32-reads.Asked,
+  lower-u32-reads.Learnt,
   read-rows-reads.Asked,
   read-rows-reads.Learnt,
   class-word-below t,
@@ -221,8 +221,8 @@ group-enum-known-progress-2 : (t : ℕ) → group-lts.Need-enum-known-progress-2
 group-enum-known-progress-2 t c = search needs
 
 group-enum-told : (t : ℕ) → group-lts.Need-enum-told (
-  fewer-reads.Asked,
-  fewer-reads.Learnt,
+  lower-u32-reads.Asked,
+  lower-u32-reads.Learnt,
   read-rows-reads.Asked,
   read-rows-reads.Learnt,
   class-word-below t,
@@ -231,8 +231,8 @@ group-enum-told : (t : ℕ) → group-lts.Need-enum-told (
 group-enum-told t c = search needs
 
 group-same-length : (t : ℕ) → group-lts.Need-same-length (
-  fewer-reads.Asked,
-  fewer-reads.Learnt,
+  lower-u32-reads.Asked,
+  lower-u32-reads.Learnt,
   read-rows-reads.Asked,
   read-rows-reads.Learnt,
   class-word-below t,
@@ -241,8 +241,8 @@ group-same-length : (t : ℕ) → group-lts.Need-same-length (
 group-same-length t c = search needs
 
 group-returns : (t : ℕ) → group-lts.Need-returns (
-  fewer-reads.Asked,
-  fewer-reads.Learnt,
+  lower-u32-reads.Asked,
+  lower-u32-reads.Learnt,
   read-rows-reads.Asked,
   read-rows-reads.Learnt,
   class-word-below t,
@@ -255,8 +255,8 @@ group-returns t c =
     group-then (p .1) _ _ _ _ _ (p .0) _ (search needs) _ x q (c .before .before .class-word .ensures)
 
 group-same-length-2 : (t : ℕ) → group-lts.Need-same-length-2 (
-  fewer-reads.Asked,
-  fewer-reads.Learnt,
+  lower-u32-reads.Asked,
+  lower-u32-reads.Learnt,
   read-rows-reads.Asked,
   read-rows-reads.Learnt,
   class-word-below t,
@@ -265,8 +265,8 @@ group-same-length-2 : (t : ℕ) → group-lts.Need-same-length-2 (
 group-same-length-2 t c = search needs
 
 group-returns-2 : (t : ℕ) → group-lts.Need-returns-2 (
-  fewer-reads.Asked,
-  fewer-reads.Learnt,
+  lower-u32-reads.Asked,
+  lower-u32-reads.Learnt,
   read-rows-reads.Asked,
   read-rows-reads.Learnt,
   class-word-below t,
@@ -275,8 +275,8 @@ group-returns-2 : (t : ℕ) → group-lts.Need-returns-2 (
 group-returns-2 t c = search asked
 
 group-same-length-3 : (t : ℕ) → group-lts.Need-same-length-3 (
-  fewer-reads.Asked,
-  fewer-reads.Learnt,
+  lower-u32-reads.Asked,
+  lower-u32-reads.Learnt,
   read-rows-reads.Asked,
   read-rows-reads.Learnt,
   class-word-below t,
@@ -285,8 +285,8 @@ group-same-length-3 : (t : ℕ) → group-lts.Need-same-length-3 (
 group-same-length-3 t c = search needs
 
 group-returns-3 : (t : ℕ) → group-lts.Need-returns-3 (
-  fewer-reads.Asked,
-  fewer-reads.Learnt,
+  lower-u32-reads.Asked,
+  lower-u32-reads.Learnt,
   read-rows-reads.Asked,
   read-rows-reads.Learnt,
   class-word-below t,
@@ -316,8 +316,8 @@ pub +class-word+group-spec : {M : Type 1} → statement M
     (class-word-same-length-3 t)
     (class-word-returns-4 t))
     λ t. group-lts.spec (
-      fewer-reads.Asked,
-      fewer-reads.Learnt,
+      lower-u32-reads.Asked,
+      lower-u32-reads.Learnt,
       read-rows-reads.Asked,
       read-rows-reads.Learnt,
       class-word-below t,
@@ -325,7 +325,7 @@ pub +class-word+group-spec : {M : Type 1} → statement M
     )
     (group-at t)
     group.Post
-    (group-fewer-requires t)
+    (group-lower-u32-requires t)
     (group-sub-read-rows t)
     (group-read-rows-requires t)
     (group-enum-known-progress t)
