@@ -1,5 +1,5 @@
 -- A floor's row in the table of floors: 277 numbers. docs/TABLES.md draws it.
-use Prim.Native.Nat.{ℕ, _+_}
+use Prim.Native.Nat.{ℕ, _+_, _*_}
 use mathlib.Core.List.{List, [], _∷_, _++_}
 use lib.ListN.{length}
 use Rattle.reading.specs.Pad.{pad}
@@ -8,10 +8,13 @@ use Rattle.floor_class.specs.Layout.{classRow}
 use Rattle.floor_x_list.specs.Content.{xListRoom, xList}
 use Rattle.floor.specs.Content.{Floor}
 
--- the width of a row; where its partitions, its classes, its X list begin, and in the list 2 ^ rangebits and the X values that are read; how many places
+-- the width of a row; the fixed need of the table, of 64 rows; where its partitions, its classes, its X list begin, and in the list 2 ^ rangebits and the X values that are read; how many places
 -- partitions (31) and classes (16 of 11) have
 abbrev pub floorWidth : ℕ
 floorWidth = 277
+
+abbrev pub floorsNeed : ℕ
+floorsNeed = 64 * floorWidth
 
 abbrev pub partitionsPlace : ℕ
 partitionsPlace = 5

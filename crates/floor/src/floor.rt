@@ -21,7 +21,7 @@ ghost use Rattle.reading.specs.Reader.{many, into, into1};
 ghost use Rattle.reading.specs.inner.Table.{table, putRow};
 ghost use Rattle.bits.specs.inner.Cursors.{position, outcome, Wrote};
 ghost use Rattle.floor_x_list.specs.Reading.{ends};
-ghost use Rattle.floor.specs.Layout.{floorRow, partitionsRoom, classesRoom, floorWidth};
+ghost use Rattle.floor.specs.Layout.{floorRow, partitionsRoom, classesRoom, floorWidth, floorsNeed};
 ghost use Rattle.floor.specs.Reading.{floorType, floor1, floor, floorFrom};
 ghost use Rattle.floor.specs.inner.Pieces.{classesTo, valuesTo, rowOf, Partitions};
 
@@ -95,7 +95,7 @@ pub fn write_row(
     classes: &[u16],
     list: &[u16],
 )
-    requires { ⌜ (at ≤ 17728) × (length (now head) ≡ 5) × (length (now partitions) ≡ partitionsRoom) × (length (now classes) ≡ classesRoom) ⌝ }
+    requires { ⌜ (at ≤ floorsNeed) × (length (now head) ≡ 5) × (length (now partitions) ≡ partitionsRoom) × (length (now classes) ≡ classesRoom) ⌝ }
     ensures { λ _. ⌜ now (floors .exit) ≡ sets (now (floors .entry)) at
         ((now (head .entry) ++ now (partitions .entry)) ++ (now (classes .entry) ++ now (list .entry))) ⌝ }
 {
@@ -115,7 +115,7 @@ pub fn read_after_classes(
     floors: &mut [u16],
     at: usize,
 ) -> Step
-    requires { ⌜ (count ≤ 31) × (named ≤ 16) × (at ≤ 17728) × (length (now partitions) ≡ partitionsRoom) × (length (now classes) ≡ classesRoom) ⌝ }
+    requires { ⌜ (count ≤ 31) × (named ≤ 16) × (at ≤ floorsNeed) × (length (now partitions) ≡ partitionsRoom) × (length (now classes) ≡ classesRoom) ⌝ }
     ensures { λ r. ⌜ Wrote (into1 (putRow (rowOf count named (now (partitions .entry)) (now (classes .entry))))
         (ends (position place) (valuesTo (now (classes .entry)) (now (partitions .entry)) count) (now (packet .entry)) (position from))
         (table (now (floors .entry)) at)) r (table (now (floors .exit)) (at + floorWidth)) ⌝ }
@@ -151,7 +151,7 @@ pub fn read_after_partitions(
     floors: &mut [u16],
     at: usize,
 ) -> Step
-    requires { ⌜ («book_count» ≤ 256) × (at ≤ 17728) × Partitions count (now partitions) ⌝ }
+    requires { ⌜ («book_count» ≤ 256) × (at ≤ floorsNeed) × Partitions count (now partitions) ⌝ }
     ensures { λ r. ⌜ Wrote (into1 (putRow floorRow)
         (floorFrom «book_count» (position place) (take count (now (partitions .entry))) (now (packet .entry)) (position from))
         (table (now (floors .entry)) at)) r (table (now (floors .exit)) (at + floorWidth)) ⌝ }
@@ -183,7 +183,7 @@ pub fn read_floor1(
     floors: &mut [u16],
     at: usize,
 ) -> Step
-    requires { ⌜ («book_count» ≤ 256) × (at ≤ 17728) ⌝ }
+    requires { ⌜ («book_count» ≤ 256) × (at ≤ floorsNeed) ⌝ }
     ensures { λ r. ⌜ Wrote (into1 (putRow floorRow) (floor1 «book_count» (position place) (now (packet .entry)) (position from))
         (table (now (floors .entry)) at)) r (table (now (floors .exit)) (at + floorWidth)) ⌝ }
 {
@@ -217,7 +217,7 @@ pub fn read_floor(
     floors: &mut [u16],
     at: usize,
 ) -> Step
-    requires { ⌜ («book_count» ≤ 256) × (at ≤ 17728) ⌝ }
+    requires { ⌜ («book_count» ≤ 256) × (at ≤ floorsNeed) ⌝ }
     ensures { λ r. ⌜ Wrote (into1 (putRow floorRow) (floor «book_count» (now (packet .entry)) (position from)) (table (now (floors .entry)) at))
         r (table (now (floors .exit)) (at + floorWidth)) ⌝ }
 {

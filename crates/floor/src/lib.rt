@@ -1,8 +1,10 @@
 // Floors in a setup packet: what one is, its rules, its row in the tables, reading it.
 pub mod floor;
 
-// The width of a floor's row in the table, where its parts begin, and how many places partitions and classes have (specs/Layout.antt).
+// The width of a floor's row in the table, the table's fixed need, where its parts begin, and how many places partitions and classes have (specs/Layout.antt).
 pub const FLOOR_WIDTH: usize = 277;
+
+pub const FLOORS_NEED: usize = 64 * FLOOR_WIDTH;
 
 pub const PARTITIONS_PLACE: usize = 5;
 

@@ -4,6 +4,7 @@ use crate::below::number;
 use crate::classes::are_classes;
 use floor::CLASSES_PLACE;
 use floor::FLOOR_WIDTH;
+use floor::FLOORS_NEED;
 use floor::PARTITIONS_PLACE;
 use floor::RANGE_PLACE;
 use floor::X_LIST_PLACE;
@@ -19,7 +20,7 @@ ghost use Prim.Native.Nat.{_+_, _≤_};
 ghost use lib.ListN.{length, getD};
 ghost use Rattle.floor_tables.specs.inner.Rules.{PartitionRules, NamedRules, CountRules, HeadRules, ListRules, FloorRules, FloorsRules};
 ghost use Rattle.floor_tables.specs.inner.Recognised.{FloorsRecognised};
-ghost use Rattle.floor.specs.Layout.{floorWidth};
+ghost use Rattle.floor.specs.Layout.{floorWidth, floorsNeed};
 
 // Whether the partitions of the floor at place `at` stand.
 fn are_partitions(floors: &[u16], at: usize) -> bool
@@ -148,7 +149,7 @@ fn is_floor(floors: &[u16], at: usize, book_count: usize) -> bool
 
 // Whether the rows of `count` floors lie from the front on.
 fn are_rows(floors: &[u16], count: usize, book_count: usize) -> bool
-    requires { ⌜ (count ≤ 64) × («book_count» ≤ 256) × (17728 ≤ length (now floors)) ⌝ }
+    requires { ⌜ (count ≤ 64) × («book_count» ≤ 256) × (floorsNeed ≤ length (now floors)) ⌝ }
     ensures { λ r. ⌜ (r ≡ true) ↔ FloorsRules «book_count» (now (floors .entry)) count ⌝ }
 {
     let mut f: usize = 0;
@@ -166,7 +167,7 @@ pub fn are_floors(floors: &[u16], count: usize, book_count: u32) -> bool
     requires { ⌜ (count ≤ 64) × («book_count» ≤ 256) ⌝ }
     ensures { λ r. ⌜ (r ≡ true) ↔ FloorsRecognised «book_count» count (now (floors .entry)) ⌝ }
 {
-    if floors.len() < 17728 {
+    if floors.len() < FLOORS_NEED {
         return false;
     }
     if !are_rows(floors, count, wide_u32(book_count)) {

@@ -1,7 +1,7 @@
 -- A mapping's row in the table of mappings: 804 numbers of 8 bits. docs/TABLES.md draws it.
 -- The number of coupling steps, 0 to 256, takes two places. A multiplex number stands plus one, so that 0 is none and one content has one
 -- row; the channels themselves are not in it.
-use Prim.Native.Nat.{ℕ, suc, _/_, _%_}
+use Prim.Native.Nat.{ℕ, suc, _*_, _/_, _%_}
 use mathlib.Core.List.{List, [], _∷_, _++_, map}
 use lib.ListN.{length}
 use lib.Seq.{sets}
@@ -9,9 +9,12 @@ use Rattle.reading.specs.Pad.{pad}
 use Rattle.reading.specs.Lists.{rows}
 use Rattle.mapping.specs.Content.{Coupling, Submap, Mapping}
 
--- the width of a row; where its coupling steps, its multiplex and its submaps begin; how many places each of these has
+-- the width of a row; the fixed need of the table, of 64 rows; where its coupling steps, its multiplex and its submaps begin; how many places each of these has
 abbrev pub mappingWidth : ℕ
 mappingWidth = 804
+
+abbrev pub mappingsNeed : ℕ
+mappingsNeed = 64 * mappingWidth
 
 abbrev pub couplingsPlace : ℕ
 couplingsPlace = 4

@@ -1,8 +1,10 @@
 // Mappings in a setup packet: what one is, its rules, its row in the tables, its counts (003, section 4.2.4, "Mappings"; 01, refusals 9 and 11).
 pub mod counts; // how many submaps and coupling steps
 
-// The width of a mapping's row in the table, and where its parts begin (specs/Layout.antt).
+// The width of a mapping's row in the table, the table's fixed need, and where its parts begin (specs/Layout.antt).
 pub const MAPPING_WIDTH: usize = 804;
+
+pub const MAPPINGS_NEED: usize = 64 * MAPPING_WIDTH;
 
 pub const COUPLINGS_PLACE: usize = 4;
 

@@ -16,7 +16,7 @@ ghost use Rattle.reading.specs.Reader.{many, mapped, into, into1};
 ghost use Rattle.reading.specs.inner.Table.{table, putRow};
 ghost use Rattle.bits.specs.inner.Cursors.{position, Wrote};
 ghost use Rattle.mapping.specs.Reading.{parts, mapping};
-ghost use Rattle.mapping.specs.Layout.{mappingRow, partsInto, mappingWidth};
+ghost use Rattle.mapping.specs.Layout.{mappingRow, partsInto, mappingWidth, mappingsNeed};
 
 // What follows a mapping's counts, into a row in which those stand.
 fn read_parts(
@@ -85,7 +85,7 @@ fn read_row(
     mappings: &mut [u8],
     at: usize,
 ) -> Step
-    requires { ⌜ (1 ≤ known .channels) × (known .channels ≤ 255) × (submaps ≤ 16) × (steps ≤ 256) × (at ≤ 51456) ⌝ }
+    requires { ⌜ (1 ≤ known .channels) × (known .channels ≤ 255) × (submaps ≤ 16) × (steps ≤ 256) × (at ≤ mappingsNeed) ⌝ }
     ensures { λ r. ⌜ Wrote (into1 (putRow mappingRow) (parts known submaps steps (now (packet .entry)) (position from)) (table (now (mappings .entry)) at))
         r (table (now (mappings .exit)) (at + mappingWidth)) ⌝ }
 {
@@ -107,7 +107,7 @@ pub fn read_mapping(
     mappings: &mut [u8],
     at: usize,
 ) -> Step
-    requires { ⌜ (1 ≤ known .channels) × (known .channels ≤ 255) × (at ≤ 51456) ⌝ }
+    requires { ⌜ (1 ≤ known .channels) × (known .channels ≤ 255) × (at ≤ mappingsNeed) ⌝ }
     ensures { λ r. ⌜ Wrote (into1 (putRow mappingRow) (mapping known (now (packet .entry)) (position from)) (table (now (mappings .entry)) at))
         r (table (now (mappings .exit)) (at + mappingWidth)) ⌝ }
 {

@@ -13,11 +13,13 @@ ghost use Rattle.reading.specs.Reader.{many, into, into1};
 ghost use Rattle.reading.specs.inner.Table.{table, putRow};
 ghost use Rattle.bits.specs.inner.Cursors.{position, stepped, Wrote};
 ghost use Rattle.mode.specs.Reading.{mode};
-ghost use Rattle.mode.specs.Layout.{modeWidth, modeRow};
+ghost use Rattle.mode.specs.Layout.{modeWidth, modesNeed, modeRow};
 ghost use Rattle.mode.specs.inner.Types.{types};
 
-// The width of a mode's row in the table (specs/Layout.antt).
+// The width of a mode's row in the table, and the table's fixed need (specs/Layout.antt).
 pub const MODE_WIDTH: usize = 2;
+
+pub const MODES_NEED: usize = 64 * MODE_WIDTH;
 
 // The window type and the transform type: each has to be 0 (01, refusal 9).
 fn read_types(packet: &[u8], from: Cursor) -> Step
@@ -56,7 +58,7 @@ pub fn read_mode(
     modes: &mut [u8],
     at: usize,
 ) -> Step
-    requires { ⌜ at ≤ 128 ⌝ }
+    requires { ⌜ at ≤ modesNeed ⌝ }
     ensures { λ r. ⌜ Wrote (into1 (putRow modeRow) (mode «mapping_count» (now (packet .entry)) (position from)) (table (now (modes .entry)) at))
         r (table (now (modes .exit)) (at + modeWidth)) ⌝ }
 {

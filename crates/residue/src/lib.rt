@@ -3,7 +3,11 @@
 pub mod head; // the fields before the plan
 pub mod fits; // rule 13
 
-// The width of a residue's row in the table of residues, and of its plan in the table of plans (specs/Layout.antt).
+// The width of a residue's row in the table of residues, and of its plan in the table of plans; the fixed need of each table (specs/Layout.antt).
 pub const HEAD_WIDTH: usize = 6;
 
 pub const PLAN_WIDTH: usize = 512;
+
+pub const RESIDUES_NEED: usize = 64 * HEAD_WIDTH;
+
+pub const PLANS_NEED: usize = 64 * PLAN_WIDTH;

@@ -9,6 +9,7 @@ ghost use lib.Seq.{sets};
 ghost use Rattle.reading.specs.Lists.{rows};
 ghost use Rattle.bits.specs.inner.Cursors.{position, outcome, Wrote};
 ghost use Rattle.residue.specs.Reading.{planBook, planRow};
+ghost use Rattle.residue.specs.Layout.{plansNeed};
 ghost use Rattle.residue.specs.inner.Plans.{Grid};
 
 // A class's row of the plan, and where reading goes on. On a refusal the row means nothing.
@@ -67,7 +68,7 @@ pub fn read_row(packet: &[u8], from: Cursor, book_count: u32, cascade: u32) -> R
 
 // The plan goes to the 512 places from `at` on, class after class.
 pub fn write_plan(plans: &mut [u16], at: usize, plan: [[u16; 8]; 64])
-    requires { ⌜ (at ≤ 32768) × Grid plan ⌝ }
+    requires { ⌜ (at ≤ plansNeed) × Grid plan ⌝ }
     ensures { λ _. ⌜ now (plans .exit) ≡ sets (now (plans .entry)) at (rows (λ row. row) plan) ⌝ }
 {
     let mut i: usize = 0;

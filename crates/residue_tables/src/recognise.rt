@@ -3,6 +3,8 @@ use reading::widths::u32_from_u16;
 use reading::widths::wide_u32;
 use residue::HEAD_WIDTH;
 use residue::PLAN_WIDTH;
+use residue::PLANS_NEED;
+use residue::RESIDUES_NEED;
 use residue::head::Head;
 ghost use mathlib.Core.Path.{_≡_};
 ghost use mathlib.Core.Bool.{true};
@@ -14,7 +16,7 @@ ghost use Rattle.reading.specs.Lists.{all};
 ghost use Rattle.residue.specs.inner.FromTable.{booksOf};
 ghost use Rattle.residue.specs.inner.Heads.{headOf};
 ghost use Rattle.residue_tables.specs.inner.Recognised.{headTest, residueTest, ResiduesRecognised, OneContent};
-ghost use Rattle.residue.specs.Layout.{headWidth, planWidth};
+ghost use Rattle.residue.specs.Layout.{headWidth, planWidth, plansNeed};
 
 // The places from `from` up to `to` name books that are set up.
 fn places_set_up(places: &[u16], from: usize, to: usize, book_count: u32) -> bool
@@ -68,7 +70,7 @@ fn is_head(head: Head, book_count: u32, books: &[u32]) -> bool
 
 // Residue `index` of the tables meets every rule.
 fn is_residue(residues: &[u32], plans: &[u16], index: u32, book_count: u32, books: &[u32]) -> bool
-    requires { ⌜ (index ≤ 63) × (32768 ≤ length (now plans)) ⌝ }
+    requires { ⌜ (index ≤ 63) × (plansNeed ≤ length (now plans)) ⌝ }
     ensures { λ r. ⌜ r ≡ residueTest (booksOf «book_count» (now (books .entry))) (drop (headWidth * index) (now (residues .entry)))
         (drop (planWidth * index) (now (plans .entry))) ⌝ }
 {
@@ -94,10 +96,10 @@ pub fn are_residues(residues: &[u32], plans: &[u16], n: u32, book_count: u32, bo
     ensures { λ r. ⌜ (r ≡ true) ↔ ResiduesRecognised (booksOf «book_count» (now (books .entry))) n (now (residues .entry)) (now (plans .entry)) ⌝ }
     ensures { λ _. ⌜ OneContent (booksOf «book_count» (now (books .entry))) n (now (residues .entry)) (now (plans .entry)) ⌝ }
 {
-    if residues.len() < 384 {
+    if residues.len() < RESIDUES_NEED {
         return false;
     }
-    if plans.len() < 32768 {
+    if plans.len() < PLANS_NEED {
         return false;
     }
     let mut i: u32 = 0;

@@ -9,10 +9,10 @@ use Rattle.reading.specs.Pad.{pad}
 use Rattle.limits.specs.declared.Limits.{Limits}
 use Rattle.book.specs.Layout.{booksNeed}
 use Rattle.book_reading.specs.Rows.{bookRows, allLengths, allCodewords, allMultiplicands}
-use Rattle.floor.specs.Layout.{floorRow}
-use Rattle.residue.specs.Layout.{headRow, planTable}
-use Rattle.mapping.specs.Layout.{mappingRow}
-use Rattle.mode.specs.Layout.{modeRow}
+use Rattle.floor.specs.Layout.{floorsNeed, floorRow}
+use Rattle.residue.specs.Layout.{residuesNeed, plansNeed, headRow, planTable}
+use Rattle.mapping.specs.Layout.{mappingsNeed, mappingRow}
+use Rattle.mode.specs.Layout.{modesNeed, modeRow}
 use Rattle.setup.specs.Content.{Setup}
 
 pub record Tables : Type 0 where
@@ -52,11 +52,11 @@ hasRoom limits t =
     && (leb (limits .entries) (length (t .lengths))
     && (leb (limits .entries) (length (t .codewords))
     && (leb (limits .multiplicands) (length (t .multiplicands))
-    && (leb 17728 (length (t .floors))
-    && (leb 384 (length (t .residues))
-    && (leb 32768 (length (t .plans))
-    && (leb 51456 (length (t .mappings))
-    && leb 128 (length (t .modes))))))))))
+    && (leb floorsNeed (length (t .floors))
+    && (leb residuesNeed (length (t .residues))
+    && (leb plansNeed (length (t .plans))
+    && (leb mappingsNeed (length (t .mappings))
+    && leb modesNeed (length (t .modes))))))))))
 
 -- the lent buffers with a content written out: its lists, and zeros behind them, whatever was lent
 unfoldable pub writtenOut : Setup → Tables → Tables

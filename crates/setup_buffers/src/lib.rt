@@ -42,19 +42,19 @@ pub fn have_room(
     if multiplicands.len() < wide_u32(limits.multiplicands) {
         return false;
     }
-    if floors.len() < 17728 {
+    if floors.len() < floor::FLOORS_NEED {
         return false;
     }
-    if residues.len() < 384 {
+    if residues.len() < residue::RESIDUES_NEED {
         return false;
     }
-    if plans.len() < 32768 {
+    if plans.len() < residue::PLANS_NEED {
         return false;
     }
-    if mappings.len() < 51456 {
+    if mappings.len() < mapping::MAPPINGS_NEED {
         return false;
     }
-    if modes.len() < 128 {
+    if modes.len() < mode::MODES_NEED {
         return false;
     }
     true

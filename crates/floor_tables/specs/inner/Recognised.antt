@@ -7,12 +7,12 @@ use Rattle.reading.specs.Lists.{rows}
 use Rattle.reading.specs.Pad.{pad}
 use Rattle.reading.specs.Encoding.{Each}
 use Rattle.floor.specs.Content.{Floor}
-use Rattle.floor.specs.Layout.{floorRow}
+use Rattle.floor.specs.Layout.{floorsNeed, floorRow}
 use Rattle.floor.specs.inner.Valid.{ValidFloor}
 
 -- `count` floors, each right for `books` codebooks, fill the table from its front, and zeros follow. 17,728 is the fixed need: 64 rows of 277
 pub record FloorsRecognised (books count : ℕ) (t : List ℕ) : Type 0 where
-  pub room : 17728 ≤ length t
+  pub room : floorsNeed ≤ length t
   pub content : List Floor
   pub counted : length content ≡ count
   pub valid : Each (ValidFloor books) content

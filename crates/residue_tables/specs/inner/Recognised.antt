@@ -10,7 +10,7 @@ use Rattle.reading.specs.Lists.{all, rows}
 use Rattle.reading.specs.Encoding.{Each}
 use Rattle.residue.specs.Content.{Residue}
 use Rattle.residue.specs.Reading.{Books, Head, placeFits}
-use Rattle.residue.specs.Layout.{headWidth, planWidth, headRow, planTable}
+use Rattle.residue.specs.Layout.{headWidth, planWidth, residuesNeed, plansNeed, headRow, planTable}
 use Rattle.residue.specs.inner.Valid.{ValidResidue}
 use Rattle.residue.specs.inner.Plans.{headFits}
 use Rattle.residue.specs.inner.Decode.{headAt, decodeResidues}
@@ -24,8 +24,8 @@ pub record Holds (books : Books) (n : ℕ) (residues plans : List ℕ) (content 
 
 -- with room for 64 residues
 pub record ResiduesRecognised (books : Books) (n : ℕ) (residues plans : List ℕ) : Type 0 where
-  pub room : 384 ≤ length residues
-  pub room-plans : 32768 ≤ length plans
+  pub room : residuesNeed ≤ length residues
+  pub room-plans : plansNeed ≤ length plans
   pub content : List Residue
   pub holds : Holds books n residues plans content
 
