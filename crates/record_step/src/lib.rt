@@ -1,12 +1,12 @@
 // THE TOOL'S STEP, by one record: identity, tables and tally from record to record, and what each came to (01, the tool).
+pub mod identification_step; // an identification record
+pub mod outcomes; // what is kept after a record, by value
+
 use audio::Tally;
 use identification::Identity;
 use records::Answer;
 ghost use mathlib.Core.Path.{_≡_};
-ghost use Rattle.setup.specs.Handed.{handed, leftIn};
-ghost use Rattle.audio_judge.specs.inner.Ready.{lentTables};
-ghost use Rattle.record_step.specs.Step.{step as recordStep, noStream};
-ghost use Rattle.record_step.specs.inner.Kept.{streamOf, KeptTables, KeptOutputs};
+ghost use Rattle.record_step.specs.inner.Kept.{StartsWith};
 
 // What is kept from record to record beside the lent tables and outputs.
 pub struct Kept {
