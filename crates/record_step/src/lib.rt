@@ -1,6 +1,7 @@
 // THE TOOL'S STEP, by one record: identity, tables and tally from record to record, and what each came to (01, the tool).
 pub mod identification_step; // an identification record
 pub mod outcomes; // what is kept after a record, by value
+pub mod setup_step; // a setup record
 
 use audio::Tally;
 use identification::Identity;

@@ -4,6 +4,7 @@ use mathlib.Core.Bool.{true, false, cond}
 use mathlib.Core.List.{List}
 use mathlib.Core.Option.{Option, none, some}
 use mathlib.Core.Path.{_≡_}
+use lib.Dec.{eqb}
 use lib.ListN.{length}
 use Rattle.limits.specs.Standard.{standard}
 use Rattle.identification.specs.declared.Identity.{Identity}
@@ -18,7 +19,7 @@ use Rattle.records.specs.declared.Answer.{Answer}
 use Rattle.records.specs.declared.Answer.the-variants.{Identified, SetUp, Heard, Refused}
 use Rattle.record_step.specs.declared.Kept.{Kept}
 use Rattle.record_step.specs.declared.Stepped.{Stepped}
-use Rattle.record_step.specs.Step.{Stream, noTally, noStream, identified}
+use Rattle.record_step.specs.Step.{Stream, noTally, noStream, identified, setupStep, audioStep}
 
 -- the stream that it stands for
 unfoldable pub streamOf : Kept → Tables → Stream
@@ -103,6 +104,10 @@ setupRefused k number =
       answer = Refused number;
     }
 
+-- by the setup call's number, of which 0 is acceptance
+abbrev pub setupNumbered : Kept → ℕ → ℕ → ℕ → Stepped
+setupNumbered k number books modes = cond (eqb number 0) (setupAccepted k books modes) (setupRefused k number)
+
 -- an audio packet brings the tally up to date, and its curves and codewords stand in the outputs
 abbrev pub packetRead : Kept → Tally → ℕ → ℕ → Answer → Stepped
 packetRead k t curves words a =
@@ -128,4 +133,10 @@ pub record SameEnds (k k′ : Kept) : Type 0 where
 pub record IdentificationStep (k : Kept) (s : List ℕ) (r : Stepped) : Type 0 where
   pub stream : (t : Tables) → (streamOf (r .kept) t, r .answer) ≡ identified (streamOf k t) (identification (standard .channels) s)
   pub tables : (t : Tables) → KeptTables k t → KeptTables (r .kept) t
+  pub ends : SameEnds k (r .kept)
+
+-- A SETUP RECORD: the tables were t, and are u
+pub record SetupStep (k : Kept) (s : List ℕ) (t : Tables) (r : Stepped) (u : Tables) : Type 0 where
+  pub stream : (streamOf (r .kept) u, r .answer) ≡ setupStep (streamOf k t) (streamOf k t .identity) s
+  pub tables : KeptTables (r .kept) u
   pub ends : SameEnds k (r .kept)
