@@ -1,3 +1,5 @@
 pub mod StartLaws
 pub mod IdentificationLaws
 pub mod SetupLaws
+pub mod PacketLaws
+pub mod AudioLaws

@@ -1,5 +1,5 @@
 -- What the program keeps of a stream: numbers by value, and the tables and outputs that it was lent.
-use Prim.Native.Nat.{ℕ}
+use Prim.Native.Nat.{ℕ, _*_, _/_}
 use mathlib.Core.Bool.{true, false, cond}
 use mathlib.Core.List.{List}
 use mathlib.Core.Option.{Option, none, some}
@@ -14,6 +14,7 @@ use Rattle.setup.specs.Layout.{Tables, hasRoom}
 use Rattle.setup.specs.SoundTest.{soundTest}
 use Rattle.setup.specs.inner.Decode.{decodeSetup}
 use Rattle.audio.specs.declared.Tally.{Tally}
+use Rattle.audio.specs.declared.AudioAnswer.{AudioAnswer}
 use Rattle.audio_settle.specs.inner.Judged.{ZeroFrom}
 use Rattle.records.specs.declared.Answer.{Answer}
 use Rattle.records.specs.declared.Answer.the-variants.{Identified, SetUp, Heard, Refused}
@@ -124,6 +125,13 @@ packetRead k t curves words a =
       answer = a;
     }
 
+-- by the audio call's answer, in which the refusal 0 is acceptance: channels times n/2 curve bytes, and so many codewords
+abbrev pub packetAnswered : Kept → Tally → AudioAnswer → Stepped
+packetAnswered k t a =
+    cond (eqb (a .refusal) 0)
+    (packetRead k t (k .identity .channels * (a .blocksize / 2)) (a .codewords) (Heard (a .blocksize) (a .samples) (a .codewords)))
+    (packetRead k t 0 0 (Refused (a .refusal)))
+
 -- the outputs were not touched
 pub record SameEnds (k k′ : Kept) : Type 0 where
   pub curves : k′ .«curves_end» ≡ k .«curves_end»
@@ -140,3 +148,9 @@ pub record SetupStep (k : Kept) (s : List ℕ) (t : Tables) (r : Stepped) (u : T
   pub stream : (streamOf (r .kept) u, r .answer) ≡ setupStep (streamOf k t) (streamOf k t .identity) s
   pub tables : KeptTables (r .kept) u
   pub ends : SameEnds k (r .kept)
+
+-- AN AUDIO RECORD touches the outputs alone
+pub record AudioStep (k : Kept) (s : List ℕ) (t : Tables) (r : Stepped) (curves words : List ℕ) : Type 0 where
+  pub stream : (streamOf (r .kept) t, r .answer) ≡ audioStep (streamOf k t) (streamOf k t .identity) (streamOf k t .setup) s
+  pub tables : KeptTables (r .kept) t
+  pub outputs : KeptOutputs (r .kept) curves words
