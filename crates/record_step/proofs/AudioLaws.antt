@@ -39,8 +39,8 @@ zero-behind : (n place : ℕ) (l : List ℕ) → length l ≤ place → ZeroFrom
 zero-behind n place l few =
     record {
       zero = λ j h.
-      ⊎-elim (λ (a : j < n). pad-get n l j a ∙ List·getD-eq-default l 0 (omega arith))
-      (λ (a : n ≤ j). let long = length-pad n l in List·getD-eq-default (pad n l) 0 (omega arith)) (lt-or-le j n);
+          ⊎-elim (λ (a : j < n). pad-get n l j a ∙ List·getD-eq-default l 0 (omega arith))
+          (λ (a : n ≤ j). let long = length-pad n l in List·getD-eq-default (pad n l) 0 (omega arith)) (lt-or-le j n);
     }
 
 zero-all : (n : ℕ) → ZeroFrom 0 (replicate n 0)

@@ -3,3 +3,4 @@ pub mod IdentificationLaws
 pub mod SetupLaws
 pub mod PacketLaws
 pub mod AudioLaws
+pub mod StepLaws
