@@ -1,8 +1,7 @@
 // AN AUDIO RECORD: a good packet brings the tally up to date; without an identity and tables it is 18 (01, the tool).
 use crate::Kept;
 use crate::Stepped;
-use crate::outcomes::packet_read;
-use crate::outcomes::refused;
+use crate::unchanged::refused;
 use audio::AudioAnswer;
 use audio::Tally;
 use audio_call::read_packet;
@@ -12,7 +11,32 @@ ghost use mathlib.Core.Path.{_≡_};
 ghost use Prim.Native.Nat.{_≤_};
 ghost use Rattle.setup.specs.Handed.{handed};
 ghost use Rattle.audio_judge.specs.inner.Ready.{lentTables};
-ghost use Rattle.record_step.specs.inner.Kept.{KeptTables, KeptOutputs, packetAnswered, AudioStep};
+ghost use Rattle.record_step.specs.inner.Kept.{KeptTables, KeptOutputs, packetRead, packetAnswered, AudioStep};
+
+// An audio packet brings the tally up to date; its curves and codewords stand in the outputs.
+fn packet_read(
+    kept: Kept,
+    tally: Tally,
+    curves_end: usize,
+    words_end: usize,
+    answer: Answer,
+) -> Stepped
+    ensures { λ r. ⌜ r ≡ packetRead kept tally «curves_end» «words_end» answer ⌝ }
+{
+    let identity = kept.identity;
+    let after = Kept {
+        has_identity: kept.has_identity,
+        identity,
+        has_tables: kept.has_tables,
+        tally,
+        curves_end,
+        words_end,
+    };
+    Stepped {
+        kept: after,
+        answer,
+    }
+}
 
 // What an audio call's answer comes to. A refusal left both outputs all zero; an accepted packet its curves and codewords at their fronts.
 fn answered(kept: Kept, tally: Tally, answer: AudioAnswer) -> Stepped

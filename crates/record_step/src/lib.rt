@@ -1,8 +1,8 @@
 // THE TOOL'S STEP, by one record: identity, tables and tally from record to record, and what each came to (01, the tool).
 pub mod audio_step; // an audio record
 pub mod identification_step; // an identification record
-pub mod outcomes; // what is kept after a record, by value
 pub mod setup_step; // a setup record
+pub mod unchanged; // a record that changes nothing
 
 use crate::audio_step::after_audio;
 use crate::identification_step::after_identification;
