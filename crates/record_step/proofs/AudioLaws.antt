@@ -3,16 +3,16 @@ use Prim.Native.Nat.{ℕ, _*_, _/_, _≤_, _<_}
 use native.Mathlib.Omega.{arith}
 use borrow.Author.Tests.{eq-eqb, ne-eqb, not-true, not-false}
 use mathlib.Core.Bool.{Bool, true, false, not, cond}
-use mathlib.Core.List.{List, map}
+use mathlib.Core.List.{List}
 use mathlib.Core.Logic.{⊎-elim}
 use mathlib.Core.Option.{Option, none, some}
-use mathlib.Core.Path.{_≡_, refl, sym, ap, subst, _∙_}
+use mathlib.Core.Path.{_≡_, refl, ap, subst, _∙_}
 use lib.Dec.{eqb}
-use lib.ListN.{length, getD, replicate, length-map, length-replicate, List·getD-eq-default}
+use lib.ListN.{length, replicate, length-map, length-replicate, List·getD-eq-default}
 use Rattle.reading.specs.Outcome.{Refusal, Outcome, ok, bad}
 use Rattle.reading.specs.Pad.{pad}
 use Rattle.reading.proofs.Least.{lt-or-le}
-use Rattle.reading.proofs.Outcomes.{Numbered, value, number}
+use Rattle.reading.proofs.Outcomes.{Numbered, number}
 use Rattle.reading.proofs.Pads.{pad-nil, length-pad, pad-get}
 use Rattle.limits.specs.Standard.{standard}
 use Rattle.identification.specs.declared.Identity.{Identity}
@@ -22,7 +22,7 @@ use Rattle.setup.specs.inner.Decode.{decodeSetup}
 use Rattle.residue_requests.specs.Listed.{residueWords, listed}
 use Rattle.audio.specs.declared.AudioAnswer.{AudioAnswer}
 use Rattle.audio.specs.declared.Tally.{Tally}
-use Rattle.audio.specs.Call.{Room, Accepted, accepted, refused, Left, answerOf, answered, audioBy, roomOf, leftOf}
+use Rattle.audio.specs.Call.{Accepted, accepted, refused, Left, answerOf, answered, audioBy, roomOf, leftOf}
 use Rattle.audio_settle.specs.inner.Judged.{curvesBy, wordsBy, ZeroFrom}
 use Rattle.audio_judge.specs.inner.Ready.{Ready}
 use Rattle.audio_judge.proofs.ReadyLaws.{channels-few}

@@ -1,27 +1,24 @@
 -- An identification record, as the code asks it: one law for each way out, over what the reader of the packet answered. Assumes nothing.
 use Prim.Native.Nat.{ℕ}
-use native.Mathlib.Omega.{arith}
-use mathlib.Core.Bool.{Bool, true, false}
+use mathlib.Core.Bool.{false}
 use mathlib.Core.List.{List}
-use mathlib.Core.Path.{_≡_, refl, sym, ap, subst, _∙_}
-use Rattle.reading.specs.Outcome.{Outcome, ok, bad}
+use mathlib.Core.Path.{_≡_, refl, sym, ap, _∙_}
+use Rattle.reading.specs.Outcome.{ok, bad}
 use Rattle.reading.proofs.Least.{true-not-false}
 use Rattle.bits.specs.declared.Refusal.{Refusal}
 use Rattle.bits.specs.inner.Cursors.{refusalOf}
-use Rattle.limits.specs.Standard.{standard}
 use Rattle.identification.specs.declared.Identity.{Identity}
 use Rattle.identification.specs.declared.Identified.{Identified}
 use Rattle.identification.specs.declared.Identified.the-variants as I
 use Rattle.identification.specs.Identification.{identification}
-use Rattle.identification.specs.Sound.{Sound, isSound, AcceptedSound}
+use Rattle.identification.specs.Sound.{Sound, AcceptedSound}
 use Rattle.identification.specs.inner.Answers as A
 use Rattle.identification.proofs.SoundLaws.{sound-test}
-use Rattle.setup.specs.Layout.{Tables}
 use Rattle.records.specs.declared.Answer.the-variants.{Refused}
 use Rattle.record_step.specs.declared.Kept.{Kept}
 use Rattle.record_step.specs.declared.Stepped.{Stepped}
 use Rattle.record_step.specs.Step.{identified}
-use Rattle.record_step.specs.inner.Kept.{streamOf, KeptTables, unchanged, identityAccepted, SameEnds, IdentificationStep}
+use Rattle.record_step.specs.inner.Kept.{streamOf, unchanged, identityAccepted, IdentificationStep}
 
 module _ (k : Kept) (s : List ℕ) where
   -- what was read, by its outcome

@@ -5,10 +5,10 @@ use native.Mathlib.Nat.{suc-mul}
 use native.Mathlib.Omega.{arith}
 use mathlib.Core.Bool.{Bool, true, false, cond}
 use mathlib.Core.List.{List, [], _∷_}
-use mathlib.Core.Path.{_≡_, refl, sym, ap, subst, _∙_}
+use mathlib.Core.Path.{_≡_, refl, ap, subst, _∙_}
 use lib.Dec.{eqb, ltb, leb}
 use lib.ListN.{length, getD, length-map, length-append}
-use Rattle.reading.specs.Outcome.{refusal, Outcome, ok, then, need}
+use Rattle.reading.specs.Outcome.{refusal, Outcome, ok}
 use Rattle.reading.proofs.Outcomes.{ok-is, then-ok, need-ok, Numbered, value, number, need-numbered, then-numbered, judged-numbered}
 use Rattle.reading.specs.Tabulate.{tabulate}
 use Rattle.reading.proofs.Tabulate.{tabulate-length}

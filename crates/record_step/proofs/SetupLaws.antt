@@ -2,18 +2,16 @@
 use Prim.Native.Nat.{ℕ, _≤_, _<_}
 use native.Mathlib.Omega.{arith}
 use borrow.Author.Tests.{eq-eqb, ne-eqb, not-true, not-false}
-use mathlib.Core.Bool.{Bool, true, false, not, cond}
+use mathlib.Core.Bool.{true, false, not}
 use mathlib.Core.List.{List}
-use mathlib.Core.Path.{_≡_, refl, sym, ap, subst, _∙_}
+use mathlib.Core.Path.{_≡_, refl, sym, ap, _∙_}
 use lib.Dec.{eqb}
 use lib.ListN.{length, getD, length-replicate}
-use Rattle.reading.specs.Outcome.{Refusal, refusal, Outcome, ok, bad, need}
+use Rattle.reading.specs.Outcome.{Refusal, Outcome, ok, bad}
 use Rattle.reading.proofs.Least.{true-not-false}
 use Rattle.reading.proofs.Pads.{pad-get}
 use Rattle.limits.specs.declared.Limits.{Limits}
 use Rattle.limits.specs.Standard.{standard}
-use Rattle.identification.specs.declared.Identity.{Identity}
-use Rattle.identification.specs.Sound.{isSound}
 use Rattle.setup.specs.Content.{Setup}
 use Rattle.setup.specs.Reading.{setup}
 use Rattle.setup.specs.Layout.{Tables, layout, hasRoom, writtenOut, cleared}

@@ -2,14 +2,13 @@
 use Prim.Native.Nat.{ℕ}
 use borrow.Author.Tests.{eq-eqb, ne-eqb}
 use mathlib.Core.List.{List}
-use mathlib.Core.Path.{_≡_, refl, sym, subst, _∙_}
+use mathlib.Core.Path.{_≡_, refl, sym, subst}
 use Rattle.setup.specs.Layout.{Tables}
 use Rattle.audio_settle.specs.inner.Judged.{ZeroFrom}
-use Rattle.records.specs.declared.Answer.{Answer}
 use Rattle.records.specs.declared.Answer.the-variants.{Unknown}
 use Rattle.record_step.specs.declared.Kept.{Kept}
 use Rattle.record_step.specs.declared.Stepped.{Stepped}
-use Rattle.record_step.specs.Step.{Stream, step}
+use Rattle.record_step.specs.Step.{step}
 use Rattle.record_step.specs.inner.Kept.{streamOf, KeptTables, KeptOutputs, unchanged, SameEnds, IdentificationStep, SetupStep, AudioStep}
 
 -- outputs that were not touched

@@ -60,6 +60,7 @@ fn answered(kept: Kept, tally: Tally, answer: AudioAnswer) -> Stepped
     )
 }
 
+// The record's body, by the identity and the tables that are kept, into the outputs. Tables are kept only with an identity, so one test serves both.
 pub fn after_audio(
     kept: Kept,
     body: &[u8],

@@ -40,6 +40,7 @@ fn number_of(refusal: Refusal) -> u32
     refusal.number as u32
 }
 
+// The record's body. Neither tables nor outputs are touched: that none are kept any longer is said beside them.
 pub fn after_identification(kept: Kept, body: &[u8]) -> Stepped
     ensures { λ r. ⌜ IdentificationStep kept (now (body .entry)) r ⌝ }
 {

@@ -1,4 +1,5 @@
-// A SETUP RECORD: a good one leaves its content in the tables and clears the tally; a refused one leaves no tables; without an identity it is 18 (01, the tool).
+// A SETUP RECORD: a good one leaves its content in the tables and clears the tally; a refused one leaves no tables; without an identity it is 18
+// (01, the tool).
 use crate::Kept;
 use crate::Stepped;
 use crate::unchanged::refused;
@@ -67,6 +68,7 @@ fn numbered(kept: Kept, number: u32, books: u32, modes: u32) -> Stepped
     setup_refused(kept, number)
 }
 
+// The record's body, by the identity that is kept, into the tables.
 pub fn after_setup(
     kept: Kept,
     body: &[u8],
