@@ -32,7 +32,8 @@ use Rattle.record_step.specs.declared.Stepped.{Stepped}
 use Rattle.record_step.specs.Step.{room, audioStep}
 use Rattle.record_step.specs.inner.Kept.{streamOf, KeptTables, KeptOutputs, unchanged, packetRead, packetAnswered, AudioStep}
 use Rattle.record_step.proofs.SetupLaws.{small-standard}
-use Rattle.record_step.proofs.PacketLaws.{accepted-numbered, block-high, bytes-few}
+use Rattle.audio.proofs.Numbers.{accepted-numbered}
+use Rattle.record_step.proofs.PacketLaws.{block-high, bytes-few}
 
 -- THE OUTPUTS: behind a list there is nothing
 zero-behind : (n place : ℕ) (l : List ℕ) → length l ≤ place → ZeroFrom place (pad n l)
