@@ -91,6 +91,21 @@ module _ (channels : ℕ) (used : List ℕ) where
 
 pub ruleset used-laws = (needs, using-start, using-next, using-done)
 
+-- THE FLAGS THAT BYTES HOLD are those they were made of
+pub used-bytes : (l : List Bool) → length l ≤ 255 → usedBools (length l) (liveBytes l) ≡ l
+unfolding usedBools liveBytes
+used-bytes l h =
+    let long : length (map one l) ≡ length l = length-map l one in
+    ap (map isLive) (rw long at (pad-front 255 (map one l) (omega arith))) ∙ back l
+  where
+    back : (r : List Bool) → map isLive (map one r) ≡ r
+    back [] = refl
+    back (b ∷ r) = λ j. live-one b j ∷ back r j
+
+pub bytes-long : (l : List Bool) → length (liveBytes l) ≡ 255
+unfolding liveBytes
+bytes-long l = length-pad 255 (map one l)
+
 -- one coupling step
 module _ (magnitude angle : ℕ) (live : List ℕ) {either : Bool} (e : either ≡ (isLive (getD live magnitude 0) || isLive (getD live angle 0))) where
   pub couple-both : either ≡ true → set (set live magnitude 1) angle 1 ≡ coupledBytes magnitude angle live
@@ -149,10 +164,13 @@ pub record Steps (m : Mapping) (l : List Bool) (live : List ℕ) (i : ℕ) : Typ
   pub within : i ≤ length (m .couplings)
   pub flags : live ≡ liveBytes (coupled (take i (m .couplings)) l)
 
-module _ (used : List ℕ) (channels : ℕ) (t : List ℕ) (n : ℕ) (long : length used ≡ 255) (few : channels ≤ 255) (p : MappingReadable channels t n) where
-  pub steps-start : {k : ℕ} → k ≡ channels → {live : List ℕ} → live ≡ liveBytes (usedBools k used) → Steps (mappingIn t n) (usedBools channels used) live 0
+module _ (used : List ℕ) (channels : ℕ) (t : List ℕ) (n : ℕ) (own : used ≡ liveBytes (usedBools channels used)) (few : channels ≤ 255) (p : MappingReadable channels t n) where
+  long : length used ≡ 255
+  long = ap length own ∙ bytes-long (usedBools channels used)
+
+  pub steps-start : Steps (mappingIn t n) (usedBools channels used) used 0
   unfolding coupled
-  steps-start q e = record { within = omega arith; flags = rw (← q) e }
+  steps-start = record { within = omega arith; flags = own }
 
   module _ {live : List ℕ} {i : ℕ} (w : Steps (mappingIn t n) (usedBools channels used) live i) {steps : ℕ}
       (s : steps ≡ getD t (mappingWidth * n) 0 + 256 * getD t (mappingWidth * n + 1) 0) where
@@ -194,24 +212,36 @@ module _ (used : List ℕ) (channels : ℕ) (t : List ℕ) (n : ℕ) (long : len
 
 pub ruleset stepping = (needs, steps-start, step-few, magnitude-in, angle-in)
 
+-- bytes of so many flags hold these flags
+module _ (l : List Bool) (channels : ℕ) (size : length l ≡ channels) (few : channels ≤ 255) {live : List ℕ} (e : live ≡ liveBytes l) where
+  flags-held : usedBools channels live ≡ l
+  flags-held = rw e (ap (λ (c : ℕ). usedBools c (liveBytes l)) (sym size) ∙ used-bytes l (omega arith))
+
+  flags-own : live ≡ liveBytes (usedBools channels live)
+  flags-own = e ∙ ap liveBytes (sym flags-held)
+
+-- the channels whose floor is used, swept once
+module _ (used : List ℕ) (channels : ℕ) (long : length used ≡ 255) (few : channels ≤ 255) {k : ℕ} (q : k ≡ channels) {live : List ℕ} (e : live ≡ liveBytes (usedBools k used)) where
+  of-used : live ≡ liveBytes (usedBools channels used)
+  of-used = e ∙ ap (λ (c : ℕ). liveBytes (usedBools c used)) q
+
+  pub used-own : live ≡ liveBytes (usedBools channels live)
+  used-own = flags-own (usedBools channels used) channels (used-long channels used long few) few of-used
+
+  pub swept-once : (m : Mapping) {r : List ℕ} → r ≡ liveBytes (coupled (m .couplings) (usedBools channels live)) → r ≡ liveBytes (coupled (m .couplings) (usedBools channels used))
+  swept-once m f = f ∙ ap (λ (l : List Bool). liveBytes (coupled (m .couplings) l)) (flags-held (usedBools channels used) channels (used-long channels used long few) few of-used)
+
+-- what a sweep leaves are flags again, which another sweep could take: the edit second_sweep has a program that does
+pub swept-own : (flags : List ℕ) (channels : ℕ) (m : Mapping) → flags ≡ liveBytes (usedBools channels flags) → channels ≤ 255
+    → {r : List ℕ} → r ≡ liveBytes (coupled (m .couplings) (usedBools channels flags)) → r ≡ liveBytes (usedBools channels r)
+swept-own flags channels m own few e =
+    let long : length flags ≡ 255 = ap length own ∙ bytes-long (usedBools channels flags) in
+    let size : length (coupled (m .couplings) (usedBools channels flags)) ≡ channels = coupled-long (m .couplings) (usedBools channels flags) ∙ used-long channels flags long few in
+    flags-own (coupled (m .couplings) (usedBools channels flags)) channels size few e
+
 map-one : {A : Type 0} (f : A → Bool) (l : List A) → map (λ x. one (f x)) l ≡ map one (map f l)
 map-one f [] = refl
 map-one f (x ∷ l) = ap (λ (t : List ℕ). one (f x) ∷ t) (map-one f l)
-
--- THE FLAGS THAT BYTES HOLD are those they were made of
-pub used-bytes : (l : List Bool) → length l ≤ 255 → usedBools (length l) (liveBytes l) ≡ l
-unfolding usedBools liveBytes
-used-bytes l h =
-    let long : length (map one l) ≡ length l = length-map l one in
-    ap (map isLive) (rw long at (pad-front 255 (map one l) (omega arith))) ∙ back l
-  where
-    back : (r : List Bool) → map isLive (map one r) ≡ r
-    back [] = refl
-    back (b ∷ r) = λ j. live-one b j ∷ back r j
-
-pub bytes-long : (l : List Bool) → length (liveBytes l) ≡ 255
-unfolding liveBytes
-bytes-long l = length-pad 255 (map one l)
 
 -- so where each byte tells what f tells of an item, the flags are what f tells
 pub used-of : {A : Type 0} (f : A → Bool) (l : List A) → length l ≤ 255 → usedBools (length l) (pad 255 (map (λ x. one (f x)) l)) ≡ map f l

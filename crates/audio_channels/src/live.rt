@@ -59,11 +59,11 @@ fn couple(live: &mut [u8; 255], magnitude: usize, angle: usize)
 }
 
 // The coupling steps in order, once: a channel that a later step makes live makes none live by an earlier one.
-pub fn live_channels(used: &[u8], channels: u32, mappings: &[u8], mapping: usize) -> [u8; 255]
-    requires { ⌜ (length (now used) ≡ 255) × (channels ≤ 255) × MappingReadable channels (now mappings) mapping ⌝ }
-    ensures { λ r. ⌜ r ≡ liveBytes (coupled (mappingIn (now (mappings .entry)) mapping .couplings) (usedBools channels (now (used .entry)))) ⌝ }
+fn sweep(flags: [u8; 255], channels: u32, mappings: &[u8], mapping: usize) -> [u8; 255]
+    requires { ⌜ (flags ≡ liveBytes (usedBools channels flags)) × (channels ≤ 255) × MappingReadable channels (now mappings) mapping ⌝ }
+    ensures { λ r. ⌜ r ≡ liveBytes (coupled (mappingIn (now (mappings .entry)) mapping .couplings) (usedBools channels flags)) ⌝ }
 {
-    let mut live = used_channels(used, wide_u32(channels));
+    let mut live = flags;
     let steps = coupling_steps(mappings, mapping);
     let mut i: usize = 0;
     while i < steps {
@@ -73,4 +73,12 @@ pub fn live_channels(used: &[u8], channels: u32, mappings: &[u8], mapping: usize
         i = i + 1;
     }
     live
+}
+
+pub fn live_channels(used: &[u8], channels: u32, mappings: &[u8], mapping: usize) -> [u8; 255]
+    requires { ⌜ (length (now used) ≡ 255) × (channels ≤ 255) × MappingReadable channels (now mappings) mapping ⌝ }
+    ensures { λ r. ⌜ r ≡ liveBytes (coupled (mappingIn (now (mappings .entry)) mapping .couplings) (usedBools channels (now (used .entry)))) ⌝ }
+{
+    let live = used_channels(used, wide_u32(channels));
+    sweep(live, channels, mappings, mapping)
 }

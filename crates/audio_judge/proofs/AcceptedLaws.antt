@@ -33,6 +33,7 @@ module _ (i : Identity) (c : Setup) (t : Tally) (s : List ℕ) (entry list : Lis
         curves = λ x g. absurd (bad-ok (sym e ∙ g));
         bytes = λ x g. absurd (bad-ok (sym e ∙ g));
         words = λ x g. absurd (bad-ok (sym e ∙ g));
+        early = λ z g l. (refl, refl);
       }
 
   pub tally-refused : {r : Judged} → tallySound i t ≡ false → r ≡ refusedBy 18 → JudgedIs (i .channels) c (accepted i t room s c) r entry entry list list

@@ -9,6 +9,7 @@ use lib.ListN.{length, getD, set, replicate, length-set}
 use lib.Seq.{sets}
 use Rattle.reading.specs.Pad.{pad}
 use Rattle.reading.proofs.Least.{lt-or-le}
+use Rattle.reading.proofs.Pads.{pad-nil}
 use Rattle.reading.proofs.Tables.{sets-append, sets-out}
 
 -- the places from i on are to be cleared still
@@ -53,6 +54,10 @@ zeros-front zero [] h = refl
 zeros-front zero (x ∷ l) h = rw (h 0 (omega arith)) (ap (λ (t : List ℕ). 0 ∷ t) (zeros-front zero l (λ j g. h (suc j) (omega arith))))
 zeros-front (suc z) [] h = sets-out (replicate (suc z) 0) [] 0 (omega arith)
 zeros-front (suc z) (x ∷ l) h = sets-suc 0 l (replicate z 0) 0 ∙ ap (λ (t : List ℕ). 0 ∷ t) (zeros-front z l (λ j g. h (suc j) (omega arith)))
+
+-- an output that was zero from place p on, cleared up to there
+pub front-cleared : (l : List ℕ) (p : ℕ) → ((j : ℕ) → p ≤ j → getD l j 0 ≡ 0) → sets l 0 (replicate (p - 0) 0) ≡ replicate (length l) 0
+front-cleared l p h = let e : p - 0 ≡ p = omega arith in rw e (zeros-front p l h ∙ pad-nil (length l))
 
 list-front : (cs l : List ℕ) (z : ℕ) → ((j : ℕ) → length cs + z ≤ j → getD l j 0 ≡ 0) → sets l 0 (cs ++ replicate z 0) ≡ pad (length l) cs
 unfolding pad

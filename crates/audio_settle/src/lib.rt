@@ -13,7 +13,7 @@ use reading::buffers::clear_u32;
 ghost use mathlib.Core.Path.{_≡_};
 ghost use Prim.Native.Nat.{_≤_};
 ghost use Rattle.audio.specs.Call.{refused, leftOf};
-ghost use Rattle.audio_settle.specs.inner.Judged.{answerBy, acceptedLeft, refusedLeft, settled};
+ghost use Rattle.audio_settle.specs.inner.Judged.{answerBy, isEarly, acceptedLeft, earlyLeft, refusedLeft, settled};
 
 // What judging a packet comes to.
 pub struct Judged {
@@ -75,13 +75,41 @@ fn answer_of(identity: Identity, judged: Judged) -> AudioAnswer
     }
 }
 
-// A refusal.
+// A refusal that leaves nothing of what the outputs held.
 pub fn refuse(refusal: u32, tally: Tally, curves: &mut [u8], words: &mut [u32]) -> AudioLeft
     ensures { λ r. ⌜ leftOf (r .answer) (r .tally) (now (curves .exit)) (now (words .exit))
         ≡ refusedLeft refusal tally (now (curves .entry)) (now (words .entry)) ⌝ }
 {
     clear_u8(curves);
     clear_u32(words);
+    let answer = refused_answer(refusal);
+    AudioLeft { tally, answer }
+}
+
+// Whether a refusal comes before anything is written to the outputs: the head's and 18 do, 17 and 19 may come behind the body.
+fn is_early(refusal: u32) -> bool
+    ensures { λ r. ⌜ r ≡ isEarly refusal ⌝ }
+{
+    if refusal < 17 {
+        return true;
+    }
+    refusal == 18
+}
+
+// An early refusal: what an earlier packet left, up to `curves_end` and `words_end`, is cleared.
+fn refuse_early(
+    refusal: u32,
+    tally: Tally,
+    curves: &mut [u8],
+    words: &mut [u32],
+    curves_end: usize,
+    words_end: usize,
+) -> AudioLeft
+    ensures { λ r. ⌜ leftOf (r .answer) (r .tally) (now (curves .exit)) (now (words .exit))
+        ≡ earlyLeft refusal tally (now (curves .entry)) (now (words .entry)) «curves_end» «words_end» ⌝ }
+{
+    clear::clear_between_u8(curves, 0, curves_end);
+    clear::clear_between_u32(words, 0, words_end);
     let answer = refused_answer(refusal);
     AudioLeft { tally, answer }
 }
@@ -126,5 +154,9 @@ pub fn settle(
     if judged.accepted {
         return accept(identity, judged, curves, words, curves_end, words_end);
     }
-    refuse(judged.refusal, tally, curves, words)
+    let refusal = judged.refusal;
+    if is_early(refusal) {
+        return refuse_early(refusal, tally, curves, words, curves_end, words_end);
+    }
+    refuse(refusal, tally, curves, words)
 }

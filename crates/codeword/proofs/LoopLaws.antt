@@ -20,10 +20,10 @@ use Rattle.codeword_assignment.specs.Book.{ledgerCodewords, PrefixCode}
 use Rattle.codeword_assignment.proofs.Laws.{accepted-decodable, used-length, codewords-length, accepted-none-refused}
 use Rattle.codeword.specs.Codeword.{bitsAt, matching}
 use Rattle.codeword.specs.inner.Book.{Codebook}
-use Rattle.codeword.specs.inner.Window.{NextBits}
+use Rattle.codeword.specs.inner.Window.{NextBits, Zeros}
 use Rattle.codeword.specs.declared.window.Window.{Window}
 use Rattle.codeword.proofs.Bits.{bits-more, double-fits, more-fits}
-use Rattle.codeword.proofs.Matching.{Starts, NoneBefore, none-fewer, passes-short, passes-other, turn-never, turn-on, turn-found, turn-end, turn-cut}
+use Rattle.codeword.proofs.Matching.{Starts, NoneBefore, none-fewer, passes-short, passes-unused, passes-other, turn-never, turn-on, turn-found, turn-end, turn-cut}
 
 below-end : (e n : ℕ) → e ≤ n → (e ≡ n → ⊥) → e < n
 below-end e n l d = ⊎-elim (λ (h : e < n). h) (λ (h : n ≤ e). absurd (d (omega arith))) (lt-or-le e n)
@@ -139,6 +139,22 @@ module _ (ls ws : List ℕ) (book : Codebook ls ws) (s : List ℕ) (k : Cursor) 
           rest = t .rest;
         }
 
+    -- and unused entries behind it
+    pub unused-passed : (len : ℕ) → len ≡ getD ls e 0 → len < n → (r : ℕ) → (e + 1 ≤ r) × (r ≤ length ls) × Zeros ls (e + 1) r
+        → Searching ls ws s (position k) count word n r
+    unused-passed len q l r (a, b, z) =
+        let y = length-short len q l in
+        record {
+          some = y .some;
+          counted = y .counted;
+          few = y .few;
+          there = y .there;
+          within = b;
+          bits = y .bits;
+          none = passes-unused ls ws n (bitsAt s (position k) n) (e + 1) (y .none) (y .some) r z;
+          rest = y .rest;
+        }
+
     module _ (len : ℕ) (q : len ≡ getD ls e 0) (l : n ≤ len) where
       starts : getD ws e 0 / 2 ^ (len - n) ≡ word → Starts ls ws n (bitsAt s (position k) n) e
       starts p = record { long = omega arith; same = rw (← q) (p ∙ t .bits) }
@@ -192,4 +208,4 @@ module _ (ls ws : List ℕ) (book : Codebook ls ws) (s : List ℕ) (k : Cursor) 
             let r : matching ls n (32 - n) s (position k) ≡ matching ls (n - 1) (32 - (n - 1)) s (position k) = rw before at (sym f) in
             record { counted = t .counted; within = t .within; bits = t .bits; none = t .none; rest = r ∙ t .rest }
 
-pub ruleset loop-laws = (needs, doubled, lengthened, in-codewords, taking-start, no-bit-left, few-taken, taken-one, all-passed, length-short, length-within, other-word, word-found, word-begun)
+pub ruleset loop-laws = (needs, doubled, lengthened, in-codewords, taking-start, no-bit-left, few-taken, taken-one, all-passed, unused-passed, length-within, other-word, word-found, word-begun)

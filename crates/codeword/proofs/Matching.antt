@@ -14,9 +14,10 @@ use lib.Pow.{shr-shr}
 use borrow.Author.Tests.{lt-ltb, le-ltb, eq-eqb, ne-eqb, eqb-true}
 use Rattle.reading.specs.Outcome.{refusal, Outcome, ok, bad, need}
 use Rattle.reading.specs.Least.{lowest}
-use Rattle.reading.proofs.Least.{lowest-none, lowest-is, and-split, no-true, below-suc}
+use Rattle.reading.proofs.Least.{lt-or-le, lowest-none, lowest-is, and-split, no-true, below-suc}
 use Rattle.codeword_assignment.specs.Book.{codewordOf, ledgerCodewords, PrefixCode}
 use Rattle.codeword_assignment.proofs.Laws.{codewords-at}
+use Rattle.codeword.specs.inner.Window.{Zeros}
 use Rattle.codeword.specs.Codeword.{bitsAt, isCodeword, entryOf, orGoOn, matching}
 use Rattle.codeword.proofs.Bits.{bits-half}
 
@@ -54,6 +55,10 @@ module _ (ls ws : List ℕ) (n w e : ℕ) (h : NoneBefore ls ws n w e) where
 
   pub passes-short : getD ls e 0 < n → NoneBefore ls ws n w (e + 1)
   passes-short l = step (λ st. let m = st .long in omega arith)
+
+  pub passes-unused : 1 ≤ n → (r : ℕ) → Zeros ls e r → NoneBefore ls ws n w r
+  passes-unused p r z f l st =
+      ⊎-elim (λ (m : f < e). h f m st) (λ (m : e ≤ f). let a = z .zero f m l in let b = st .long in omega arith) (lt-or-le f e)
 
   pub passes-other : (getD ws e 0 / 2 ^ (getD ls e 0 - n) ≡ w → ⊥) → NoneBefore ls ws n w (e + 1)
   passes-other d = step (λ st. d (st .same))

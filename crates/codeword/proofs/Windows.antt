@@ -1,15 +1,17 @@
 -- Laws of the window: the next bits of a packet, taken by whole bytes. Assumes nothing.
 use Prim.Native.Nat.{ℕ, _+_, _-_, _*_, _/_, _%_, _^_, _≤_, _<_}
-use native.Mathlib.Nat.{lt-of-lt-of-le}
+use native.Mathlib.Nat.{lt-of-lt-of-le, zero-div}
 use native.Mathlib.Omega.{arith}
 use mathlib.Core.List.{List}
-use mathlib.Core.Path.{_≡_, ap, _∙_}
+use mathlib.Core.Path.{_≡_, ap, sym, _∙_}
+use mathlib.Core.Logic.{⊎-elim}
 use lib.ListN.{length, getD}
-use lib.Pow.{shl-exact, pow-mono, shr-shr}
+use lib.Pow.{shl-exact, shl-shr, pow-mono, shr-shr}
+use Rattle.reading.proofs.Least.{lt-or-le}
 use Rattle.bits.specs.Field.{bitAt, valueAt}
 use Rattle.bits.proofs.Values.{value-lt, value-add, value-bit}
 use Rattle.bits.proofs.Bytes.{byte-value}
-use Rattle.codeword.specs.inner.Window.{NextBits}
+use Rattle.codeword.specs.inner.Window.{NextBits, Zeros}
 
 module _ (s : List ℕ) where
   -- one byte more, as the code computes it
@@ -24,6 +26,27 @@ module _ (s : List ℕ) where
       → number + (v * 2 ^ (8 * j)) % 2 ^ 64 < 2 ^ 64
   bytes-lt first j number v l h p =
       rw (bytes-more first j number v l h p) (lt-of-lt-of-le (value-lt s (8 * first) (8 * (j + 1))) (pow-mono {i = 8 * (j + 1)} {j = 64} (omega arith)))
+
+  -- where the number is 0, so is each of its bytes
+  pub zeros-more : (first j number v : ℕ) → j < 8 → (v ≡ getD s (first + j) 0) × (v < 256) → (number ≡ 0 → Zeros s first (first + j))
+      → number + (v * 2 ^ (8 * j)) % 2 ^ 64 ≡ 0 → Zeros s first (first + (j + 1))
+  zeros-more first j number v l (q, h) z e =
+      let m : v * 2 ^ (8 * j) ≡ 0 = sym (shl-exact 8 (8 * j) 64 h (omega arith)) ∙ omega arith in
+      let y : v ≡ 0 = sym (shl-shr v (8 * j)) ∙ rw m (zero-div _) in
+      record {
+        zero = λ f a b.
+            ⊎-elim
+            (λ (u : f < first + j). z (omega arith) .zero f a u)
+            (λ (u : first + j ≤ f). let g : f ≡ first + j = omega arith in rw (g, ← q) y)
+            (lt-or-le f (first + j));
+      }
+
+  pub zeros-none : (at : ℕ) → Zeros s at (at + 0)
+  zeros-none at = record { zero = λ f a b. absurd (omega arith) }
+
+  pub zeros-four : (at from : ℕ) → Zeros s from at → Zeros s at (at + 4) → Zeros s from (at + 4)
+  zeros-four at from y z =
+      record { zero = λ f a b. ⊎-elim (λ (u : f < at). y .zero f a u) (λ (u : at ≤ f). z .zero f u b) (lt-or-le f at) }
 
   -- bits out of the n bits of the bytes that hold them
   module _ (byte bit w n number : ℕ) (e : w ≡ bit) (p : number ≡ valueAt s (8 * (byte + w / 8)) n) where

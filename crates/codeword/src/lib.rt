@@ -1,10 +1,12 @@
 // Reading one codeword of a packet, bit by bit (01, "Bits and books"; 002, "Using a codebook").
+pub mod unused;
 pub mod window;
 
 use bits::Cursor;
 use bits::Field;
 use bits::Refusal;
 use reading::widths::wide_u8;
+use unused::past_unused;
 use window::window_at;
 ghost use mathlib.Core.Path.{_≡_};
 ghost use Prim.Native.Nat.{_+_, _/_, _%_, _^_, _<_};
@@ -47,7 +49,8 @@ fn lone_entry(packet: &[u8], from: Cursor, entry: u32) -> Field
 }
 
 // Bits are taken one at a time until they are an entry's codeword. An entry whose codeword does not begin with the bits taken so far does not
-// begin with more of them either, so the entry search goes on where it stopped: it passes each entry once a codeword, not once a bit.
+// begin with more of them either, so the entry search goes on where it stopped: it passes each entry once a codeword, not once a bit. Behind an entry
+// that is too short there are often many unused ones.
 fn match_codeword(packet: &[u8], from: Cursor, lengths: &[u8], codewords: &[u32]) -> Field
     requires { ⌜ Codebook (now lengths) (now codewords) ⌝ }
     ensures { λ r. ⌜ outcome r ≡ matching (now (lengths .entry)) 0 32 (now (packet .entry)) (position from) ⌝ }
@@ -74,8 +77,10 @@ fn match_codeword(packet: &[u8], from: Cursor, lengths: &[u8], codewords: &[u32]
                     }
                     continue 'word;
                 }
+                entry = entry + 1;
+                continue 'entry;
             }
-            entry = entry + 1;
+            entry = past_unused(lengths, entry + 1);
         }
     }
 }

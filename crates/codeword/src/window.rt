@@ -68,7 +68,7 @@ fn last_bytes(packet: &[u8], at: usize, left: usize) -> u64
 }
 
 // A byte as a number of 64 bits.
-fn long(x: u8) -> u64
+pub fn long(x: u8) -> u64
     ensures { λ r. ⌜ (r ≡ x) × (r < 256) ⌝ }
 {
     x as u64

@@ -38,10 +38,27 @@ enum-known-head : tie.Need-enum-known-head
 enum-known-head c = search needs
 
 judge-body-requires : tie.Need-judge-body-requires
-judge-body-requires c κs = (c .before .before .before .before .before .before .before .before .before .before .before .before .before .before .before .before .before .before .before .before .before .before .pre, head-asked _ _ (c .before .before .before .before .before .before .before .before .before .before .before .before .before .before .before .before .before .before .before .before .before .before .pre) (c .before .before .before .before .before .before .before .before .before .before .before .before .before .before .before .before .before .before .before .before .before .before .args .packet .now) (c .before .before .before .before .before .before .get-u32 .ensures) _ (c .before .before .before .before .before .read-head .ensures) (search needs))
+judge-body-requires c κs =
+    let at-read-head = c .before .before .before .before .before in
+    let at-get-u32 = at-read-head .before in
+    let at-pre = at-get-u32 .before .before .before .before .before .before .before .before .before .before .before .before .before .before .before .before in
+    (at-pre .pre, head-asked _ _ (at-pre .pre) (at-pre .args .packet .now) (at-get-u32 .get-u32 .ensures) _ (at-read-head .read-head .ensures) (search needs))
 
 returns-2 : tie.Need-returns-2
-returns-2 c = search (needs, judged-head-refused _ _ (c .before .before .before .before .before .before .before .before .before .before .before .before .before .before .before .before .before .before .before .before .before .before .pre) (c .before .before .before .before .before .before .before .before .before .before .before .before .before .before .before .before .before .before .before .before .before .before .args .packet .now) (c .before .before .before .before .before .before .get-u32 .ensures) _ (c .before .before .before .before .before .read-head .ensures) (c .before .before .before .before .before .before .before .before .before .before .before .before .before .before .before .before .before .before .before .before .before .before .args .tally) (c .before .before .before .before .before .before .before .before .before .before .before .before .before .before .before .before .before .before .before .before .before .before .args .curves .now) (c .before .before .before .before .before .before .before .before .before .before .before .before .before .before .before .before .before .before .before .before .before .before .args .words .now) (c .before .before .before .before .before .before .before .before .is-sound .ensures) (c .before .before .before .before .before .before .before .if1 .left))
+returns-2 c =
+    search (
+      needs,
+      judged-head-refused _ _
+          (c .before .before .before .before .before .before .before .before .before .before .before .before .before .before .before .before .before .before .before .before .before .before .pre)
+          (c .before .before .before .before .before .before .before .before .before .before .before .before .before .before .before .before .before .before .before .before .before .before .args .packet .now)
+          (c .before .before .before .before .before .before .get-u32 .ensures) _
+          (c .before .before .before .before .before .read-head .ensures)
+          (c .before .before .before .before .before .before .before .before .before .before .before .before .before .before .before .before .before .before .before .before .before .before .args .tally)
+          (c .before .before .before .before .before .before .before .before .before .before .before .before .before .before .before .before .before .before .before .before .before .before .args .curves .now)
+          (c .before .before .before .before .before .before .before .before .before .before .before .before .before .before .before .before .before .before .before .before .before .before .args .words .now)
+          (c .before .before .before .before .before .before .before .before .is-sound .ensures)
+          (c .before .before .before .before .before .before .before .if1 .left),
+    )
 
 same-length : tie.Need-same-length
 same-length c = search needs
@@ -50,7 +67,16 @@ same-length-2 : tie.Need-same-length-2
 same-length-2 c = search needs
 
 returns-3 : tie.Need-returns-3
-returns-3 c = judged-head-read _ _ (c .before .before .before .before .before .before .before .before .before .before .before .before .before .before .before .before .before .before .before .before .before .before .before .before .before .before .before .pre) (c .before .before .before .before .before .before .before .before .before .before .before .before .before .before .before .before .before .before .before .before .before .before .before .before .before .before .before .args .packet .now) (c .before .before .before .before .before .before .before .before .before .before .before .get-u32 .ensures) _ (c .before .before .before .before .before .before .before .before .before .before .read-head .ensures) (c .before .before .before .before .before .before .before .before .before .before .before .before .before .before .before .before .before .before .before .before .before .before .before .before .before .before .before .args .tally) (c .before .before .before .before .before .before .before .before .before .before .before .before .before .before .before .before .before .before .before .before .before .before .before .before .before .before .before .args .curves .now) (c .before .before .before .before .before .before .before .before .before .before .before .before .before .before .before .before .before .before .before .before .before .before .before .before .before .before .before .args .words .now) (c .before .before .before .before .before .before .before .before .before .before .before .before .before .is-sound .ensures) (c .before .before .before .before .before .before .before .before .before .before .before .before .if1 .left) (search needs) (c .before .before .before .before .judge-body .ensures)
+returns-3 c =
+    (let at-read-head = c .before .before .before .before .before .before .before .before .before .before in
+    let at-get-u32 = at-read-head .before in
+    let at-if1 = at-get-u32 .before in
+    let at-is-sound = at-if1 .before in
+    let at-pre = at-is-sound .before .before .before .before .before .before .before .before .before .before .before .before .before .before in
+    judged-head-read _ _ (at-pre .pre) (at-pre .args .packet .now) (at-get-u32 .get-u32 .ensures) _ (at-read-head .read-head .ensures)
+    (at-pre .args .tally) (at-pre .args .curves .now) (at-pre .args .words .now) (at-is-sound .is-sound .ensures) (at-if1 .if1 .left))
+    (search needs)
+    (c .before .before .before .before .judge-body .ensures)
 
 pub judge-spec : {M : Type 1} → statement M
 judge-spec =

@@ -1,12 +1,13 @@
 -- What judging an audio packet comes to in the program, and what it leaves in the lent outputs. Assumes nothing: these are definitions.
 use Prim.Native.Nat.{ℕ, _*_, _-_, _/_, _≤_}
-use mathlib.Core.Bool.{true, false, cond}
+use mathlib.Core.Bool.{Bool, true, false, cond, _||_}
 use mathlib.Core.List.{List, map}
 use mathlib.Core.Path.{_≡_}
+use lib.Dec.{eqb, ltb}
 use lib.ListN.{length, getD, replicate}
 use lib.Seq.{sets}
 use Rattle.reading.specs.Least.{one}
-use Rattle.reading.specs.Outcome.{Outcome, ok, bad}
+use Rattle.reading.specs.Outcome.{Refusal, Outcome, ok, bad}
 use Rattle.reading.specs.Pad.{pad}
 use Rattle.identification.specs.declared.Identity.{Identity}
 use Rattle.setup.specs.Content.{Setup}
@@ -56,7 +57,12 @@ curvesBy channels c x = curvesOf (x .packet .head .blocksize / 2) (channelFloors
 abbrev pub wordsBy : Accepted → List ℕ
 wordsBy x = map listed (residueWords (x .packet .items))
 
--- a packet that came to o, read into lent outputs: accepted, its curves and codewords stand at their fronts. A refusal says nothing of what they hold
+-- the refusals that come before anything is written: the head's (1, 15, 16), and 18
+unfoldable pub isEarly : ℕ → Bool
+isEarly n = ltb n 17 || eqb n 18
+
+-- a packet that came to o, read into lent outputs: accepted, its curves and codewords stand at their fronts. An early refusal leaves them as they were, another
+-- says nothing of what they hold
 pub record JudgedIs (channels : ℕ) (c : Setup) (o : Outcome Accepted) (r : Judged) (entry exit : List ℕ) (list list′ : List ℕ) : Type 0 where
   pub answer : r ≡ judgement o
   -- Vorbis I's greatest block
@@ -66,6 +72,7 @@ pub record JudgedIs (channels : ℕ) (c : Setup) (o : Outcome Accepted) (r : Jud
   pub curves : (x : Accepted) → o ≡ ok x → exit ≡ sets entry 0 (curvesBy channels c x)
   pub bytes : (x : Accepted) → o ≡ ok x → length (curvesBy channels c x) ≡ channels * (x .packet .head .blocksize / 2)
   pub words : (x : Accepted) → o ≡ ok x → list′ ≡ sets list 0 (wordsBy x)
+  pub early : (z : Refusal) → o ≡ bad z → isEarly (z .number) ≡ true → (exit ≡ entry) × (list′ ≡ list)
 
 -- what follows a head that was read up to bit k
 abbrev pub afterHead : Identity → Setup → Tally → List ℕ → Head → ℕ → Room → Outcome Accepted
@@ -109,5 +116,12 @@ abbrev pub refusedLeft : ℕ → Tally → List ℕ → List ℕ → Left
 refusedLeft n t curves words =
     record { answer = refused n; curves = replicate (length curves) 0; codewords = replicate (length words) 0; tally = t }
 
+-- an early refusal's, cleared up to a place each
+abbrev pub earlyLeft : ℕ → Tally → List ℕ → List ℕ → ℕ → ℕ → Left
+earlyLeft n t curves words curvesEnd wordsEnd =
+    record { answer = refused n; curves = sets curves 0 (replicate (curvesEnd - 0) 0); codewords = sets words 0 (replicate (wordsEnd - 0) 0); tally = t }
+
 unfoldable pub settled : Identity → Tally → Judged → List ℕ → List ℕ → ℕ → ℕ → Left
-settled i t r curves words curvesEnd wordsEnd = cond (r .accepted) (acceptedLeft i r curves words curvesEnd wordsEnd) (refusedLeft (r .refusal) t curves words)
+settled i t r curves words curvesEnd wordsEnd =
+    cond (r .accepted) (acceptedLeft i r curves words curvesEnd wordsEnd)
+    (cond (isEarly (r .refusal)) (earlyLeft (r .refusal) t curves words curvesEnd wordsEnd) (refusedLeft (r .refusal) t curves words))

@@ -1,10 +1,9 @@
 -- `codeword::match_codeword` meets its contract, by LoopLaws. Assumes nothing.
 use Prim.Native.Nat.{_-_}
 use native.Mathlib.Omega.{arith}
-use mathlib.Core.Logic.{⊎-elim}
 use lib.ListN.{length}
 use Rattle.bits.specs.inner.Cursors.{position}
-use Rattle.codeword.proofs.LoopLaws.{Taking, Searching, taken-one, length-within, other-word, length-short, loop-laws}
+use Rattle.codeword.proofs.LoopLaws.{Taking, Searching, taken-one, length-within, loop-laws}
 use borrow.Author.Needs.{needs}
 use Rattle.codeword.proofs.match_codeword.Statement.{statement}
 use Rattle.codeword.proofs.match_codeword.Tie as tie
@@ -95,14 +94,19 @@ entry-less : tie.Need-entry-less Inv-entry μ-entry Inv-word μ-word
 entry-less c = search needs
 
 entry-again : tie.Need-entry-again Inv-entry μ-entry Inv-word μ-word
-entry-again c =
-    let e = c .before .before .before in
-    let length = c .before .wide-u8 .ensures in
-    let book = e .before .before .before .before .before .before .before .before .before .before .pre in
-    ⊎-elim
-    (λ w. other-word _ _ book _ _ _ _ _ _ (e .before .entry .inv) (e .if2 .left) _ length (w .0 .taken) (w .2 .left))
-    (λ w. length-short _ _ book _ _ _ _ _ _ (e .before .entry .inv) (e .if2 .left) _ length (w .left))
-    (c .if3 .came)
+entry-again c = search loop-laws
+
+add-past-unused : tie.Need-add-past-unused Inv-entry μ-entry Inv-word μ-word
+add-past-unused c = search needs
+
+past-unused-requires : tie.Need-past-unused-requires Inv-entry μ-entry Inv-word μ-word
+past-unused-requires c κs = search needs
+
+entry-less-2 : tie.Need-entry-less-2 Inv-entry μ-entry Inv-word μ-word
+entry-less-2 c = search needs
+
+entry-again-2 : tie.Need-entry-again-2 Inv-entry μ-entry Inv-word μ-word
+entry-again-2 c = search loop-laws
 
 returns : tie.Need-returns Inv-entry μ-entry Inv-word μ-word
 returns c = search loop-laws
@@ -143,6 +147,10 @@ match-codeword-spec =
     add-entry
     entry-less
     entry-again
+    add-past-unused
+    past-unused-requires
+    entry-less-2
+    entry-again-2
     returns
     returns-2
     returns-3)
