@@ -13,12 +13,11 @@ use Rattle.reading.specs.Outcome.{ok}
 use Rattle.reading.specs.Reader.{many}
 use Rattle.reading.specs.Encoding.{Each}
 use Rattle.reading.proofs.Outcomes.{then-ok, ok-is}
-use Rattle.reading.proofs.Accepted.{many-cons, many-all}
+use Rattle.reading.proofs.Accepted.{many-cons, many-all, many-number}
 use Rattle.reading.proofs.EachLaws.{each-map}
 use Rattle.bits.specs.Field.{field}
 use Rattle.bits.proofs.Fields.{field-ok}
 use Rattle.reading.proofs.Stored.{Stored, rows-stored}
-use Rattle.numbers.proofs.Collected.{many-length}
 use Rattle.numbers.proofs.Accepted.{field-below}
 use Rattle.floor_class.specs.Reading.{class}
 use Rattle.floor_class.proofs.Accepted.{classes-valid}
@@ -40,7 +39,7 @@ floor1-valid books place s k {x} e =
     let d = then-ok (ends place (valueCount (map (λ c. c .dimensions) (c .0 .0)) (p .0 .0)) s (c .0 .1)) _ (c .2) in
     let nf = field-ok s k 5 (n .1) in
     let nl = nf .below in
-    let pl = many-length (field 4) (n .0 .0) s (n .0 .1) (p .0 .0) (p .1) in
+    let pl = many-number (field 4) s (n .0 .0) (n .0 .1) (p .1) in
     let fits = ends-fit place (valueCount (map (λ c. c .dimensions) (c .0 .0)) (p .0 .0)) s (c .0 .1) (d .1) in
     let cs = classes-valid books s (classCount (p .0 .0)) (p .0 .1) (c .1) in
     let few : length (d .0 .0 .xs) ≤ 63 = rw (fits .long) (fits .few) in
@@ -50,7 +49,7 @@ floor1-valid books place s k {x} e =
       carried = record {
         partitions = omega arith;
         classes-named = many-all (λ c. ltb c 16) (field 4) s (field-below 4 s) (n .0 .0) (n .0 .1) (p .1);
-        class-count = many-length (class books) (classCount (p .0 .0)) s (p .0 .1) (c .0 .0) (c .1);
+        class-count = many-number (class books) s (classCount (p .0 .0)) (p .0 .1) (c .1);
         classes = each-map (λ a v. v .carried) (c .0 .0) cs;
         multiplier = record { low = fits .multiplier-low; high = fits .multiplier-high };
         rangebits = fits .rangebits;
@@ -73,7 +72,7 @@ floors-valid books s (suc n) k e =
     subst (λ (y : List Floor × ℕ). Each (ValidFloor books) (y .0)) (c .4) (floor-valid books s k (c .2), floors-valid books s n (c .0 .1) (c .3))
 
 pub floors-counted : (books : ℕ) (s : List ℕ) (n k : ℕ) {fs : List Floor} {j : ℕ} → many (floor books) n s k ≡ ok (fs, j) → length fs ≡ n
-floors-counted books s n k {fs} e = many-length (floor books) n s k fs e
+floors-counted books s n k {fs} e = many-number (floor books) s n k e
 
 -- IN A TABLE THAT HOLDS FLOORS, THE ROW OF FLOOR f LIES AT 277 * f
 pub floors-row : (fs : List Floor) (t : List ℕ) → t ≡ pad (length t) (rows floorRow fs) → 277 * length fs ≤ length t → (f : ℕ) → f < length fs → Stored t (277 * f) (floorRow (getD fs f noFloor))

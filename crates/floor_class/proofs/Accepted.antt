@@ -10,10 +10,9 @@ use Rattle.reading.specs.Outcome.{ok}
 use Rattle.reading.specs.Reader.{many}
 use Rattle.reading.specs.Encoding.{Each}
 use Rattle.reading.proofs.Outcomes.{then-ok, judged-ok, ok-is}
-use Rattle.reading.proofs.Accepted.{many-cons, many-all}
+use Rattle.reading.proofs.Accepted.{many-cons, many-all, many-number}
 use Rattle.bits.specs.Field.{field}
 use Rattle.bits.proofs.Fields.{field-ok}
-use Rattle.numbers.proofs.Collected.{many-length}
 use Rattle.floor_class.specs.Content.{Class}
 use Rattle.floor_class.specs.Reading.{masterBook, subclassBook, class}
 use Rattle.floor_class.specs.inner.Valid.{ValidClass}
@@ -39,7 +38,7 @@ class-valid books s k {x} e =
         subclasses = omega arith;
         no-master = mf .none;
         some-master = mf .some;
-        count = many-length (subclassBook books) (2 ^ u .0 .0) s (m .0 .1) (l .0 .0) (l .1);
+        count = many-number (subclassBook books) s (2 ^ u .0 .0) (m .0 .1) (l .1);
         books = many-all (λ b. leb b 255) (subclassBook books) s (λ j y g. below-256 j (judged-ok (λ b. leb b books) 11 (field 8) s j g .0)) (2 ^ u .0 .0) (m .0 .1) (l .1);
       };
       rules = record {

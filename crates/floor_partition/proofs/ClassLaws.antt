@@ -1,15 +1,16 @@
 -- Laws of reading one value and a class value, as the code asks them. Assumes nothing.
-use Prim.Native.Nat.{ℕ, zero, suc, _+_, _-_, _*_, _%_, _^_, _≤_, _<_}
+use Prim.Native.Nat.{ℕ, _+_, _-_, _*_, _%_, _^_, _≤_, _<_}
 use native.Mathlib.Nat.{one-mul}
 use native.Mathlib.Omega.{arith}
 use borrow.Author.Tests.{eq-eqb, ne-eqb}
 use mathlib.Core.List.{List}
-use mathlib.Core.Path.{_≡_, refl, sym, _∙_}
+use mathlib.Core.Path.{_≡_, sym, _∙_}
 use lib.ListN.{getD, set, drop, length-take}
 use lib.Pow.{shl-exact}
 use Rattle.reading.specs.Outcome.{ok}
 use Rattle.reading.specs.Reader.{mapped, into1}
 use Rattle.reading.specs.inner.Table.{Table, table, putRow}
+use Rattle.reading.proofs.Basics.{other-than-zero}
 use Rattle.bits.specs.declared.Cursor.{Cursor}
 use Rattle.bits.specs.declared.Refusal.{Refusal}
 use Rattle.bits.specs.declared.Field.{Field}
@@ -50,11 +51,7 @@ module _ {books lengths codewords : List ℕ} {place : ℕ} (l : PlaceStored boo
 
   module _ (some : place ≡ 0 → ⊥) {n : ℕ} (long : n ≡ place) where
     pub value-low : 1 ≤ n
-    value-low = low n (λ z. some (sym long ∙ z))
-      where
-        low : (m : ℕ) → (m ≡ 0 → ⊥) → 1 ≤ m
-        low zero h = absurd (h refl)
-        low (suc m) h = omega arith
+    value-low = other-than-zero n (λ z. some (sym long ∙ z))
 
     pub value-stored : BookStored books lengths codewords (n - 1)
     value-stored = rw long (l .readable some .stored)

@@ -14,6 +14,7 @@ use Rattle.reading.specs.Reader.{many, each, mapped, puts, into}
 use Rattle.reading.specs.inner.Table.{Table, table, putRow}
 use Rattle.reading.proofs.Readers.{mapped-ok, mapped-bad}
 use Rattle.reading.proofs.Tables.{puts-rows, sets-append}
+use Rattle.reading.proofs.Accepted.{many-number}
 use Rattle.bits.specs.declared.Cursor.{Cursor}
 use Rattle.bits.specs.declared.Refusal.{Refusal}
 use Rattle.bits.specs.declared.Field.{Field}
@@ -27,7 +28,7 @@ use Rattle.bits.proofs.Steps.{wrote-refused, wrote-next, wrote-bad, wrote-ok}
 use Rattle.bits.proofs.Written.{wrote-through}
 use Rattle.numbers.specs.inner.Cell.{cell}
 use Rattle.floor.specs.Content.{Floor}
-use Rattle.numbers.proofs.Collected.{rows-cell, wrote-as, many-length}
+use Rattle.numbers.proofs.Collected.{rows-cell, wrote-as}
 use Rattle.floor_partition.specs.Partition.{whole}
 use Rattle.floor_values.specs.Values.{firstBits, partitionOf, usedValues, floorValues, answeredValues}
 
@@ -56,7 +57,7 @@ module _ (lengthsOf : ℕ → List ℕ) (f : Floor) (s : List ℕ) (k : Cursor) 
   used-read {k₁} q w₂ =
       let m = mapped-ok (λ l. puts (putRow cell) l (table entry 0)) (many (field (firstBits (f .multiplier))) 2 s (position k)) (wrote-ok w q) in
       let e : sets entry 0 (m .0) ≡ list = ap (sets entry 0) (sym (rows-cell (m .0))) ∙ ap (λ (t : Table). t .cells) (sym (puts-rows cell (m .0) entry 0) ∙ m .2) in
-      let n = many-length (field (firstBits (f .multiplier))) 2 s (position k) (m .0) (m .1) in
+      let n = many-number (field (firstBits (f .multiplier))) s 2 (position k) (m .1) in
       rw (m .1) (wrote-as (after entry list (m .0) e n (each (partitionOf lengthsOf f) (f .partitions) s (position k₁))) w₂)
 
 -- the list of a floor that is used

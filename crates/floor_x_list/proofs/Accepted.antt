@@ -9,10 +9,9 @@ use lib.ListN.{length}
 use Rattle.reading.specs.Outcome.{ok, refusal}
 use Rattle.reading.specs.Lists.{distinct, all}
 use Rattle.reading.proofs.Outcomes.{then-ok, need-ok, ok-is}
-use Rattle.reading.proofs.Accepted.{many-all}
+use Rattle.reading.proofs.Accepted.{many-all, many-number}
 use Rattle.bits.specs.Field.{field}
 use Rattle.bits.proofs.Fields.{field-ok}
-use Rattle.numbers.proofs.Collected.{many-length}
 use Rattle.numbers.proofs.Accepted.{field-below}
 use Rattle.floor_x_list.specs.Content.{xList}
 use Rattle.floor_x_list.specs.Reading.{xValues, Ends, endsFrom, ends}
@@ -45,7 +44,7 @@ ends-fit place n s k {x} e =
       multiplier-low = omega arith;
       multiplier-high = omega arith;
       rangebits = omega arith;
-      long = many-length (field (b .0 .0)) n s (b .0 .1) (v .0 .0) (f .1);
+      long = many-number (field (b .0 .0)) s n (b .0 .1) (f .1);
       few = f .0;
       in-range = many-all (λ x. ltb x (2 ^ b .0 .0)) (field (b .0 .0)) s (field-below (b .0 .0) s) n (b .0 .1) (f .1);
       different = d .0;

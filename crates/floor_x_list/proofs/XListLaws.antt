@@ -17,6 +17,7 @@ use Rattle.reading.specs.inner.Table.{Table, table, putRow}
 use Rattle.reading.proofs.Outcomes.{then-ok}
 use Rattle.reading.proofs.Pads.{length-pad}
 use Rattle.reading.proofs.Readers.{mapped-ok, mapped-bad}
+use Rattle.reading.proofs.Accepted.{many-number}
 use Rattle.bits.specs.declared.Cursor.{Cursor}
 use Rattle.bits.specs.declared.Refusal.{Refusal}
 use Rattle.bits.specs.declared.Field.{Field}
@@ -28,7 +29,7 @@ use Rattle.bits.specs.Field.{field}
 use Rattle.bits.proofs.Answers.{value-is, refused-is, value-below}
 use Rattle.bits.proofs.Steps.{wrote-refused, wrote-next, wrote-bad, wrote-ok}
 use Rattle.numbers.specs.inner.Cell.{cell}
-use Rattle.numbers.proofs.Collected.{Collected, gathered, many-length, rows-cell}
+use Rattle.numbers.proofs.Collected.{Collected, gathered, rows-cell}
 use Rattle.numbers.proofs.ListLaws.{take-pad}
 use Rattle.floor_x_list.specs.Reading.{xValues, ends, endsFrom}
 use Rattle.floor_x_list.specs.inner.Pieces.{EndsRead, endsRead, endsInBuffer}
@@ -89,7 +90,7 @@ module _ (place : Cursor) (n m b : ℕ) (s : List ℕ) (k : Cursor) (entry : Lis
 
   whole : {c : Cursor} → st ≡ S.Next c → Collected cell (xValues (position place) b′ n s (position k)) n c 65 (0 ∷ 2 ^ b ∷ []) l
   whole t = gathered cell (xValues (position place) b′ n s (position k)) n l₁ 2 65 (0 ∷ 2 ^ b ∷ []) two refl w
-      (λ items j g. many-length (field b′) n s (position k) items (values-ok (position place) b′ n s (position k) g .1)) t
+      (λ items j g. many-number (field b′) s n (position k) (values-ok (position place) b′ n s (position k) g .1)) t
 
   pub list-few : {c : Cursor} → st ≡ S.Next c → n ≤ 63
   list-few t = let g = whole t in values-ok (position place) b′ n s (position k) (g .read) .0

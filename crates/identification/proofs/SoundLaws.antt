@@ -20,7 +20,7 @@ use Rattle.identification.specs.Identification.{stream, bitrates, blockS
 use Rattle.identification.specs.inner.Answers.{identified}
 use Rattle.reading.specs.Lists.{listed}
 use Rattle.reading.proofs.Basics.{other-than-zero, tested-above-zero}
-use Rattle.reading.proofs.Least.{and-split}
+use Rattle.reading.proofs.Least.{and-split, true-not-false}
 use Rattle.identification.specs.Sound.{allowedSizes, Sound, isSound, AcceptedSound}
 use Rattle.identification.specs.declared.Identity.{Identity}
 use Rattle.identification.specs.declared.Identified.{Identified}
@@ -42,15 +42,12 @@ power (suc (suc (suc (suc (suc (suc zero)))))) h = refl
 power (suc (suc (suc (suc (suc (suc (suc zero))))))) h = refl
 power (suc (suc (suc (suc (suc (suc (suc (suc j)))))))) h = absurd (omega arith)
 
-clash : {b : Bool} → b ≡ false → b ≡ true → ⊥
-clash p q = let z : _≡_ {A = ℕ} 0 1 = cc in omega arith
-
 allowed : (e : ℕ) → leb 64 (2 ^ e) && leb (2 ^ e) 8192 ≡ true → listed (2 ^ e) allowedSizes ≡ true
 allowed e t = go (leb 6 e) refl (leb e 13) refl
   where
     go : (a : Bool) → leb 6 e ≡ a → (b : Bool) → leb e 13 ≡ b → listed (2 ^ e) allowedSizes ≡ true
-    go false p b q = absurd (clash (small e (leb-false 6 e p)) t)
-    go true p false q = absurd (clash (large e (leb-false e 13 q)) t)
+    go false p b q = absurd (true-not-false _ t (small e (leb-false 6 e p)))
+    go true p false q = absurd (true-not-false _ t (large e (leb-false e 13 q)))
     go true p true q =
         let l = leb-true 6 e p in
         let m = leb-true e 13 q in
@@ -166,7 +163,7 @@ module _ (most : ℕ) (i : Identity) where
   reversed e = not-sound (λ w. let h = w .in-order in omega arith)
 
   pub first-unlisted : (b : Bool) → b ≡ listed (i .blocksize0) allowedSizes → not b ≡ true → (false ≡ true) ↔ Sound most i
-  first-unlisted b p e = not-sound (λ w. clash (sym p ∙ not-true b e) (w .first-size))
+  first-unlisted b p e = not-sound (λ w. true-not-false _ (w .first-size) (sym p ∙ not-true b e))
 
   pub last-tested : (i .channels ≡ 0 → ⊥) → i .channels ≤ most → (i .rate ≡ 0 → ⊥) → i .blocksize0 ≤ i .blocksize1
       → (b : Bool) → b ≡ listed (i .blocksize0) allowedSizes → not b ≡ false

@@ -9,8 +9,9 @@ use Rattle.reading.specs.Reader.{Reader, many, puts, into}
 use Rattle.reading.specs.Lists.{rows}
 use Rattle.reading.specs.Pad.{pad}
 use Rattle.reading.specs.inner.Table.{Table, table, putRow}
-use Rattle.reading.proofs.Readers.{mapped-ok, many-long}
+use Rattle.reading.proofs.Readers.{mapped-ok}
 use Rattle.reading.proofs.Tables.{puts-rows, sets-pad, sets-append}
+use Rattle.reading.proofs.Accepted.{many-number}
 use Rattle.bits.specs.declared.Cursor.{Cursor}
 use Rattle.bits.specs.declared.Step.{Step}
 use Rattle.bits.specs.declared.Step.the-variants.{Next}
@@ -51,14 +52,11 @@ module _ {A : Type 0} (row : A → List ℕ) (o : Outcome (List A × ℕ)) (n : 
         holds = sym cells ∙ ap (λ (x : List ℕ). sets x at (rows row (m .0))) e ∙ sets-pad room (rows row (m .0)) before at a;
       }
 
-pub many-length : {A : Type 0} (r : Reader A) (n : ℕ) (s : List ℕ) (k : ℕ) (items : List A) {j : ℕ} → many r n s k ≡ ok (items, j) → length items ≡ n
-many-length r n s k items e = rw e at (many-long r n s k)
-
 -- after `many`
 pub collected : {A : Type 0} (row : A → List ℕ) (r : Reader A) (n : ℕ) (s : List ℕ) (k : ℕ) (entry : List ℕ) (at room : ℕ) (before : List ℕ) → entry ≡ pad room before → at ≡ length before
     → {st : Step} {l : List ℕ} {q : ℕ} → Wrote (into (putRow row) (many r n s k) (table entry at)) st (table l q)
     → {c : Cursor} → st ≡ Next c → Collected row (many r n s k) n c room before l
-collected row r n s k entry at room before e a w t = gathered row (many r n s k) n entry at room before e a w (λ items j g. many-length r n s k items g) t
+collected row r n s k entry at room before e a w t = gathered row (many r n s k) n entry at room before e a w (λ items j g. many-number r s n k g) t
 
 -- one run of stores and then another, as the code asks it
 pub two-runs : (entry : List ℕ) (at : ℕ) (first second : List ℕ) {n : ℕ} (middle last : List ℕ) → n ≡ at + length first → middle ≡ sets entry at first → last ≡ sets middle n second

@@ -5,8 +5,8 @@ use mathlib.Core.List.{List}
 use mathlib.Core.Path.{_≡_}
 use lib.ListN.{length, take}
 use Rattle.reading.specs.Pad.{pad}
-use Rattle.reading.proofs.Encodes.{pad-take}
+use Rattle.reading.proofs.Pads.{pad-front}
 
 -- the list itself, at the front of its buffer
 pub take-pad : (room : ℕ) (xs : List ℕ) {n : ℕ} → length xs ≡ n → n ≤ room → take n (pad room xs) ≡ xs
-take-pad room xs {n} e h = rw (← e) (pad-take xs room (omega arith))
+take-pad room xs {n} e h = rw (← e) (pad-front room xs (omega arith))

@@ -1,35 +1,29 @@
 -- Laws of buffers that are the writing-out of items: of a row of a given width, one row at a time, as a loop over the rows asks them; what a
 -- place of such a buffer holds; that no other items share it. Assumes nothing.
 use Prim.Native.Nat.{ℕ, zero, suc, _+_, _-_, _*_, _≤_, _<_}
-use native.Mathlib.Nat.{add-zero, sub-zero, mul-zero, mul-suc, add-comm, mul-le-mul-left}
+use native.Mathlib.Nat.{sub-zero, mul-zero, mul-suc, add-comm, mul-le-mul-left}
 use native.Mathlib.Numerals.{add-one}
 use native.Mathlib.Omega.{arith}
 use borrow.Author.Needs.{needs}
 use borrow.Author.Tests.{eqb-true, eq-eqb, not-true, not-false}
 use mathlib.Core.Bool.{Bool, true, false, not}
-use mathlib.Core.List.{List, [], _∷_, _++_, append-nil}
+use mathlib.Core.List.{List, [], _∷_, _++_}
 use mathlib.Core.Logic.{_↔_}
 use mathlib.Core.Path.{_≡_, refl, sym, ap, subst, _∙_}
 use lib.Bits.{bitOr, or-zero-l, or-add-and, and-le-l, and-le-r}
 use lib.Dec.{eqb}
-use lib.ListN.{length, getD, take, drop, replicate, length-append, length-drop, length-replicate, take-append-drop, drop-of-length-le, List·getD-append}
+use lib.ListN.{length, getD, take, drop, replicate, length-append, length-drop, take-append-drop, drop-of-length-le, List·getD-append}
 use lib.Seq.{drop-cons, take-at, drop-at, drop-drop, getD-append-add}
 use Rattle.reading.specs.Lists.{rows}
 use Rattle.reading.specs.Pad.{pad}
 use Rattle.reading.specs.Encoding.{Zeros, Each, RowOf, Encodes}
-use Rattle.reading.proofs.Pads.{pad-nil, pad-get, length-pad}
+use Rattle.reading.proofs.Pads.{pad-nil, pad-get, length-pad, pad-front}
 
 -- what fits stands whole in front of what follows it
 pub pad-append : (xs ys : List ℕ) (n : ℕ) → pad (length xs + n) (xs ++ ys) ≡ xs ++ pad n ys
 unfolding pad
 pad-append [] ys n = ap (λ (m : ℕ). pad m ys) (let e : 0 + n ≡ n = omega arith in e)
 pad-append (x ∷ xs) ys n = let e : suc (length xs) + n ≡ suc (length xs + n) = omega arith in rw e (ap (λ (l : List ℕ). x ∷ l) (pad-append xs ys n))
-
-pub pad-take : (xs : List ℕ) (n : ℕ) → length xs ≤ n → take (length xs) (pad n xs) ≡ xs
-pad-take xs n h =
-    let e : n ≡ length xs + (n - length xs) = omega arith in
-    let f : pad n xs ≡ xs ++ pad (n - length xs) [] = ap (λ (m : ℕ). pad m xs) e ∙ ap (pad (length xs + (n - length xs))) (sym (append-nil xs)) ∙ pad-append xs [] (n - length xs) in
-    ap (take (length xs)) f ∙ take-at xs _ (length xs) refl
 
 -- an answer that is false, and one that says the same as another
 pub iff-false : {P : Type 0} → (P → ⊥) → (false ≡ true) ↔ P
@@ -256,4 +250,4 @@ module _ {A : Type 0} (row : A → List ℕ) (Valid : A → Type 0) where
           whole : (s : Encodes row Valid n cells) → take (w * n) cells ≡ rows row (s .items)
           whole s =
               let e : length (rows row (s .items)) ≡ w * n = rows-length (s .items) ∙ ap (λ (k : ℕ). w * k) (s .number) in
-              ap (take (w * n)) (s .written) ∙ rw (← e) (pad-take (rows row (s .items)) (length cells) (s .fits))
+              ap (take (w * n)) (s .written) ∙ rw (← e) (pad-front (length cells) (rows row (s .items)) (s .fits))

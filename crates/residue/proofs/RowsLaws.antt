@@ -2,7 +2,7 @@
 use Prim.Native.Nat.{ℕ, zero, suc, _+_, _*_, _≤_, _<_}
 use native.Mathlib.Numerals.{add-one}
 use native.Mathlib.Omega.{arith}
-use mathlib.Core.Bool.{Bool, true, false, _&&_}
+use mathlib.Core.Bool.{Bool, _&&_, and-assoc}
 use mathlib.Core.List.{List, [], _∷_, _++_, append-assoc, append-nil}
 use mathlib.Core.Path.{_≡_, refl, sym, ap, _∙_}
 use lib.ListN.{length, getD, take, length-append}
@@ -21,11 +21,7 @@ row-long (x ∷ l) (suc i) r h = row-long l i (r .1) (omega arith)
 pub all-append : (f : ℕ → Bool) (xs ys : List ℕ) → all f (xs ++ ys) ≡ all f xs && all f ys
 unfolding all
 all-append f [] ys = refl
-all-append f (x ∷ xs) ys = ap (λ (b : Bool). f x && b) (all-append f xs ys) ∙ and-assoc (f x) (all f xs) (all f ys)
-  where
-    and-assoc : (a b c : Bool) → a && (b && c) ≡ (a && b) && c
-    and-assoc true b c = refl
-    and-assoc false b c = refl
+all-append f (x ∷ xs) ys = ap (λ (b : Bool). f x && b) (all-append f xs ys) ∙ sym (and-assoc (f x) (all f xs) (all f ys))
 
 pub rows-append : (xs ys : List (List ℕ)) → rows (λ row. row) (xs ++ ys) ≡ rows (λ row. row) xs ++ rows (λ row. row) ys
 unfolding rows

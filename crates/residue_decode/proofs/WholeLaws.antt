@@ -201,8 +201,4 @@ module _ {books lengths codewords plans : List ℕ} {n : ℕ} {h : Head} {digits
           let y = sofar-next (sofar-start room) (λ cs m. laterPassesRun books lengths plans n h 1 7 cs s m) residue-joined x q in
           sofar-last (y .2) (rw (found-again (y .0) (y .1) .0) w)
 
-pub live-some : {live : ℕ} → (live ≡ 0 → ⊥) → 1 ≤ live
-live-some {live = zero} f = absurd (f refl)
-live-some {live = suc n} f = omega arith
-
 pub ruleset passed = (needs, classes-few, passes-start, passes-fits, passes-class-words, passes-few, passes-done, passes-cut, passes-full, passes-next)

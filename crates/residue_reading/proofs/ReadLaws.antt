@@ -2,7 +2,7 @@
 use Prim.Native.Nat.{ℕ, zero, suc, _+_, _-_, _*_, _≤_, _<_}
 use native.Mathlib.Omega.{arith}
 use borrow.Author.Tests.{not-true, not-false}
-use mathlib.Core.Bool.{Bool, true, false, not, _&&_}
+use mathlib.Core.Bool.{Bool, true, false, not, _&&_, and-assoc}
 use mathlib.Core.List.{List, [], _∷_, _++_}
 use mathlib.Core.Path.{_≡_, refl, sym, ap, _∙_}
 use lib.Dec.{leb}
@@ -78,11 +78,7 @@ pub record Planning (s : List ℕ) (count classes : ℕ) (cascades : List ℕ) (
 fits-halves : (count : ℕ) (t : List ℕ) (h : Head) (p : List (List ℕ))
     → residueFits (booksOf count t) (withPlan h p) ≡ headFits (booksOf 0 t) h && all (placeFits (booksOf 0 t) (h .size)) (rows (λ row. row) p)
 unfolding residueFits placeFits
-fits-halves count t h p = assoc (leb (h .begin) (h .end)) _ _
-  where
-    assoc : (a b c : Bool) → a && (b && c) ≡ (a && b) && c
-    assoc true b c = refl
-    assoc false b c = refl
+fits-halves count t h p = sym (and-assoc (leb (h .begin) (h .end)) _ _)
 
 module _ (s : List ℕ) (count classes : ℕ) (cascades : List ℕ) (k₀ : Cursor) where
   pub planning-start : Planning s count classes cascades k₀ (replicate 64 (replicate 8 0)) k₀ 0

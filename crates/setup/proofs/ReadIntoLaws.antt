@@ -1,27 +1,25 @@
 -- Laws of functions that read a content and lay it into cleared tables: what an answer says of the definition, how an answer is shown, and the
 -- tables of a section's items. Assumes nothing.
-use Prim.Native.Nat.{ℕ, _+_, _*_, _≤_, _<_}
-use native.Mathlib.Nat.{zero-add}
+use Prim.Native.Nat.{ℕ}
 use native.Mathlib.Omega.{arith}
 use mathlib.Core.List.{List}
 use mathlib.Core.Path.{_≡_, refl, sym, ap, subst, _∙_}
-use lib.ListN.{length, replicate}
+use lib.ListN.{length}
 use lib.Seq.{sets}
 use Rattle.reading.specs.Outcome.{Outcome, ok, bad, then}
-use Rattle.reading.specs.Reader.{Reader, many, mapped, puts, into}
+use Rattle.reading.specs.Reader.{mapped, puts, into}
 use Rattle.reading.specs.Lists.{rows}
 use Rattle.reading.specs.Pad.{pad}
 use Rattle.reading.specs.Encoding.{Zeros}
 use Rattle.reading.specs.inner.Table.{Table, table, putRow}
 use Rattle.reading.proofs.Outcomes.{same-ok}
-use Rattle.reading.proofs.Readers.{Long, many-long}
 use Rattle.reading.proofs.Tables.{puts-rows, sets-cleared}
 use Rattle.bits.specs.declared.Cursor.{Cursor}
 use Rattle.bits.specs.declared.Refusal.{Refusal}
 use Rattle.bits.specs.declared.Step.{Step}
 use Rattle.bits.specs.declared.Step.the-variants.{Next, Refused}
 use Rattle.bits.specs.inner.Cursors.{position, refusalOf, stepped, Wrote}
-use Rattle.setup.specs.inner.Parts.{ReadInto, RowsStored}
+use Rattle.setup.specs.inner.Parts.{ReadInto}
 
 module _ {C : Type 0} {o : Outcome (C × ℕ)} {Stored : C → Type 0} where
   -- what an answer says
@@ -64,10 +62,6 @@ read-into-wrote {C} {T} f o {r} {t} {Stored} w stored = go o refl w
           stored = λ y g. let p : x ≡ y = cc in subst (λ (z : C × ℕ). Stored (z .0)) p (stored (x .0) (x .1) e (v .value (f (x .0), x .1) refl));
         }
     go (bad z) e v = record { step = v .step; stored = λ y g. let n : _≡_ {A = ℕ} 0 1 = cc in absurd (omega arith) }
-
--- as many items as were asked for
-pub many-counted : {A : Type 0} (r : Reader A) (n : ℕ) (s : List ℕ) (k : ℕ) {l : List A} {j : ℕ} → many r n s k ≡ ok (l, j) → length l ≡ n
-many-counted r n s k e = subst (Long n) e (many-long r n s k)
 
 -- rows put into a cleared table
 pub rows-stored : {A : Type 0} (row : A → List ℕ) (items : List A) (entry : List ℕ) {exit : List ℕ} {m : ℕ} → Zeros entry

@@ -6,8 +6,8 @@ use mathlib.Core.Bool.{Bool, true, false, not}
 use mathlib.Core.List.{List}
 use mathlib.Core.Logic.{_↔_}
 use mathlib.Core.Path.{_≡_, refl, sym, _∙_}
-use Rattle.reading.specs.Outcome as O
-use Rattle.reading.specs.Outcome.{refusal, Outcome, ok, bad, then, need}
+use Rattle.reading.specs.Outcome.{refusal, bad, then, need}
+use Rattle.reading.proofs.Outcomes.{need-ok}
 use Rattle.bits.specs.declared.Cursor.{Cursor}
 use Rattle.bits.specs.declared.Refusal.{Refusal}
 use Rattle.bits.specs.declared.Step.{Step}
@@ -55,10 +55,6 @@ checked-whole limits i s t = go (isSound (limits .channels) i) (hasRoom limits t
     go true false = refl
     go true true = refl
 
-held : {A : Type 0} (x : Bool) (z : O.Refusal) (o : Outcome A) {a : A} → need x z o ≡ ok a → (x ≡ true) × (o ≡ ok a)
-held true z o e = (refl, e)
-held false z o e = let n : _≡_ {A = ℕ} 0 1 = cc in absurd (omega arith)
-
 module _ (limits : Limits) (i : Identity) (s : List ℕ) (t : Tables) {room : Bool} {st : Step} (e : room ≡ hasRoom limits t) (h : stepped st ≡ begun limits i room s) where
   pub checked-refused : {z : Refusal} {L : Setup → Type 0} → st ≡ Refused z → ReadInto (checkedPart limits i s t) (Refused z) L
   checked-refused q = read-into-refused (rw (checked-whole limits i s t, ← e, stop-is h q) refl)
@@ -69,8 +65,8 @@ module _ (limits : Limits) (i : Identity) (s : List ℕ) (t : Tables) {room : Bo
   pub content-ready : {c : Cursor} → Small limits → st ≡ Next c → (hasRoom limits t ≡ true) × Small limits × (1 ≤ i .channels) × (i .channels ≤ 255)
   unfolding begun
   content-ready {c} small q =
-      let a = held (isSound (limits .channels) i) (refusal 18 0) (need room (refusal 17 0) (commonHeader 5 s)) (next-is h q) in
-      let b = held room (refusal 17 0) (commonHeader 5 s) (a .1) in
+      let a = need-ok (isSound (limits .channels) i) (refusal 18 0) (need room (refusal 17 0) (commonHeader 5 s)) (next-is h q) in
+      let b = need-ok room (refusal 17 0) (commonHeader 5 s) (a .1) in
       let w = sound-test (limits .channels) i .0 (a .0) in
       let few : i .channels ≤ limits .channels = w .few-channels in
       let most = small .few-channels in

@@ -13,6 +13,7 @@ use Rattle.reading.specs.Lists.{rows}
 use Rattle.reading.specs.Pad.{pad}
 use Rattle.reading.specs.Encoding.{Zeros}
 use Rattle.reading.specs.inner.Table.{Table, table, putRow}
+use Rattle.reading.proofs.Accepted.{many-number}
 use Rattle.bits.specs.declared.Cursor.{Cursor}
 use Rattle.bits.specs.declared.Refusal.{Refusal}
 use Rattle.bits.specs.declared.Field.{Field}
@@ -38,7 +39,7 @@ use Rattle.residue.specs.Layout as R
 use Rattle.residue.specs.inner.Plans.{tablesAt}
 use Rattle.setup.specs.Reading.{bookSection, section, timeValue}
 use Rattle.setup.specs.inner.Parts.{ReadInto, RowsStored, BooksStored, ResiduesStored, ClearedBookBuffers}
-use Rattle.setup.proofs.ReadIntoLaws.{read-into-refused, read-into-wrote, many-counted, rows-stored}
+use Rattle.setup.proofs.ReadIntoLaws.{read-into-refused, read-into-wrote, rows-stored}
 
 -- a count less one, of 6 bits and of 8
 module _ (s : List ℕ) (k : Cursor) {r : Field} {v : ℕ} {c : Cursor} where
@@ -70,7 +71,7 @@ module _ {A : Type 0} (row : A → List ℕ) (item : Reader A) (s : List ℕ) (k
   section-read {v} {n} {m} {c} {st} {entry} {exit} q e z w =
       rw (value-is p q, ← e)
       (read-into-wrote (λ l. puts (putRow row) l (table entry 0)) (many item n s (position c)) w
-      (λ a j f g. record { count = sym (many-counted item n s (position c) f); cells = rows-stored row a entry z g }))
+      (λ a j f g. record { count = sym (many-number item s n (position c) f); cells = rows-stored row a entry z g }))
 
 -- the books
 abbrev none : Before
@@ -128,7 +129,7 @@ module _ (item : Reader Residue) (s : List ℕ) (k : Cursor) {r : Field} (p : ou
       let d : record { heads = puts (putRow headRow) a (table h 0); plans = puts (putRow planTable) a (table t 0) } ≡ tablesAt h′ t′ n
       = sym (puts-residues a (table h 0) (table t 0)) ∙ g in
       record {
-        count = sym (many-counted item n s (position c) f);
+        count = sym (many-number item s n (position c) f);
         residues = rows-stored headRow a h y (ap (λ (x : R.Tables). x .heads) d);
         plans = rows-stored planTable a t z (ap (λ (x : R.Tables). x .plans) d);
       }))

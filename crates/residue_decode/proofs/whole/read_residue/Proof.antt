@@ -1,6 +1,7 @@
 use borrow.Author.Needs.{needs}
+use Rattle.reading.proofs.Basics.{other-than-zero}
 use Rattle.codeword_list.proofs.Laws.{read-room}
-use Rattle.residue_decode.proofs.WholeLaws.{residue-none, residue-cut, residue-full, residue-class-words, residue-then, live-some}
+use Rattle.residue_decode.proofs.WholeLaws.{residue-none, residue-cut, residue-full, residue-class-words, residue-then}
 use Rattle.residue_decode.proofs.whole.read_residue.Statement.{statement}
 use Rattle.residue_decode.proofs.whole.read_residue.Tie as tie
 use Rattle.residue_decode.proofs.whole.read_residue.Reads as reads
@@ -27,7 +28,7 @@ later-passes-requires c κs =
     let a = c .before .before .before .before .before .before .before .before .before .before .before .before .before .before .before .args in
     let x = c .before .before .before .before .before .before .first-pass .ensures in
     let q = c .before .before .progress .given .1 in
-    (read-room x q, p .1, live-some (search needs), residue-class-words (p .1) (a .packet .now) (a .live) (a .partitions) (a .from) (a .out .now) (p .0) x (search needs) q)
+    (read-room x q, p .1, other-than-zero _ (search needs), residue-class-words (p .1) (a .packet .now) (a .live) (a .partitions) (a .from) (a .out .now) (p .0) x (search needs) q)
 
 -- src/whole.rt:129:23
 enum-known-progress-2 : tie.Need-enum-known-progress-2
