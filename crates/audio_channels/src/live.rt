@@ -75,6 +75,7 @@ fn sweep(flags: [u8; 255], channels: u32, mappings: &[u8], mapping: usize) -> [u
     live
 }
 
+// The live channels: those whose floor is used, swept once.
 pub fn live_channels(used: &[u8], channels: u32, mappings: &[u8], mapping: usize) -> [u8; 255]
     requires { ⌜ (length (now used) ≡ 255) × (channels ≤ 255) × MappingReadable channels (now mappings) mapping ⌝ }
     ensures { λ r. ⌜ r ≡ liveBytes (coupled (mappingIn (now (mappings .entry)) mapping .couplings) (usedBools channels (now (used .entry)))) ⌝ }
