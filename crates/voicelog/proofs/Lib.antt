@@ -1,0 +1,4 @@
+pub mod ReportLaws
+pub mod FrontLaws
+pub mod TakingLaws
+pub mod LastLaws
