@@ -17,7 +17,7 @@ pub struct Got {
     pub more: usize,
 }
 
-// Makes room behind the bytes that are left. They are moved to the front only where the buffer is full, so that many small reads cost no more than they have to.
+// Makes room behind the bytes that are left. They are moved to the front only where the buffer is full: many small reads cost no more than they have to.
 pub fn make_room(input: &mut [u8], from: usize, to: usize) -> Span
     requires { ⌜ (from ≤ to) × (to ≤ length (now input)) × (to < from + length (now input)) ⌝ }
     ensures { λ r. ⌜ RoomMade (now (input .entry)) from to r (now (input .exit)) ⌝ }

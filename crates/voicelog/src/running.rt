@@ -1,5 +1,5 @@
-// The run: records are taken, their lines are written, more is read, until the input ends. Its status is 0 where the input was read to its end, 1 where standard
-// output failed, 2 where standard input failed, 3 where there are more records than can be counted.
+// The run: records are taken, their lines are written, more is read, until the input ends. Its status is 0 where the input was read to its end,
+// 1 where standard output failed, 2 where standard input failed, 3 where there are more records than can be counted.
 use crate::feeding::make_room;
 use crate::feeding::read_more;
 use crate::taking::MOST_RECORDS;
@@ -42,7 +42,8 @@ pub fn run(
     input: &mut [u8],
     lines: &mut [u8],
 ) -> u32
-    requires { ⌜ Lent (lentTables counts books lengths codewords multiplicands floors residues plans mappings modes) (now curves) (now words) (now input) (now lines) ⌝ }
+    requires { ⌜ Lent (lentTables counts books lengths codewords multiplicands floors residues plans mappings modes)
+        (now curves) (now words) (now input) (now lines) ⌝ }
 {
     let mut at = start();
     let mut to: usize = 0;

@@ -69,7 +69,8 @@ pub fn take_records(
     requires { ⌜ KeptTables (progress .kept) (lentTables counts books lengths codewords multiplicands floors residues plans mappings modes)
         × KeptOutputs (progress .kept) (now curves) (now words) ⌝ }
     requires { ⌜ Room progress (now input) (now lines) ⌝ }
-    ensures { λ r. ⌜ Taken progress (handed counts books lengths codewords multiplicands floors residues plans mappings modes) (now (input .entry)) (now (lines .entry))
+    ensures { λ r. ⌜ Taken progress (handed counts books lengths codewords multiplicands floors residues plans mappings modes)
+        (now (input .entry)) (now (lines .entry))
         r (leftIn counts books lengths codewords multiplicands floors residues plans mappings modes) (now (lines .exit)) ⌝ }
     ensures { λ r. ⌜ KeptTables (r .kept) (leftIn counts books lengths codewords multiplicands floors residues plans mappings modes)
         × KeptOutputs (r .kept) (now (curves .exit)) (now (words .exit)) ⌝ }
@@ -139,7 +140,8 @@ fn take_record(
     requires { ⌜ KeptTables (progress .kept) (lentTables counts books lengths codewords multiplicands floors residues plans mappings modes)
         × KeptOutputs (progress .kept) (now curves) (now words) ⌝ }
     requires { ⌜ Room progress (now input) (now lines) ⌝ }
-    ensures { λ r. ⌜ Taken progress (handed counts books lengths codewords multiplicands floors residues plans mappings modes) (now (input .entry)) (now (lines .entry))
+    ensures { λ r. ⌜ Taken progress (handed counts books lengths codewords multiplicands floors residues plans mappings modes)
+        (now (input .entry)) (now (lines .entry))
         r (leftIn counts books lengths codewords multiplicands floors residues plans mappings modes) (now (lines .exit)) ⌝ }
     ensures { λ r. ⌜ KeptTables (r .kept) (leftIn counts books lengths codewords multiplicands floors residues plans mappings modes)
         × KeptOutputs (r .kept) (now (curves .exit)) (now (words .exit)) ⌝ }
@@ -258,7 +260,8 @@ fn take_whole(
     requires { ⌜ KeptTables (progress .kept) (lentTables counts books lengths codewords multiplicands floors residues plans mappings modes)
         × KeptOutputs (progress .kept) (now curves) (now words) ⌝ }
     requires { ⌜ Room progress (now input) (now lines) × (progress .skip ≡ 0) × (Whole kind length ≡ front (drop (progress .from) (now input))) ⌝ }
-    ensures { λ r. ⌜ Taken progress (handed counts books lengths codewords multiplicands floors residues plans mappings modes) (now (input .entry)) (now (lines .entry))
+    ensures { λ r. ⌜ Taken progress (handed counts books lengths codewords multiplicands floors residues plans mappings modes)
+        (now (input .entry)) (now (lines .entry))
         r (leftIn counts books lengths codewords multiplicands floors residues plans mappings modes) (now (lines .exit)) ⌝ }
     ensures { λ r. ⌜ KeptTables (r .kept) (leftIn counts books lengths codewords multiplicands floors residues plans mappings modes)
         × KeptOutputs (r .kept) (now (curves .exit)) (now (words .exit)) ⌝ }

@@ -15,16 +15,18 @@ use Rattle.record_step.specs.inner.Kept.{streamOf, StartsWith}
 use Rattle.voicelog.specs.Report.{report}
 use Rattle.record_lines.specs.Lines.{tornLine, endLine}
 use Rattle.voicelog.specs.inner.Progress.{linesLeft}
+use Rattle.voicelog.specs.inner.Session.{Session}
 use Rattle.voicelog.specs.declared.taking.Progress.{Progress}
 
 -- the greatest number of records that the program takes: one more can still be named in a line
 abbrev pub mostRecords : ℕ
 mostRecords = 18446744073709551614
 
--- before the first record: what is left to write is the whole output
+-- before the first record: what is left to write is the whole output, and a run from here puts it, in whatever pieces the input comes
 pub record Starts (p : Progress) : Type 0 where
   pub kept : StartsWith (p .kept)
   pub all : (t : Tables) (s : List ℕ) → linesLeft (p .skip) (streamOf (p .kept) t) (p .number) s ≡ report s
+  pub whole : (t : Tables) (come out : List ℕ) → Session (p .skip) (streamOf (p .kept) t) (p .number) [] come out → out ≡ report come
   pub number : p .number ≡ 0
   pub from : p .from ≡ 0
   pub ends : p .«lines_end» ≡ 0
