@@ -2,16 +2,15 @@
 use Prim.Native.Nat.{ℕ, _+_, _-_, _≤_, _<_}
 use native.Mathlib.Omega.{arith}
 use mathlib.Core.Bool.{Bool, true, false}
-use mathlib.Core.List.{List, [], _++_}
+use mathlib.Core.List.{List, _++_}
 use mathlib.Core.Logic.{_⊎_, inl, inr, ⊎-elim}
 use mathlib.Core.Path.{_≡_, refl, sym, _∙_, ap}
 use lib.ListN.{length, take, drop, length-drop}
-use lib.Seq.{length-take-le}
+use lib.Seq.{length-take-le, take-add, drop-append-le}
 use Rattle.reading.proofs.Least.{true-not-false}
 use Rattle.setup.specs.Layout.{Tables}
 use Rattle.records.specs.declared.Front.the-variants.{Partial}
 use Rattle.records.specs.inner.Fronts.{front}
-use Rattle.record_step.specs.declared.Kept.{Kept}
 use Rattle.record_step.specs.inner.Kept.{KeptTables, KeptOutputs}
 use Rattle.voicelog.specs.inner.Taken.{mostRecords, Starts, Room, Needs, Stands, LastRoom}
 use Rattle.voicelog.specs.inner.Fed.{RoomMade, Reads, goesOn, Stopped, Turned}
@@ -22,29 +21,39 @@ use Rattle.voicelog.proofs.FrontLaws.{partial-of}
 use Rattle.voicelog.proofs.TakingLaws.{SameLengths}
 
 -- the run ends
-pub stopped-turned : {p : Progress} {status turns : ℕ} {r : Turn} {input lines : List ℕ} → Stopped p status r → Turned (p .kept) turns r input lines
-stopped-turned {p} {status} {turns} {r} w =
+pub stopped-turned : {p : Progress} {to status turns : ℕ} {r : Turn} {input input′ lines : List ℕ} → Stopped p status r → Turned p to turns input r input′ lines
+stopped-turned {p} {to} {status} {turns} {r} w =
     record {
       same = ap (λ (q : Progress). q .kept) (w .progress);
       more = λ e. absurd (true-not-false (r .done) (w .done) e);
       inside = λ e. absurd (true-not-false (r .done) (w .done) e);
       room = λ e. absurd (true-not-false (r .done) (w .done) e);
+      continues = λ e. absurd (true-not-false (r .done) (w .done) e);
     }
 
 -- the run goes on
-pub going-turned : (p : Progress) {from to turns : ℕ} {r : Turn} {input lines : List ℕ} → r ≡ goesOn p from to → 0 < turns → from ≤ to → to ≤ length input
-    → p .number < mostRecords → length lines ≡ 65536 → Turned (p .kept) turns r input lines
-going-turned p {from} {to} {turns} {r} {input} {lines} e t h g n l =
-    let k = length-take-le to input g in
+pub going-turned : (p : Progress) {to from end turns : ℕ} {r : Turn} {input input′ lines : List ℕ} (bytes : List ℕ) → r ≡ goesOn p from end → 0 < turns → from ≤ end → end ≤ length input′
+    → p .number < mostRecords → length lines ≡ 65536 → drop from (take end input′) ≡ drop (p .from) (take to input) ++ bytes → Turned p to turns input r input′ lines
+going-turned p {to} {from} {end} {turns} {r} {input} {input′} {lines} bytes e t h g n l same =
+    let k = length-take-le end input′ g in
     rw e (record {
       same = refl;
       more = λ f. t;
       inside = λ f. g;
       room = λ f. record { inside = omega (arith, k, h); line = omega (arith, l); number = n };
+      continues = λ f. record { bytes = bytes; left = same; skip = refl; number = refl };
     })
 
-pub turned-more : {k : Kept} {n : ℕ} {r : Turn} {input lines : List ℕ} → 0 < n → Turned k 1 r input lines → Turned k n r input lines
-turned-more h w = record { same = w .same; more = λ f. h; inside = w .inside; room = w .room }
+pub turned-more : {p : Progress} {to n : ℕ} {r : Turn} {input input′ lines : List ℕ} → 0 < n → Turned p to 1 input r input′ lines → Turned p to n input r input′ lines
+turned-more h w = record { same = w .same; more = λ f. h; inside = w .inside; room = w .room; continues = w .continues }
+
+-- a read adds bytes behind those that are left
+pub read-behind : (from end more : ℕ) (l l′ : List ℕ) {left : List ℕ} → from ≤ end → end ≤ length l → take end l ≡ take end l′ → drop from (take end l′) ≡ left
+    → drop from (take (end + more) l) ≡ left ++ take more (drop end l)
+read-behind from end more l l′ o h e s =
+    let k = length-take-le end l h in
+    ap (drop from) (take-add end more l) ∙ drop-append-le from (take end l) (take more (drop end l)) (omega (arith, k, o))
+    ∙ ap (λ (w : List ℕ). w ++ take more (drop end l)) (ap (drop from) e ∙ s)
 
 module _ {p : Progress} {to : ℕ} {input lines : List ℕ} (w : Reads p to input lines) where
   pub reads-order : p .from ≤ to

@@ -87,7 +87,7 @@ fn after_records(
     lines: &mut [u8],
 ) -> Turn
     requires { ⌜ Reads progress to (now input) (now lines) ⌝ }
-    ensures { λ r. ⌜ Turned (progress .kept) turns r (now (input .exit)) (now (lines .exit)) ⌝ }
+    ensures { λ r. ⌜ Turned progress to turns (now (input .entry)) r (now (input .exit)) (now (lines .exit)) ⌝ }
 {
     let end = progress.lines_end;
     if !io::write_all(libc::STDOUT_FILENO, &lines[..end]) {
@@ -108,7 +108,7 @@ fn after_records(
 // Reads more of the input, behind the bytes that are left; at its end, the last lines are written.
 fn read_on(progress: Progress, to: usize, input: &mut [u8], lines: &mut [u8]) -> Turn
     requires { ⌜ Reads progress to (now input) (now lines) × (progress .waiting ≡ true) × (progress .number < 18446744073709551614) ⌝ }
-    ensures { λ r. ⌜ Turned (progress .kept) 1 r (now (input .exit)) (now (lines .exit)) ⌝ }
+    ensures { λ r. ⌜ Turned progress to 1 (now (input .entry)) r (now (input .exit)) (now (lines .exit)) ⌝ }
 {
     let start = progress.from;
     let span = make_room(input, start, to);

@@ -6,7 +6,6 @@ use mathlib.Core.Path.{_≡_}
 use lib.ListN.{length, take, drop}
 use Rattle.limits.specs.Standard.{standard}
 use Rattle.setup.specs.Layout.{Tables, hasRoom}
-use Rattle.record_step.specs.declared.Kept.{Kept}
 use Rattle.voicelog.specs.inner.Taken.{Room, Stands}
 use Rattle.voicelog.specs.declared.feeding.Span.{Span}
 use Rattle.voicelog.specs.declared.running.Turn.{Turn}
@@ -54,9 +53,17 @@ pub record Stopped (p : Progress) (status : ℕ) (r : Turn) : Type 0 where
   pub done : r .done ≡ true
   pub status-is : r .status ≡ status
 
+-- the run has come as far as before, and the bytes that are left are those that were left, with what was read behind them
+pub record Continues (p : Progress) (to : ℕ) (input : List ℕ) (r : Turn) (input′ : List ℕ) : Type 0 where
+  pub bytes : List ℕ
+  pub left : drop (r .progress .from) (take (r .to) input′) ≡ drop (p .from) (take to input) ++ bytes
+  pub skip : r .progress .skip ≡ p .skip
+  pub number : r .progress .number ≡ p .number
+
 -- a turn keeps what is kept; where the run goes on, there was a turn left, and a record may be taken
-pub record Turned (kept : Kept) (turns : ℕ) (r : Turn) (input lines : List ℕ) : Type 0 where
-  pub same : r .progress .kept ≡ kept
+pub record Turned (p : Progress) (to turns : ℕ) (input : List ℕ) (r : Turn) (input′ lines′ : List ℕ) : Type 0 where
+  pub same : r .progress .kept ≡ p .kept
   pub more : r .done ≡ false → 0 < turns
-  pub inside : r .done ≡ false → r .to ≤ length input
-  pub room : r .done ≡ false → Room (r .progress) (take (r .to) input) lines
+  pub inside : r .done ≡ false → r .to ≤ length input′
+  pub room : r .done ≡ false → Room (r .progress) (take (r .to) input′) lines′
+  pub continues : r .done ≡ false → Continues p to input r input′

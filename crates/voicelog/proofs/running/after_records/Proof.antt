@@ -2,7 +2,8 @@
 use native.Mathlib.Omega.{arith}
 use mathlib.Core.Path.{sym}
 use lib.Seq.{length-take-le}
-use Rattle.voicelog.proofs.RunningLaws.{reads-order, stopped-turned, going-turned}
+use Rattle.voicelog.proofs.RunningLaws.{reads-order, stopped-turned, going-turned, turned-more}
+use mathlib.Core.List.{[], append-nil}
 use borrow.Author.Needs.{needs}
 use Rattle.voicelog.proofs.running.after_records.Statement.{statement}
 use Rattle.voicelog.proofs.running.after_records.Tie as tie
@@ -53,7 +54,7 @@ same-length-5 : tie.Need-same-length-5
 same-length-5 c = search needs
 
 returns-4 : tie.Need-returns-4
-returns-4 c = search needs
+returns-4 c = let h = c .before .before .before .before .before .before .before .before .before .before .if2 .left in turned-more (omega arith) (c .before .before .before .before .read-on .ensures)
 
 going-requires : tie.Need-going-requires
 going-requires c κs = search needs
@@ -66,7 +67,9 @@ returns-5 c =
     let at-if3 = c .before .before in
     let at-if2 = at-if3 .before .before in
     let at-args = at-if2 .before .before .before .before .before .before in
-    let h = at-if2 .if2 .left in going-turned (at-args .args .progress) (c .going .ensures) (omega arith) (reads-order (at-args .pre)) (at-args .pre .inside) (at-if3 .if3 .left) (at-args .pre .of-lines)
+    let h = at-if2 .if2 .left in
+    going-turned (at-args .args .progress) [] (c .going .ensures) (omega arith) (reads-order (at-args .pre)) (at-args .pre .inside) (at-if3 .if3 .left)
+    (at-args .pre .of-lines) (sym (append-nil _))
 
 pub after-records-spec : {M : Type 1} → statement M
 after-records-spec =

@@ -3,7 +3,8 @@ use native.Mathlib.Omega.{arith}
 use mathlib.Core.Path.{sym, _∙_}
 use lib.Seq.{length-take-le}
 use Rattle.voicelog.proofs.FeedingLaws.{still-lt}
-use Rattle.voicelog.proofs.RunningLaws.{reads-room, reads-last, stopped-turned, going-turned}
+use Rattle.voicelog.proofs.RunningLaws.{reads-room, reads-last, stopped-turned, going-turned, read-behind}
+use lib.ListN.{take, drop}
 use borrow.Author.Needs.{needs}
 use Rattle.voicelog.proofs.running.read_on.Statement.{statement}
 use Rattle.voicelog.proofs.running.read_on.Tie as tie
@@ -41,7 +42,14 @@ returns-2 c =
     let o = at-make-room .make-room .ensures .order in
     let m = at-read-more .read-more .ensures .1 in
     let i = at-input2 .input2 .given in
-    going-turned (at-args .args .progress) (c .going .ensures) (omega arith) (omega (arith, o)) (omega (arith, m, i)) (at-args .pre .2) (at-args .pre .0 .of-lines)
+    let span = at-make-room .make-room .result in
+    let h = at-make-room .make-room .ensures .room in
+    let before-it = at-make-room .make-room .last .0 in
+    let behind-it = at-read-more .read-more .last .0 in
+    let more = at-read-more .read-more .result .more in
+    going-turned (at-args .args .progress) (take more (drop (span .to) behind-it)) (c .going .ensures) (omega arith) (omega (arith, o)) (omega (arith, m, i)) (at-args .pre .2)
+    (at-args .pre .0 .of-lines)
+    (read-behind (span .from) (span .to) more behind-it before-it o (omega (arith, h, i)) (at-read-more .read-more .ensures .0) (at-make-room .make-room .ensures .same))
 
 going-requires-2 : tie.Need-going-requires-2
 going-requires-2 c κs = search needs
