@@ -13,10 +13,10 @@ use Rattle.record_step.specs.Step.{Stream, noStream, step}
 unfoldable pub recordStep : Stream → List ℕ → Stream × Answer
 recordStep x s = cond (isTooLong s) (x, TooLong) (step x (kind s) (body s))
 
--- the lines for the rest of an input, after n whole records: of k records at the most. The input that ends inside a record ends the run
+-- the lines for the rest of an input that has k records at the most, after n whole ones. The input that ends inside a record ends the run
 unfoldable pub linesFrom : ℕ → Stream → ℕ → List ℕ → List ℕ
-linesFrom k x n [] = endLine n
-linesFrom zero x n (b ∷ l) = []
+linesFrom zero x n s = endLine n
+linesFrom (suc k) x n [] = endLine n
 linesFrom (suc k) x n (b ∷ l) =
     cond (isTorn (b ∷ l)) (tornLine (n + 1) ++ endLine n)
     (line (n + 1) (recordStep x (b ∷ l) .1) ++ linesFrom k (recordStep x (b ∷ l) .0) (n + 1) (following (b ∷ l)))

@@ -1,1 +1,4 @@
 pub mod Progress
+pub mod Session
+pub mod Taken
+pub mod Fed

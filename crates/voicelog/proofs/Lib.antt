@@ -1,0 +1,7 @@
+pub mod ReportLaws
+pub mod SessionLaws
+pub mod FrontLaws
+pub mod TakingLaws
+pub mod LastLaws
+pub mod FeedingLaws
+pub mod RunningLaws

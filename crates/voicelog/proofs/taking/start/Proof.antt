@@ -1,0 +1,33 @@
+-- `taking::start` meets its contract: what is left to write before the first record is the whole output. Assumes nothing.
+use mathlib.Core.Path.{refl, _∙_, ap}
+use mathlib.Core.List.{List}
+use borrow.Author.Needs.{needs}
+use Rattle.record_step.specs.Step.{Stream}
+use Rattle.voicelog.specs.Report.{report, linesAfter}
+use Rattle.voicelog.specs.inner.Progress.{linesLeft}
+use Rattle.voicelog.proofs.SessionLaws.{session-puts}
+use Rattle.voicelog.proofs.taking.start.Statement.{statement}
+use Rattle.voicelog.proofs.taking.start.Tie as tie
+
+first-requires : tie.Need-first-requires
+first-requires c κs = search needs
+
+returns : tie.Need-returns
+unfolding report linesLeft
+returns c =
+    let stream = c .first .ensures .stream in
+    record {
+      kept = c .first .ensures;
+      all = λ t s. ap (λ (x : Stream). linesAfter x 0 s) (stream t);
+      whole = λ t come out r. session-puts r ∙ ap (λ (x : Stream). linesAfter x 0 come) (stream t);
+      number = refl;
+      from = refl;
+      ends = refl;
+    }
+
+pub start-spec : {M : Type 1} → statement M
+start-spec =
+    tie.close
+    (tie.spec
+    first-requires
+    returns)
