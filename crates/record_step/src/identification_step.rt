@@ -3,7 +3,7 @@ use crate::Kept;
 use crate::Stepped;
 use crate::unchanged::refused;
 use audio::Tally;
-use bits::Refusal;
+use bits::number_of;
 use identification::Identified;
 use identification::Identity;
 use limits::Limits;
@@ -32,12 +32,6 @@ fn identity_accepted(kept: Kept, identity: Identity) -> Stepped
         kept: after,
         answer,
     }
-}
-
-fn number_of(refusal: Refusal) -> u32
-    ensures { λ r. ⌜ r ≡ refusal .number ⌝ }
-{
-    refusal.number as u32
 }
 
 // The record's body. Neither tables nor outputs are touched: that none are kept any longer is said beside them.
