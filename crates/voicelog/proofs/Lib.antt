@@ -1,7 +1,2 @@
-pub mod ReportLaws
-pub mod SessionLaws
-pub mod FrontLaws
-pub mod TakingLaws
-pub mod LastLaws
 pub mod FeedingLaws
 pub mod RunningLaws

@@ -12,13 +12,13 @@ use Rattle.setup.specs.Layout.{Tables}
 use Rattle.records.specs.declared.Front.the-variants.{Partial}
 use Rattle.records.specs.inner.Fronts.{front}
 use Rattle.record_step.specs.inner.Kept.{KeptTables, KeptOutputs}
-use Rattle.voicelog.specs.inner.Taken.{mostRecords, Starts, Room, Needs, Stands, LastRoom}
+use Rattle.record_progress.specs.inner.Taken.{mostRecords, Starts, Room, Needs, Stands, LastRoom}
 use Rattle.voicelog.specs.inner.Fed.{RoomMade, Reads, goesOn, Stopped, Turned}
 use Rattle.voicelog.specs.declared.feeding.Span.{Span}
 use Rattle.voicelog.specs.declared.running.Turn.{Turn}
-use Rattle.voicelog.specs.declared.taking.Progress.{Progress}
-use Rattle.voicelog.proofs.FrontLaws.{partial-of}
-use Rattle.voicelog.proofs.TakingLaws.{SameLengths}
+use Rattle.record_progress.specs.declared.Progress.{Progress}
+use Rattle.record_progress.proofs.FrontLaws.{partial-of}
+use Rattle.record_progress.proofs.TakingLaws.{SameLengths}
 
 -- the run ends
 pub stopped-turned : {p : Progress} {to status turns : ℕ} {r : Turn} {input input′ lines : List ℕ} → Stopped p status r → Turned p to turns input r input′ lines

@@ -1,4 +1,1 @@
-pub mod Progress
-pub mod Session
-pub mod Taken
 pub mod Fed

@@ -2,17 +2,17 @@
 // 1 where standard output failed, 2 where standard input failed, 3 where there are more records than can be counted.
 use crate::feeding::make_room;
 use crate::feeding::read_more;
-use crate::taking::MOST_RECORDS;
-use crate::taking::Progress;
-use crate::taking::put_last;
-use crate::taking::start;
 use crate::taking::take_records;
+use record_progress::MOST_RECORDS;
+use record_progress::Progress;
+use record_progress::put_last;
+use record_progress::start;
 ghost use mathlib.Core.Bool.{true};
 ghost use mathlib.Core.Path.{_≡_};
 ghost use Prim.Native.Nat.{_≤_, _<_};
 ghost use lib.ListN.{length, take};
 ghost use Rattle.audio_judge.specs.inner.Ready.{lentTables};
-ghost use Rattle.voicelog.specs.inner.Taken.{Stands, LastRoom};
+ghost use Rattle.record_progress.specs.inner.Taken.{Stands, LastRoom};
 ghost use Rattle.voicelog.specs.inner.Fed.{goesOn, Stopped, Turned, Reads, Lent};
 
 // What a turn of the run came to.

@@ -6,10 +6,10 @@ use mathlib.Core.Path.{_≡_}
 use lib.ListN.{length, take, drop}
 use Rattle.limits.specs.Standard.{standard}
 use Rattle.setup.specs.Layout.{Tables, hasRoom}
-use Rattle.voicelog.specs.inner.Taken.{Room, Stands}
+use Rattle.record_progress.specs.inner.Taken.{Room, Stands}
 use Rattle.voicelog.specs.declared.feeding.Span.{Span}
 use Rattle.voicelog.specs.declared.running.Turn.{Turn}
-use Rattle.voicelog.specs.declared.taking.Progress.{Progress}
+use Rattle.record_progress.specs.declared.Progress.{Progress}
 
 -- a list with so many of its places from one on moved to its front
 unfoldable pub moved : List ℕ → ℕ → ℕ → List ℕ

@@ -4,7 +4,7 @@ use mathlib.Core.Path.{refl, sym, _∙_}
 use lib.Seq.{length-take-le}
 use Rattle.setup.specs.Layout.{tables}
 use Rattle.record_step.proofs.StartLaws.{start-tables, start-outputs}
-use Rattle.voicelog.proofs.TakingLaws.{kept-same, stands-long}
+use Rattle.record_progress.proofs.TakingLaws.{kept-same, stands-long}
 use Rattle.voicelog.proofs.RunningLaws.{Running, first-room}
 use borrow.Author.Needs.{needs}
 use Rattle.voicelog.proofs.running.run.Statement.{statement}

@@ -6,7 +6,7 @@ use borrow.Author.Needs.{needs}
 use borrow.Author.Tests.{not-false}
 use lib.ListN.{length}
 use Rattle.setup.specs.Layout.{tables}
-use Rattle.voicelog.proofs.TakingLaws.{taken-none, taken-then, taken-length, stands-long, Going, turn-less, turn-room}
+use Rattle.record_progress.proofs.TakingLaws.{taken-none, taken-then, taken-length, stands-long, Going, turn-less, turn-room}
 use Rattle.voicelog.proofs.taking.take_records.Statement.{statement}
 use Rattle.voicelog.proofs.taking.take_records.Tie as tie
 

@@ -1,7 +1,7 @@
 -- `taking::take_whole` meets its contract, by TakingLaws. Assumes nothing.
 use native.Mathlib.Omega.{arith}
 use borrow.Author.Needs.{needs}
-use Rattle.voicelog.proofs.TakingLaws.{whole-there, whole-taken, whole-stands}
+use Rattle.record_progress.proofs.TakingLaws.{whole-there, whole-taken, whole-stands}
 use Rattle.voicelog.proofs.taking.take_whole.Statement.{statement}
 use Rattle.voicelog.proofs.taking.take_whole.Tie as tie
 

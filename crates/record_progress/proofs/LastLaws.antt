@@ -14,12 +14,12 @@ use Rattle.records.specs.declared.Front.the-variants.{Partial}
 use Rattle.records.specs.inner.Fronts.{front}
 use Rattle.record_lines.specs.Lines.{tornLine, endLine}
 use Rattle.record_step.specs.Step.{Stream}
-use Rattle.voicelog.specs.Report.{linesAfter}
-use Rattle.voicelog.specs.inner.Progress.{linesLeft, linesSkipping}
-use Rattle.voicelog.specs.inner.Taken.{Needs, LastRoom, LastPut, tornEnd}
-use Rattle.voicelog.specs.declared.taking.Progress.{Progress}
-use Rattle.voicelog.proofs.ReportLaws.{after-nil, after-torn, left-skipping, left-after}
-use Rattle.voicelog.proofs.FrontLaws.{partial-of}
+use Rattle.record_progress.specs.Report.{linesAfter}
+use Rattle.record_progress.specs.inner.Progress.{linesLeft, linesSkipping}
+use Rattle.record_progress.specs.inner.Taken.{Needs, LastRoom, LastPut, tornEnd}
+use Rattle.record_progress.specs.declared.Progress.{Progress}
+use Rattle.record_progress.proofs.ReportLaws.{after-nil, after-torn, left-skipping, left-after}
+use Rattle.record_progress.proofs.FrontLaws.{partial-of}
 
 -- the two lines of a torn record, one behind the other
 pub torn-end-put : (n : ℕ) (at : ℕ) (l : List ℕ) {m end : ℕ} {l′ l″ : List ℕ} → l′ ≡ sets l at (tornLine (n + 1)) → m ≡ at + length (tornLine (n + 1)) → l″ ≡ sets l′ m (endLine n)

@@ -1,12 +1,12 @@
--- `taking::pass_over` meets its contract, by TakingLaws: the body goes on, or it ends among what was read. Assumes nothing.
+-- `record_progress::pass_over` meets its contract, by TakingLaws: the body goes on, or it ends among what was read. Assumes nothing.
 use mathlib.Core.Path.{refl}
 use mathlib.Core.Bool.{true, false}
 use native.Mathlib.Omega.{arith}
 use borrow.Author.Needs.{needs}
 use Rattle.reading.proofs.Least.{true-not-false}
-use Rattle.voicelog.proofs.TakingLaws.{some-taken, some-stands, all-taken, all-stands}
-use Rattle.voicelog.proofs.taking.pass_over.Statement.{statement}
-use Rattle.voicelog.proofs.taking.pass_over.Tie as tie
+use Rattle.record_progress.proofs.TakingLaws.{some-taken, some-stands, all-taken, all-stands}
+use Rattle.record_progress.proofs.pass_over.Statement.{statement}
+use Rattle.record_progress.proofs.pass_over.Tie as tie
 
 sub-present : tie.Need-sub-present
 sub-present c = search needs

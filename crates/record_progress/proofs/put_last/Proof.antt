@@ -1,9 +1,9 @@
--- `taking::put_last` meets its contract, by LastLaws: one law for each way that the input ends. Assumes nothing.
+-- `record_progress::put_last` meets its contract, by LastLaws: one law for each way that the input ends. Assumes nothing.
 use native.Mathlib.Omega.{arith}
 use borrow.Author.Needs.{needs}
-use Rattle.voicelog.proofs.LastLaws.{last-skipping, last-torn, last-end}
-use Rattle.voicelog.proofs.taking.put_last.Statement.{statement}
-use Rattle.voicelog.proofs.taking.put_last.Tie as tie
+use Rattle.record_progress.proofs.LastLaws.{last-skipping, last-torn, last-end}
+use Rattle.record_progress.proofs.put_last.Statement.{statement}
+use Rattle.record_progress.proofs.put_last.Tie as tie
 
 put-torn-end-requires : tie.Need-put-torn-end-requires
 put-torn-end-requires c κs = let n = c .before .before .before .before .before .pre .number in (c .before .before .before .before .before .pre .room, omega (arith, n))

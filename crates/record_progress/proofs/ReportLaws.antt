@@ -15,8 +15,8 @@ use Rattle.records.specs.declared.Answer.{Answer}
 use Rattle.records.specs.declared.Answer.the-variants.{TooLong}
 use Rattle.record_lines.specs.Lines.{line, tornLine, endLine}
 use Rattle.record_step.specs.Step.{Stream, step}
-use Rattle.voicelog.specs.Report.{recordStep, linesFrom, linesAfter}
-use Rattle.voicelog.specs.inner.Progress.{linesSkipping, linesLeft}
+use Rattle.record_progress.specs.Report.{recordStep, linesFrom, linesAfter}
+use Rattle.record_progress.specs.inner.Progress.{linesSkipping, linesLeft}
 
 -- what is behind a record is shorter than it and what is behind it
 shorter : (b : ℕ) (l : List ℕ) (k : ℕ) → suc (length l) ≤ suc k → length (following (b ∷ l)) ≤ k

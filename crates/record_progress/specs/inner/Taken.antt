@@ -12,11 +12,11 @@ use Rattle.records.specs.declared.Front.the-variants.{Partial}
 use Rattle.records.specs.inner.Fronts.{front}
 use Rattle.record_step.specs.Step.{Stream}
 use Rattle.record_step.specs.inner.Kept.{streamOf, StartsWith}
-use Rattle.voicelog.specs.Report.{report}
+use Rattle.record_progress.specs.Report.{report}
 use Rattle.record_lines.specs.Lines.{tornLine, endLine}
-use Rattle.voicelog.specs.inner.Progress.{linesLeft}
-use Rattle.voicelog.specs.inner.Session.{Session}
-use Rattle.voicelog.specs.declared.taking.Progress.{Progress}
+use Rattle.record_progress.specs.inner.Progress.{linesLeft}
+use Rattle.record_progress.specs.inner.Session.{Session}
+use Rattle.record_progress.specs.declared.Progress.{Progress}
 
 -- the greatest number of records that the program takes: one more can still be named in a line
 abbrev pub mostRecords : ℕ

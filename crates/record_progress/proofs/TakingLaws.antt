@@ -21,12 +21,12 @@ use Rattle.record_lines.specs.Lines.{line}
 use Rattle.record_step.specs.declared.Kept.{Kept}
 use Rattle.record_step.specs.Step.{Stream, step}
 use Rattle.record_step.specs.inner.Kept.{streamOf, KeptTables, KeptOutputs}
-use Rattle.voicelog.specs.Report.{linesAfter}
-use Rattle.voicelog.specs.inner.Progress.{linesLeft, linesSkipping}
-use Rattle.voicelog.specs.inner.Taken.{mostRecords, Room, Taken, Needs, Stands, Moves, MayGoOn, waits, skips}
-use Rattle.voicelog.specs.declared.taking.Progress.{Progress}
-use Rattle.voicelog.proofs.ReportLaws.{whole-read, too-long-read, skip-some, skip-all, left-skipping, left-after}
-use Rattle.voicelog.proofs.FrontLaws.{HeadTooLong, IsWhole, too-long-of, whole-of}
+use Rattle.record_progress.specs.Report.{linesAfter}
+use Rattle.record_progress.specs.inner.Progress.{linesLeft, linesSkipping}
+use Rattle.record_progress.specs.inner.Taken.{mostRecords, Room, Taken, Needs, Stands, Moves, MayGoOn, waits, skips}
+use Rattle.record_progress.specs.declared.Progress.{Progress}
+use Rattle.record_progress.proofs.ReportLaws.{whole-read, too-long-read, skip-some, skip-all, left-skipping, left-after}
+use Rattle.record_progress.proofs.FrontLaws.{HeadTooLong, IsWhole, too-long-of, whole-of}
 
 -- the progress where all that was read is of the body that is passed over; where that body ends; and behind a whole record
 abbrev pub passed : Progress → List ℕ → Progress

@@ -8,7 +8,7 @@ use lib.ListN.{length, take, drop}
 use Rattle.records.specs.declared.Answer.the-variants.{TooLong}
 use Rattle.record_lines.specs.Lines.{line, tornLine, endLine}
 use Rattle.record_step.specs.Step.{Stream}
-use Rattle.voicelog.specs.Report.{linesAfter}
+use Rattle.record_progress.specs.Report.{linesAfter}
 
 -- the lines still to write where `skip` bytes of a body that is too long are still to pass: the input ends before them, or the record is whole
 unfoldable pub linesSkipping : ℕ → Stream → ℕ → List ℕ → List ℕ

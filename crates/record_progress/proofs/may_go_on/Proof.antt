@@ -1,11 +1,11 @@
--- `taking::may_go_on` meets its contract. Assumes nothing.
+-- `record_progress::may_go_on` meets its contract. Assumes nothing.
 use mathlib.Core.Path.{refl}
 use mathlib.Core.Bool.{false}
 use native.Mathlib.Omega.{arith}
 use borrow.Author.Needs.{needs}
 use Rattle.reading.proofs.Least.{true-not-false}
-use Rattle.voicelog.proofs.taking.may_go_on.Statement.{statement}
-use Rattle.voicelog.proofs.taking.may_go_on.Tie as tie
+use Rattle.record_progress.proofs.may_go_on.Statement.{statement}
+use Rattle.record_progress.proofs.may_go_on.Tie as tie
 
 returns : tie.Need-returns
 returns c = λ e. absurd (true-not-false false e refl)

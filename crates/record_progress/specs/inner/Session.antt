@@ -4,7 +4,7 @@ use Prim.Native.Nat.{ℕ}
 use mathlib.Core.List.{List, [], _++_}
 use mathlib.Core.Path.{_≡_}
 use Rattle.record_step.specs.Step.{Stream}
-use Rattle.voicelog.specs.inner.Progress.{linesLeft}
+use Rattle.record_progress.specs.inner.Progress.{linesLeft}
 
 pub data Session : ℕ → Stream → ℕ → List ℕ → List ℕ → List ℕ → Type 0 where
   -- a taking puts a text, as `Taken` has it

@@ -1,10 +1,10 @@
--- `taking::put_torn_end` meets its contract, by LastLaws. Assumes nothing.
+-- `record_progress::put_torn_end` meets its contract, by LastLaws. Assumes nothing.
 use mathlib.Core.Path.{_∙_}
 use native.Mathlib.Omega.{arith}
 use borrow.Author.Needs.{needs}
-use Rattle.voicelog.proofs.LastLaws.{torn-end-put}
-use Rattle.voicelog.proofs.taking.put_torn_end.Statement.{statement}
-use Rattle.voicelog.proofs.taking.put_torn_end.Tie as tie
+use Rattle.record_progress.proofs.LastLaws.{torn-end-put}
+use Rattle.record_progress.proofs.put_torn_end.Statement.{statement}
+use Rattle.record_progress.proofs.put_torn_end.Tie as tie
 
 add-put-torn : tie.Need-add-put-torn
 add-put-torn c = search needs

@@ -11,7 +11,7 @@ use Rattle.records.specs.Records.{bodyLength, kind, body, following, isTorn, is
 use Rattle.record_lines.specs.Text.{codesFrom, text, lastDigits, decimal}
 use Rattle.record_lines.specs.Lines.{words, line, tornLine, endLine}
 use Rattle.record_step.specs.Step.{step}
-use Rattle.voicelog.specs.Report.{recordStep, linesFrom, linesAfter, report}
+use Rattle.record_progress.specs.Report.{recordStep, linesFrom, linesAfter, report}
 
 -- an identification record of 30 bytes, and an audio record without a body (01, the tool)
 abbrev figure : List ℕ

@@ -1,13 +1,13 @@
--- `taking::start` meets its contract: what is left to write before the first record is the whole output. Assumes nothing.
+-- `record_progress::start` meets its contract: what is left to write before the first record is the whole output. Assumes nothing.
 use mathlib.Core.Path.{refl, _∙_, ap}
 use mathlib.Core.List.{List}
 use borrow.Author.Needs.{needs}
 use Rattle.record_step.specs.Step.{Stream}
-use Rattle.voicelog.specs.Report.{report, linesAfter}
-use Rattle.voicelog.specs.inner.Progress.{linesLeft}
-use Rattle.voicelog.proofs.SessionLaws.{session-puts}
-use Rattle.voicelog.proofs.taking.start.Statement.{statement}
-use Rattle.voicelog.proofs.taking.start.Tie as tie
+use Rattle.record_progress.specs.Report.{report, linesAfter}
+use Rattle.record_progress.specs.inner.Progress.{linesLeft}
+use Rattle.record_progress.proofs.SessionLaws.{session-puts}
+use Rattle.record_progress.proofs.start.Statement.{statement}
+use Rattle.record_progress.proofs.start.Tie as tie
 
 first-requires : tie.Need-first-requires
 first-requires c κs = search needs

@@ -1,0 +1,5 @@
+pub mod ReportLaws
+pub mod SessionLaws
+pub mod FrontLaws
+pub mod TakingLaws
+pub mod LastLaws
