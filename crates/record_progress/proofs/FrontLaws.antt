@@ -1,15 +1,14 @@
 -- What is known of the bytes from a record on by what stands at their front. Assumes nothing.
 use Prim.Native.Nat.{ℕ, _+_, _≤_, _<_}
 use native.Mathlib.Omega.{arith}
-use mathlib.Core.Bool.{Bool, true, false, cond, _||_}
+use mathlib.Core.Bool.{Bool, true, false, cond}
 use mathlib.Core.List.{List}
 use mathlib.Core.Logic.{_⊎_, inl, inr}
-use mathlib.Core.Path.{_≡_, refl, sym, _∙_, ap}
+use mathlib.Core.Path.{_≡_, refl}
 use lib.Dec.{ltb}
-use borrow.Author.Tests.{ltb-true, ltb-false, lt-ltb, le-ltb}
+use borrow.Author.Tests.{ltb-true, ltb-false}
 use lib.ListN.{length}
 use Rattle.records.specs.Records.{bodyLength, kind, isTorn, isTooLong}
-use Rattle.records.specs.declared.Front.{Front}
 use Rattle.records.specs.declared.Front.the-variants.{Partial, TooLong, Whole}
 use Rattle.records.specs.inner.Fronts.{front}
 

@@ -1,17 +1,13 @@
 -- The last lines, where the input ends. Assumes nothing.
 use Prim.Native.Nat.{ℕ, _+_, _≤_, _<_}
 use native.Mathlib.Omega.{arith}
-use mathlib.Core.Bool.{true}
-use mathlib.Core.List.{List, [], _++_}
-use mathlib.Core.Logic.{_⊎_, inl, inr}
+use mathlib.Core.List.{List, []}
+use mathlib.Core.Logic.{inl, inr}
 use mathlib.Core.Path.{_≡_, refl, sym, _∙_, ap}
-use lib.Dec.{ltb}
 use borrow.Author.Tests.{lt-ltb}
 use lib.ListN.{length, drop, length-append, length-drop}
 use lib.Seq.{sets, drop-length}
 use Rattle.reading.proofs.Tables.{sets-append}
-use Rattle.records.specs.declared.Front.the-variants.{Partial}
-use Rattle.records.specs.inner.Fronts.{front}
 use Rattle.record_lines.specs.Lines.{tornLine, endLine}
 use Rattle.record_step.specs.Step.{Stream}
 use Rattle.record_progress.specs.Report.{linesAfter}

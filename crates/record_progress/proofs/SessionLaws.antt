@@ -1,6 +1,6 @@
 -- A whole run puts what was left to write where it began. Assumes nothing.
 use Prim.Native.Nat.{ℕ}
-use mathlib.Core.List.{List, [], _++_, append-assoc, append-nil}
+use mathlib.Core.List.{List, _++_, append-assoc, append-nil}
 use mathlib.Core.Path.{_≡_, sym, _∙_, ap}
 use Rattle.record_step.specs.Step.{Stream}
 use Rattle.record_progress.specs.inner.Progress.{linesLeft}

@@ -2,9 +2,9 @@
 use Prim.Native.Nat.{ℕ, _+_, _-_, _≤_, _<_}
 use native.Mathlib.Nat.{add-zero}
 use native.Mathlib.Omega.{arith}
-use mathlib.Core.Bool.{Bool, true, false}
-use mathlib.Core.List.{List, [], _∷_, _++_, append-assoc}
-use mathlib.Core.Logic.{_⊎_, inl, inr}
+use mathlib.Core.Bool.{true, false}
+use mathlib.Core.List.{List, [], _++_, append-assoc}
+use mathlib.Core.Logic.{inl, inr}
 use mathlib.Core.Path.{_≡_, refl, sym, _∙_, ap}
 use lib.ListN.{length, take, drop, length-append, length-drop}
 use lib.Seq.{sets, length-sets, drop-drop, drop-length, take-all}
@@ -23,7 +23,7 @@ use Rattle.record_step.specs.Step.{Stream, step}
 use Rattle.record_step.specs.inner.Kept.{streamOf, KeptTables, KeptOutputs}
 use Rattle.record_progress.specs.Report.{linesAfter}
 use Rattle.record_progress.specs.inner.Progress.{linesLeft, linesSkipping}
-use Rattle.record_progress.specs.inner.Taken.{mostRecords, Room, Taken, Needs, Stands, Moves, MayGoOn, waits, skips}
+use Rattle.record_progress.specs.inner.Taken.{Room, Taken, Stands, Moves, MayGoOn, waits, skips}
 use Rattle.record_progress.specs.declared.Progress.{Progress}
 use Rattle.record_progress.proofs.ReportLaws.{whole-read, too-long-read, skip-some, skip-all, left-skipping, left-after}
 use Rattle.record_progress.proofs.FrontLaws.{HeadTooLong, IsWhole, too-long-of, whole-of}

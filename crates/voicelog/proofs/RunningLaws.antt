@@ -1,18 +1,17 @@
 -- The turns of the run. Assumes nothing.
 use Prim.Native.Nat.{ℕ, _+_, _-_, _≤_, _<_}
 use native.Mathlib.Omega.{arith}
-use mathlib.Core.Bool.{Bool, true, false}
+use mathlib.Core.Bool.{true}
 use mathlib.Core.List.{List, _++_}
-use mathlib.Core.Logic.{_⊎_, inl, inr, ⊎-elim}
+use mathlib.Core.Logic.{inl, inr}
 use mathlib.Core.Path.{_≡_, refl, sym, _∙_, ap}
 use lib.ListN.{length, take, drop, length-drop}
 use lib.Seq.{length-take-le, take-add, drop-append-le}
 use Rattle.reading.proofs.Least.{true-not-false}
 use Rattle.setup.specs.Layout.{Tables}
-use Rattle.records.specs.declared.Front.the-variants.{Partial}
 use Rattle.records.specs.inner.Fronts.{front}
 use Rattle.record_step.specs.inner.Kept.{KeptTables, KeptOutputs}
-use Rattle.record_progress.specs.inner.Taken.{mostRecords, Starts, Room, Needs, Stands, LastRoom}
+use Rattle.record_progress.specs.inner.Taken.{mostRecords, Starts, Room, Needs, LastRoom}
 use Rattle.voicelog.specs.inner.Fed.{RoomMade, Reads, goesOn, Stopped, Turned}
 use Rattle.voicelog.specs.declared.feeding.Span.{Span}
 use Rattle.voicelog.specs.declared.running.Turn.{Turn}

@@ -9,10 +9,9 @@ use record_progress::put_last;
 use record_progress::start;
 ghost use mathlib.Core.Bool.{true};
 ghost use mathlib.Core.Path.{_≡_};
-ghost use Prim.Native.Nat.{_≤_, _<_};
-ghost use lib.ListN.{length, take};
+ghost use Prim.Native.Nat.{_<_};
 ghost use Rattle.audio_judge.specs.inner.Ready.{lentTables};
-ghost use Rattle.record_progress.specs.inner.Taken.{Stands, LastRoom};
+ghost use Rattle.record_progress.specs.inner.Taken.{LastRoom};
 ghost use Rattle.voicelog.specs.inner.Fed.{goesOn, Stopped, Turned, Reads, Lent};
 
 // What a turn of the run came to.

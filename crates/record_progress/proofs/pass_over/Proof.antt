@@ -1,6 +1,6 @@
 -- `record_progress::pass_over` meets its contract, by TakingLaws: the body goes on, or it ends among what was read. Assumes nothing.
 use mathlib.Core.Path.{refl}
-use mathlib.Core.Bool.{true, false}
+use mathlib.Core.Bool.{true}
 use native.Mathlib.Omega.{arith}
 use borrow.Author.Needs.{needs}
 use Rattle.reading.proofs.Least.{true-not-false}

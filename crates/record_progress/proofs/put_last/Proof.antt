@@ -1,6 +1,5 @@
 -- `record_progress::put_last` meets its contract, by LastLaws: one law for each way that the input ends. Assumes nothing.
 use native.Mathlib.Omega.{arith}
-use borrow.Author.Needs.{needs}
 use Rattle.record_progress.proofs.LastLaws.{last-skipping, last-torn, last-end}
 use Rattle.record_progress.proofs.put_last.Statement.{statement}
 use Rattle.record_progress.proofs.put_last.Tie as tie

@@ -1,6 +1,5 @@
 -- `record_progress::start` meets its contract: what is left to write before the first record is the whole output. Assumes nothing.
 use mathlib.Core.Path.{refl, _∙_, ap}
-use mathlib.Core.List.{List}
 use borrow.Author.Needs.{needs}
 use Rattle.record_step.specs.Step.{Stream}
 use Rattle.record_progress.specs.Report.{report, linesAfter}

@@ -1,10 +1,9 @@
 -- How far the program has come in the input: what it has still to write, for all that may follow the bytes that were read.
-use Prim.Native.Nat.{ℕ, _+_, _-_, _≤_}
-use mathlib.Core.Bool.{Bool, true, cond}
+use Prim.Native.Nat.{ℕ, _+_, _-_}
+use mathlib.Core.Bool.{cond}
 use mathlib.Core.List.{List, _++_}
-use mathlib.Core.Path.{_≡_}
 use lib.Dec.{ltb, eqb}
-use lib.ListN.{length, take, drop}
+use lib.ListN.{length, drop}
 use Rattle.records.specs.declared.Answer.the-variants.{TooLong}
 use Rattle.record_lines.specs.Lines.{line, tornLine, endLine}
 use Rattle.record_step.specs.Step.{Stream}

@@ -1,7 +1,7 @@
 -- What the program does to the lines and to its progress when it takes records: statements that its contracts share. `t` are the ten tables, `input` the bytes
 -- that were read and `lines` the lent buffer; a mark ′ is for what is left.
 use Prim.Native.Nat.{ℕ, _+_, _≤_, _<_}
-use mathlib.Core.Bool.{Bool, true, false}
+use mathlib.Core.Bool.{true, false}
 use mathlib.Core.List.{List, [], _++_}
 use mathlib.Core.Logic.{_⊎_}
 use mathlib.Core.Path.{_≡_}

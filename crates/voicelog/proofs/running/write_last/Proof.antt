@@ -2,7 +2,6 @@
 use mathlib.Core.Path.{sym}
 use lib.Seq.{length-take-le}
 use Rattle.voicelog.proofs.FeedingLaws.{still-le}
-use native.Mathlib.Omega.{arith}
 use borrow.Author.Needs.{needs}
 use Rattle.voicelog.proofs.running.write_last.Statement.{statement}
 use Rattle.voicelog.proofs.running.write_last.Tie as tie
