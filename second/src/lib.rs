@@ -26,6 +26,7 @@
 //! | Ogg pages | [`ogg`] |
 //! | writing packets, random streams | [`write`](mod@write), [`generate`] |
 //! | the program's own checks | [`check`] |
+//! | what a program came to, as its exit status | [`outcome`] |
 
 #![deny(unsafe_code)]
 
@@ -41,6 +42,7 @@ pub mod limits;
 pub mod lines;
 pub mod mapping;
 pub mod ogg;
+pub mod outcome;
 pub mod recognise;
 pub mod records;
 pub mod refusal;

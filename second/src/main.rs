@@ -4,8 +4,8 @@ use second::check::{generated, published};
 use second::generate::{self, Generated};
 use second::lines::{write_lines, Accepted, Tool};
 use second::ogg;
+use second::outcome::{exit_code, Outcome};
 use second::records::{read_record, write_record, Kind, Record};
-use std::error::Error;
 use std::io::{self, BufReader, BufWriter, Write};
 use std::path::Path;
 use std::process::ExitCode;
@@ -19,8 +19,6 @@ second check generated SEED COUNT         own checks on COUNT generated packets 
 second check streams LIST FOLDER          own checks on the published streams of a list
 second bench RECORDS TIMES                reads the packets so many times";
 
-type Outcome = Result<(), Box<dyn Error>>;
-
 fn main() -> ExitCode {
     let arguments: Vec<String> = env::args().skip(1).collect();
     let arguments: Vec<&str> = arguments.iter().map(String::as_str).collect();
@@ -33,13 +31,7 @@ fn main() -> ExitCode {
         ["bench", records, times] => bench(records, times),
         _ => Err(USAGE.into()),
     };
-    match outcome {
-        Ok(()) => ExitCode::SUCCESS,
-        Err(fault) => {
-            eprintln!("{fault}");
-            ExitCode::FAILURE
-        }
-    }
+    exit_code(outcome)
 }
 
 fn lines() -> Outcome {

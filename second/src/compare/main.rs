@@ -36,7 +36,7 @@ mod streams;
 
 use report::Report;
 use second::generate::random::Random;
-use std::error::Error;
+use second::outcome::{exit_code, Outcome};
 use std::path::Path;
 use std::process::ExitCode;
 use std::{env, fs};
@@ -46,8 +46,6 @@ compare calls SEED COUNT                  random inputs, COUNT calls or more
 compare streams LIST FOLDER [...]         published streams of each list
 compare bench INPUT SIDE TIMES            one call so many times, SIDE library or second
 compare bench FILE.ogg SIDE TIMES         all audio packets of a stream so many times";
-
-type Outcome = Result<(), Box<dyn Error>>;
 
 fn main() -> ExitCode {
     let arguments: Vec<String> = env::args().skip(1).collect();
@@ -60,13 +58,7 @@ fn main() -> ExitCode {
         ["bench", input, side, times] => benchmark::run(input, side, times),
         _ => Err(USAGE.into()),
     };
-    match outcome {
-        Ok(()) => ExitCode::SUCCESS,
-        Err(fault) => {
-            eprintln!("{fault}");
-            ExitCode::FAILURE
-        }
-    }
+    exit_code(outcome)
 }
 
 fn calls(seed: &str, count: &str) -> Outcome {

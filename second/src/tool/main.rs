@@ -24,6 +24,7 @@ use program::Program;
 use second::check::hand_made;
 use second::generate::write_streams;
 use second::ogg;
+use second::outcome::{exit_code, Outcome};
 use second::records::write_record;
 use std::error::Error;
 use std::path::{Path, PathBuf};
@@ -47,8 +48,6 @@ const PARTS_OF_CUTS: usize = 4;
 
 /// Failures after which no more is tried.
 const MOST_FAILURES: usize = 3;
-
-type Outcome = Result<(), Box<dyn Error>>;
 
 /// Tries a program in one way.
 type Trial = dyn Fn(&Program) -> Result<Seen, String> + Send + Sync;
@@ -75,13 +74,7 @@ fn main() -> ExitCode {
         ["faults"] => faults(),
         _ => Err(USAGE.into()),
     };
-    match outcome {
-        Ok(()) => ExitCode::SUCCESS,
-        Err(fault) => {
-            eprintln!("{fault}");
-            ExitCode::FAILURE
-        }
-    }
+    exit_code(outcome)
 }
 
 fn compare_all(seed: &str, count: &str, rest: &[&str]) -> Outcome {
