@@ -13,8 +13,7 @@ use Rattle.reading.proofs.Outcomes.{then-ok, ok-is}
 use Rattle.limits.specs.declared.Limits.{Limits}
 use Rattle.identification.specs.declared.Identity.{Identity}
 use Rattle.codeword.proofs.Laws.{read-used}
-use Rattle.floor.specs.Content.{Floor}
-use Rattle.floor_x_list.specs.Content.{xList}
+use Rattle.floor.specs.Content.{Floor, xList}
 use Rattle.setup.specs.Content.{Setup, lengthsOf}
 use Rattle.setup.specs.Layout.{Tables}
 use Rattle.setup.specs.inner.Decode.{decodeSetup}

@@ -23,8 +23,7 @@ use Rattle.floor_requests.specs.Requests.{classRequests, valueRequests, partiti
 use Rattle.residue_requests.specs.Requests as residue
 use Rattle.residue_requests.specs.Listed.{residueWords, listed}
 use Rattle.audio.specs.Head.{modeAt, blockSize, flagRequests, modeRequests, headRequests, headOf, window}
-use Rattle.audio.specs.Channels.{submapOf, floorNumber, floorsOf, isUsed, couple, coupled, channelsOf, liveOf, vectorSize, vectorCount}
-use Rattle.audio.specs.Channels.{submapRequests, allRequests}
+use Rattle.audio.specs.Channels.{submapOf, floorNumber, floorsOf, isUsed, couple, coupled, channelsOf, liveOf, vectorSize, vectorCount, submapRequests, allRequests}
 use Rattle.audio.specs.Packet.{mappingOf, channelFloors, residuesAfter, bodyRequests, byChannel, bodyAt, audio}
 use Rattle.audio.specs.Tally.{tallySound, finished, counted}
 use Rattle.audio.specs.Curves.{curveOf, curvesOf}

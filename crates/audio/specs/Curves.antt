@@ -3,8 +3,7 @@
 use Prim.Native.Nat.{ℕ}
 use mathlib.Core.List.{List, [], _∷_, _++_}
 use lib.ListN.{length, replicate}
-use Rattle.floor.specs.Content.{Floor}
-use Rattle.floor_x_list.specs.Content.{xList}
+use Rattle.floor.specs.Content.{Floor, xList}
 use Rattle.floor_points.specs.FinalY as final
 use Rattle.floor_curve.specs.Curve.{curve}
 use Rattle.floor_requests.specs.Requests.{FloorRead, unused, values}

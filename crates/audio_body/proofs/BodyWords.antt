@@ -8,8 +8,7 @@ use lib.Dec.{eqb}
 use lib.ListN.{getD}
 use Rattle.reading.specs.Outcome.{Outcome, ok, bad}
 use Rattle.reading.specs.Reader.{Reader}
-use Rattle.floor_class.specs.Content.{Class, noClass}
-use Rattle.floor.specs.Content.{Floor}
+use Rattle.floor.specs.Content.{Class, noClass, Floor}
 use Rattle.floor_partition.specs.Partition.{chosen, whole}
 use Rattle.floor_values.specs.Values.{firstBits}
 use Rattle.reading.specs.Lists.{rows}

@@ -21,8 +21,7 @@ use Rattle.bits.specs.declared.Step.the-variants as S
 use Rattle.bits.specs.inner.Cursors.{position, refusalOf, Wrote}
 use Rattle.bits.proofs.Steps.{wrote-bad, wrote-ok}
 use Rattle.book_codeword.specs.inner.Stored.{lengthsIn}
-use Rattle.floor_x_list.specs.Content.{xList}
-use Rattle.floor.specs.Content.{Floor}
+use Rattle.floor.specs.Content.{xList, Floor}
 use Rattle.floor.specs.inner.Decode.{floorAt}
 use Rattle.floor.proofs.ValidLaws.{values-few}
 use Rattle.floor_values.specs.Values.{floorValues, answeredValues}

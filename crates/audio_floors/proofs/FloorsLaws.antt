@@ -17,8 +17,7 @@ use Rattle.reading.proofs.Tables.{sets-append, sets-cleared}
 use Rattle.bits.specs.declared.Cursor.{Cursor}
 use Rattle.bits.specs.inner.Cursors.{position}
 use Rattle.bits.proofs.Parts.{part-back}
-use Rattle.floor.specs.Content.{Floor}
-use Rattle.floor_x_list.specs.Content.{xList}
+use Rattle.floor.specs.Content.{Floor, xList}
 use Rattle.floor_curve.specs.Curve as drawing
 use Rattle.floor_values.specs.inner.Stored.{FloorStored}
 use Rattle.mapping.specs.Content.{Mapping, noSubmap}

@@ -78,7 +78,7 @@ fn blockflag_of(modes: &[u8], mode: u32) -> u32
     requires { ⌜ mode ≤ 63 ⌝ }
     ensures { λ r. ⌜ r ≡ blockflagIn (now (modes .entry)) mode ⌝ }
 {
-    mode::row::blockflag(modes, mode as usize) as u32
+    mode_row::blockflag(modes, mode as usize) as u32
 }
 
 // The mode, 16 where it is not set up; then the flags.

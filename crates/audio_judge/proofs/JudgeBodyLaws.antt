@@ -7,7 +7,7 @@ use lib.ListN.{length, getD}
 use Rattle.identification.specs.declared.Identity.{Identity}
 use Rattle.book_codeword.specs.inner.Stored.{lengthsIn}
 use Rattle.mode.specs.Layout.{modeWidth}
-use Rattle.setup.specs.Content.{Setup}
+use Rattle.setup.specs.Content.{Setup, lengthsOf}
 use Rattle.setup.specs.Layout.{Tables}
 use Rattle.setup.specs.inner.Decode.{decodeSetup}
 use Rattle.requests.specs.Run.{read, run}
@@ -20,7 +20,6 @@ use Rattle.audio.specs.declared.Tally.{Tally}
 use Rattle.audio.specs.Head.{modeAt}
 use Rattle.audio.specs.Packet.{channelFloors, bodyRequests}
 use Rattle.audio.specs.Tally.{counted}
-use Rattle.setup.specs.Content.{lengthsOf}
 use Rattle.audio.specs.Call.{roomOf}
 use Rattle.audio_body.specs.declared.BodyRead.{BodyRead}
 use Rattle.audio_settle.specs.declared.Judged.{Judged}

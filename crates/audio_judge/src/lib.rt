@@ -74,7 +74,7 @@ fn mapping_of(modes: &[u8], mode: u32) -> usize
     requires { ⌜ mode < 64 ⌝ }
     ensures { λ r. ⌜ r ≡ getD (now (modes .entry)) (modeWidth * mode + 1) 0 ⌝ }
 {
-    mode::row::mapping(modes, mode as usize) as usize
+    mode_row::mapping(modes, mode as usize) as usize
 }
 
 // What follows a head that was read: room for the curves, the body, room for the codewords, the samples.

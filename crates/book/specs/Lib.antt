@@ -1,2 +1,11 @@
 pub mod Content
+pub mod HeadReading
+pub mod LengthsReading
+pub mod LookupReading
+pub mod LookupVectors
+pub mod Reading
+pub mod Carried
+pub mod Rules
 pub mod Layout
+pub mod Rows
+pub mod inner

@@ -5,7 +5,7 @@ use borrow.Author.Needs.{needs}
 use borrow.Author.Tests.{le-leb, lt-leb, eq-eqb, ne-eqb}
 use mathlib.Core.Bool.{true, false}
 use mathlib.Core.List.{List}
-use mathlib.Core.Path.{_≡_}
+use mathlib.Core.Path.{_≡_, sym, ap, _∙_}
 use lib.Dec.{leb}
 use Rattle.bits.specs.declared.Cursor.{Cursor}
 use Rattle.bits.specs.declared.Refusal.{Refusal}
@@ -15,10 +15,13 @@ use Rattle.bits.specs.inner.Cursors.{position, outcome}
 use Rattle.bits.specs.Field.{field}
 use Rattle.bits.proofs.Answers.{value-is, refused-is}
 use Rattle.limits.specs.declared.Limits.{Limits}
-use Rattle.book_head.specs.Reading.{head}
+use Rattle.book.specs.HeadReading.{head, totals, Head}
+use Rattle.book.proofs.HeadAccepted.{HeadKnown, head-ok}
 use Rattle.book_head.specs.inner.Parts.{entryCount}
-use Rattle.book_head.specs.inner.Answers.{totals, headRead}
+use Rattle.book_head.specs.inner.Answers.{headRead, headOf}
 use Rattle.book_head.specs.declared.head.HeadRead.the-variants as H
+use Rattle.book_head.specs.declared.head.Head as D
+use Rattle.book_head.specs.declared.head.HeadRead.{HeadRead}
 
 abbrev at : ℕ → Cursor → Refusal
 at n c = record { number = n; place = c }
@@ -88,3 +91,9 @@ module _ (l : Limits) (before : ℕ) (s : List ℕ) (k : Cursor) {r : Field} (p 
 pub ruleset count-laws = (needs, entries-cut, entries-none, entries-many, entries-past, entries-whole)
 
 pub ruleset head-laws = (needs, pattern-cut, pattern-wrong, dimensions-cut, dimensions-none, count-refused, head-whole)
+
+-- the same of an answer
+pub head-known : (l : Limits) (before : ℕ) (s : List ℕ) (k : ℕ) {r : HeadRead} {h : D.Head} {c : Cursor} → headRead r ≡ head l (totals before 0) s k → r ≡ H.Value h c
+    → HeadKnown l (totals before 0) (headOf h)
+unfolding headRead
+head-known l before s k p q = head-ok l (totals before 0) s k (sym p ∙ ap headRead q)

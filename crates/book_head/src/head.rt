@@ -6,9 +6,9 @@ use limits::Limits;
 ghost use mathlib.Core.Path.{_≡_};
 ghost use Prim.Native.Nat.{_≤_};
 ghost use Rattle.bits.specs.inner.Cursors.{position, outcome};
-ghost use Rattle.book_head.specs.Reading.{head};
+ghost use Rattle.book.specs.HeadReading.{head, totals};
 ghost use Rattle.book_head.specs.inner.Parts.{entryCount};
-ghost use Rattle.book_head.specs.inner.Answers.{totals, headRead};
+ghost use Rattle.book_head.specs.inner.Answers.{headRead};
 
 pub struct Head {
     pub dimensions: u32,

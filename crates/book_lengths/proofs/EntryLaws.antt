@@ -20,10 +20,10 @@ use Rattle.codeword_assignment.specs.Book.{verdict, assigned, written, ledgerCo
 use Rattle.codeword_assignment.specs.declared.book.Assigned.{Assigned}
 use Rattle.codeword_assignment.specs.declared.book.Assigned.the-variants.{Accepted, Overspecified, Underspecified, TooShort}
 use Rattle.codeword_assignment.proofs.Laws.{codewords-length}
-use Rattle.book_lengths.proofs.Verdict.{accepted-meets, overspecified-breaks7, underspecified-breaks8, verdict-not-short}
+use Rattle.book.proofs.Verdict.{accepted-meets, overspecified-breaks7, underspecified-breaks8, verdict-not-short}
 use Rattle.bits.proofs.Parts.{mapped-mapped, wrote-mapped, wrote-as, part-back}
-use Rattle.book_lengths.specs.Reading.{lengths, entered}
-use Rattle.book_lengths.specs.inner.Parts.{entries, coded, stored}
+use Rattle.book.specs.LengthsReading.{lengths, entered}
+use Rattle.book.specs.inner.LengthsParts.{entries, coded, stored}
 
 abbrev at : ℕ → Cursor → Refusal
 at n c = record { number = n; place = c }

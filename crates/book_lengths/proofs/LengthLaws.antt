@@ -12,8 +12,7 @@ use lib.ListN.{length, getD, take, replicate, set, length-set}
 use lib.Seq.{sets, length-sets, take-all}
 use Rattle.reading.specs.Outcome.{Outcome, ok, bad, then, need, refusal}
 use Rattle.reading.specs.Reader.{judged, many, mapped}
-use Rattle.reading.proofs.Outcomes.{then-ok, judged-ok}
-use Rattle.reading.proofs.Readers.{mapped-ok}
+use Rattle.reading.proofs.Outcomes.{judged-ok}
 use Rattle.reading.proofs.Tables.{Writing, write-start, write-turn, write-end}
 use Rattle.bits.specs.declared.Cursor.{Cursor}
 use Rattle.bits.specs.declared.Refusal.{Refusal}
@@ -25,12 +24,12 @@ use Rattle.bits.specs.inner.Cursors.{position, outcome, Wrote}
 use Rattle.bits.specs.Field.{field}
 use Rattle.bits.specs.Ilog.{ilog}
 use Rattle.bits.proofs.Answers.{value-is, refused-is, value-below}
-use Rattle.bits.proofs.Fields.{field-ok}
 use Rattle.bits.proofs.Ilogs.{ilog-places}
 use Rattle.bits.proofs.Steps.{wrote-refused, wrote-next}
-use Rattle.book_lengths.specs.Reading.{entryLength, runs, lengths}
-use Rattle.book_lengths.specs.inner.Parts.{runNumber, unordered, ordered}
 use Rattle.bits.proofs.Filling.{after, after-nil, after-append, after-bad, after-none, take-sets}
+use Rattle.book.specs.LengthsReading.{entryLength, runs, lengths}
+use Rattle.book.specs.inner.LengthsParts.{runNumber, unordered, ordered}
+use Rattle.book.proofs.LengthsAccepted.{entry-small, length-run}
 
 abbrev at : ℕ → Cursor → Refusal
 at n c = record { number = n; place = c }
@@ -69,32 +68,6 @@ module _ (sparse : ℕ) (s : List ℕ) (k : Cursor) where
       unfolding entryLength
       flag-used e r₁ p₁ = rw (ne-eqb _ _ after-flag, value-is p q, ne-eqb _ _ e) p₁
 
--- a length is at most 32
-used-small : (s : List ℕ) (k : ℕ) {v n : ℕ} → mapped suc (field 5 s k) ≡ ok (v, n) → v ≤ 32
-used-small s k {v} {n} e =
-    let m = mapped-ok suc (field 5 s k) e in
-    let b = field-ok s k 5 (m .1) .below in
-    let q = m .2 in
-    omega arith
-
-pub entry-small : (sparse : ℕ) (s : List ℕ) (k : ℕ) {v n : ℕ} → entryLength sparse s k ≡ ok (v, n) → v ≤ 32
-unfolding entryLength
-entry-small sparse s k {v} {n} e = go (eqb sparse 0) e
-  where
-    flagged : (b : Bool) (j : ℕ) → cond b (ok (0, j)) (mapped suc (field 5 s j)) ≡ ok (v, n) → v ≤ 32
-    flagged true j q =
-        let f : _≡_ {A = Outcome (ℕ × ℕ)} (ok (0, j)) (ok (v, n)) = q in
-        let g : _≡_ {A = ℕ × ℕ} (0, j) (v, n) = cc in
-        let z : 0 ≡ v = ap (λ (x : ℕ × ℕ). x .0) g in
-        omega arith
-    flagged false j q = used-small s j q
-
-    go : (b : Bool) → cond b (mapped suc (field 5 s k)) (then (field 1 s k) (λ flag. cond (eqb (flag .0) 0) (ok (0, flag .1)) (mapped suc (field 5 s (flag .1))))) ≡ ok (v, n) → v ≤ 32
-    go true q = used-small s k q
-    go false q =
-        let t = then-ok (field 1 s k) (λ flag. cond (eqb (flag .0) 0) (ok (0, flag .1)) (mapped suc (field 5 s (flag .1)))) q in
-        flagged (eqb (t .0 .0) 0) (t .0 .1) (t .2)
-
 pub entry-fits : {r : Field} (sparse : ℕ) (s : List ℕ) (k : ℕ) {v : ℕ} {n : Cursor} → outcome r ≡ entryLength sparse s k → r ≡ Value v n → v < 256
 entry-fits sparse s k p q = let b = entry-small sparse s k (value-is p q) in omega arith
 
@@ -129,10 +102,6 @@ pub get-replicate : (n v i : ℕ) → i < n → getD (replicate n v) i 0 ≡ v
 get-replicate zero v i h = absurd (omega arith)
 get-replicate (suc n) v zero h = refl
 get-replicate (suc n) v (suc i) h = get-replicate n v i (omega arith)
-
-pub length-run : (n v : ℕ) → length (replicate n v) ≡ n
-length-run zero v = refl
-length-run (suc n) v = ap suc (length-run n v)
 
 module _ (entry : List ℕ) (first number value : ℕ) where
   pub record RunFilling (part : List ℕ) (i : ℕ) : Type 0 where

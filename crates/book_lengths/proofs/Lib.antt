@@ -1,4 +1,2 @@
-pub mod Verdict
 pub mod LengthLaws
 pub mod EntryLaws
-pub mod Accepted

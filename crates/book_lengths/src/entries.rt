@@ -11,8 +11,8 @@ ghost use lib.ListN.{length};
 ghost use Rattle.reading.specs.Outcome.{ok};
 ghost use Rattle.reading.specs.Reader.{mapped};
 ghost use Rattle.bits.specs.inner.Cursors.{position, Wrote};
-ghost use Rattle.book_lengths.specs.Reading.{entered};
-ghost use Rattle.book_lengths.specs.inner.Parts.{entries, coded, stored};
+ghost use Rattle.book.specs.LengthsReading.{entered};
+ghost use Rattle.book.specs.inner.LengthsParts.{entries, coded, stored};
 
 // Lengths entered into an empty space of their own. `place` is the book's first bit, `next` the one behind its lengths.
 fn enter_lengths(lengths: &[u8], codewords: &mut [u32], place: Cursor, next: Cursor) -> Step

@@ -10,8 +10,8 @@ ghost use lib.Seq.{sets};
 ghost use Rattle.reading.specs.Reader.{mapped, many};
 ghost use Rattle.bits.specs.Field.{field};
 ghost use Rattle.bits.specs.inner.Cursors.{position, outcome, Wrote};
-ghost use Rattle.book_lengths.specs.Reading.{entryLength, runs, lengths};
-ghost use Rattle.book_lengths.specs.inner.Parts.{runNumber, unordered, ordered};
+ghost use Rattle.book.specs.LengthsReading.{entryLength, runs, lengths};
+ghost use Rattle.book.specs.inner.LengthsParts.{runNumber, unordered, ordered};
 
 // Five bits plus one: 1 to 32.
 fn read_used(packet: &[u8], from: Cursor) -> Field

@@ -1,3 +1,2 @@
 pub mod RootLaws
 pub mod LookupLaws
-pub mod Accepted

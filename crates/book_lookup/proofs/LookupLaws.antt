@@ -5,14 +5,12 @@ use native.Mathlib.Omega.{arith}
 use borrow.Author.Needs.{needs}
 use borrow.Author.Tests.{le-leb, lt-leb, eq-eqb, ne-eqb}
 use mathlib.Core.List.{List, [], _∷_, _++_}
-use mathlib.Core.Path.{_≡_, refl, sym, ap, _∙_}
-use lib.Dec.{leb}
+use mathlib.Core.Path.{_≡_, sym, ap, _∙_}
 use lib.ListN.{length, take, drop}
 use lib.Seq.{sets}
 use lib.Pow.{pow-mono}
-use Rattle.reading.specs.Outcome.{Outcome, ok, bad, then, need, refusal}
+use Rattle.reading.specs.Outcome.{Outcome, ok, bad, refusal}
 use Rattle.reading.specs.Reader.{many, mapped}
-use Rattle.reading.proofs.Outcomes.{then-ok, same-ok, then-into}
 use Rattle.reading.proofs.Basics.{product-fits}
 use Rattle.bits.specs.declared.Cursor.{Cursor}
 use Rattle.bits.specs.declared.Refusal.{Refusal}
@@ -23,15 +21,15 @@ use Rattle.bits.specs.declared.Step.the-variants as S
 use Rattle.bits.specs.inner.Cursors.{position, refusalOf, outcome, Wrote}
 use Rattle.bits.specs.Field.{field}
 use Rattle.bits.proofs.Answers.{value-is, refused-is, value-below}
-use Rattle.bits.proofs.Fields.{field-ok}
 use Rattle.bits.proofs.Steps.{wrote-refused, wrote-next}
-use Rattle.book_lookup.specs.Reading.{Lookup, lookup1Values, valueCount, values, lookup}
-use Rattle.book_lookup.specs.inner.Parts.{Parameters, parameters, stored}
+use Rattle.bits.proofs.Parts.{mapped-then, wrote-mapped, wrote-as, part-back}
+use Rattle.book.specs.LookupReading.{lookup1Values, valueCount, values, lookup}
+use Rattle.book.specs.inner.LookupParts.{Parameters, parameters, stored}
+use Rattle.book.proofs.LookupAccepted.{parameters-ok, withValues, values-as}
 use Rattle.book_lookup.specs.inner.Answers.{parametersRead}
 use Rattle.book_lookup.specs.declared.lookup.ParametersRead.{ParametersRead}
 use Rattle.book_lookup.specs.declared.lookup.ParametersRead.the-variants as P
 use Rattle.book_lookup.specs.declared.lookup.Parameters as D
-use Rattle.bits.proofs.Parts.{mapped-then, wrote-mapped, wrote-as, part-back}
 
 abbrev at : ℕ → Cursor → Refusal
 at n c = record { number = n; place = c }
@@ -76,46 +74,6 @@ count-two type entries dimensions n = rw (ne-eqb _ _ n)
 
 pub multiplicand-fits : {r : Field} (w : ℕ) (s : List ℕ) (k : ℕ) {v : ℕ} {c : Cursor} → w ≤ 16 → outcome r ≡ field w s k → r ≡ Value v c → v < 65536
 multiplicand-fits w s k h p q = lt-of-lt-of-le (value-below w s k p q) (pow-mono {i = w} {j = 16} h)
-
-abbrev pub withValues : ℕ → Parameters → List ℕ → Lookup
-withValues type p list =
-    record { lookup = type; minimum = p .minimum; delta = p .delta; width = p .width; sequence = p .sequence; multiplicands = list }
-
-abbrev pub afterParameters : ℕ → ℕ → ℕ → ℕ → ℕ → List ℕ → Parameters × ℕ → Outcome (Lookup × ℕ)
-afterParameters place type count most before s p =
-    need (leb (before + count) most) (refusal 14 place) (then (many (field (p .0 .width)) count s (p .1)) (λ list. ok (withValues type (p .0) (list .0), list .1)))
-
-pub values-as : (place type count most before : ℕ) (s : List ℕ) (k : ℕ) → values place type count most before s k ≡ then (parameters s k) (afterParameters place type count most before s)
-unfolding values parameters
-values-as place type count most before s k =
-    let h = afterParameters place type count most before s in
-    then-into h (field 32 s k) _ _ (λ minimum.
-    then-into h (field 32 s (minimum .1)) _ _ (λ delta.
-    then-into h (field 4 s (delta .1)) _ _ (λ width.
-    then-into h (field 1 s (width .1)) _ _ (λ sequence. refl))))
-
--- what is known of the four numbers
-pub record Narrow (p : Parameters) : Type 0 where
-  pub minimum : p .minimum < 4294967296
-  pub delta : p .delta < 4294967296
-  pub width-low : 1 ≤ p .width
-  pub width-high : p .width ≤ 16
-  pub sequence : p .sequence ≤ 1
-
-pub parameters-ok : (s : List ℕ) (k : ℕ) {p : Parameters} {n : ℕ} → parameters s k ≡ ok (p, n) → Narrow p
-unfolding parameters
-parameters-ok s k {p} {n} e =
-    let a = then-ok (field 32 s k) _ e in
-    let b = then-ok (field 32 s (a .0 .1)) _ (a .2) in
-    let c = then-ok (field 4 s (b .0 .1)) _ (b .2) in
-    let d = then-ok (field 1 s (c .0 .1)) _ (c .2) in
-    let q : _≡_ {A = Parameters × ℕ} (record { minimum = a .0 .0; delta = b .0 .0; width = c .0 .0 + 1; sequence = d .0 .0 }, d .0 .1) (p, n)
-    = same-ok (ok (record { minimum = a .0 .0; delta = b .0 .0; width = c .0 .0 + 1; sequence = d .0 .0 }, d .0 .1)) refl (d .2) in
-    let p₁ = field-ok s k 32 (a .1) .below in
-    let p₂ = field-ok s (a .0 .1) 32 (b .1) .below in
-    let p₃ = field-ok s (b .0 .1) 4 (c .1) .below in
-    let p₄ = field-ok s (c .0 .1) 1 (d .1) .below in
-    rw (← (ap (λ (x : Parameters × ℕ). x .0) q)) (record { minimum = omega arith; delta = omega arith; width-low = omega arith; width-high = omega arith; sequence = omega arith })
 
 -- an answer's four numbers
 abbrev fromAnswer : D.Parameters → Parameters

@@ -9,7 +9,7 @@ use mathlib.Core.Logic.{_⊎_, ⊎-elim}
 use mathlib.Core.Path.{_≡_, refl, sym, ap, _∙_}
 use lib.Dec.{leb}
 use Rattle.reading.proofs.Least.{lt-or-le}
-use Rattle.book_lookup.specs.Reading.{greatest, lookup1Values}
+use Rattle.book.specs.LookupReading.{greatest, lookup1Values}
 
 module _ (d e : ℕ) where
   -- a number whose power is within is the greatest up to itself

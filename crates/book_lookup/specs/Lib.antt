@@ -1,3 +1,1 @@
-pub mod Reading
-pub mod Vectors
 pub mod inner

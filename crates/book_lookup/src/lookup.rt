@@ -10,8 +10,8 @@ ghost use lib.ListN.{length};
 ghost use Rattle.reading.specs.Reader.{mapped, many};
 ghost use Rattle.bits.specs.Field.{field};
 ghost use Rattle.bits.specs.inner.Cursors.{position, Wrote};
-ghost use Rattle.book_lookup.specs.Reading.{valueCount, values, lookup};
-ghost use Rattle.book_lookup.specs.inner.Parts.{parameters, stored};
+ghost use Rattle.book.specs.LookupReading.{valueCount, values, lookup};
+ghost use Rattle.book.specs.inner.LookupParts.{parameters, stored};
 ghost use Rattle.book_lookup.specs.inner.Answers.{parametersRead, numbersOf};
 
 pub struct Parameters {

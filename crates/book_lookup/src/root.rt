@@ -1,6 +1,6 @@
 // How many multiplicands a lookup of type 1 has (002; 000, section 9.2.3).
 ghost use mathlib.Core.Path.{_≡_};
-ghost use Rattle.book_lookup.specs.Reading.{lookup1Values};
+ghost use Rattle.book.specs.LookupReading.{lookup1Values};
 
 // The greatest number whose power by the dimensions is not above the entries, found by halving.
 pub fn lookup1_values(entries: u32, dimensions: u32) -> u32

@@ -19,19 +19,19 @@ use Rattle.limits.specs.declared.Limits.{Limits}
 use Rattle.codeword_assignment.specs.Book.{ledgerCodewords, loneMark}
 use Rattle.book.specs.Layout.{bookWidth, bookRow}
 use Rattle.bits.proofs.Parts.{mapped-then, mapped-mapped, wrote-mapped, wrote-as}
-use Rattle.book_head.specs.Reading.{Head, head}
-use Rattle.book_head.specs.inner.Answers.{totals, headOf, headRead}
+use Rattle.book.specs.HeadReading.{Head, head, totals}
+use Rattle.book_head.specs.inner.Answers.{headOf, headRead}
 use Rattle.book_head.specs.declared.head.Head as D
 use Rattle.book_head.specs.declared.head.HeadRead.{HeadRead}
 use Rattle.book_head.specs.declared.head.HeadRead.the-variants as H
-use Rattle.book_lengths.specs.inner.Parts.{entries}
-use Rattle.book_lengths.specs.inner.Parts as L
-use Rattle.book_lengths.proofs.Accepted.{entries-known}
-use Rattle.book_lookup.specs.Reading.{Lookup, lookup}
-use Rattle.book_lookup.specs.inner.Parts.{stored}
-use Rattle.book_reading.specs.Reading.{book}
-use Rattle.book_reading.specs.inner.Parts.{bookOf, body}
-use Rattle.book_reading.specs.inner.Layout.{Tables, tables, putBook, finished}
+use Rattle.book.specs.inner.LengthsParts.{entries}
+use Rattle.book.specs.inner.LengthsParts as L
+use Rattle.book.proofs.LengthsAccepted.{entries-known}
+use Rattle.book.specs.LookupReading.{Lookup, lookup}
+use Rattle.book.specs.inner.LookupParts.{stored}
+use Rattle.book.specs.Reading.{book}
+use Rattle.book.specs.inner.Parts.{bookOf, body}
+use Rattle.book.specs.inner.Layout.{Tables, tables, putBook, finished}
 
 -- the lookup and the row
 module _ (h : Head) (bk m : List ℕ) (index before values lone : ℕ) where

@@ -18,13 +18,14 @@ ghost use lib.Seq.{sets};
 ghost use Rattle.reading.specs.Reader.{mapped, into, into1};
 ghost use Rattle.bits.specs.inner.Cursors.{position, Wrote};
 ghost use Rattle.book.specs.Layout.{bookWidth};
-ghost use Rattle.book_head.specs.inner.Answers.{totals, headOf};
-ghost use Rattle.book_lookup.specs.Reading.{lookup};
+ghost use Rattle.book.specs.HeadReading.{totals};
+ghost use Rattle.book_head.specs.inner.Answers.{headOf};
+ghost use Rattle.book.specs.LookupReading.{lookup};
 ghost use Rattle.book_lookup.specs.inner.Answers.{numbersOf};
-ghost use Rattle.book_reading.specs.Reading.{book};
-ghost use Rattle.book_reading.specs.inner.Parts.{body, section};
-ghost use Rattle.book_reading.specs.inner.Layout.{putBook, tables, finished};
-ghost use Rattle.book_reading.specs.inner.BookBuffers.{BookBuffers, Begins, BookAt};
+ghost use Rattle.book.specs.Reading.{book};
+ghost use Rattle.book.specs.inner.Parts.{body, section};
+ghost use Rattle.book.specs.inner.Layout.{putBook, tables, finished};
+ghost use Rattle.book.specs.inner.BookBuffers.{BookBuffers, Begins, BookAt};
 
 // Where reading goes on, or the refusal; and how many entries and multiplicands the books have by then.
 pub struct BooksRead {

@@ -16,11 +16,11 @@ use Rattle.codeword_assignment.specs.Book.{ledgerCodewords}
 use Rattle.codeword_assignment.proofs.Laws.{codewords-length}
 use Rattle.book.specs.Content.{Book}
 use Rattle.book.specs.Layout.{bookWidth, bookRow}
-use Rattle.book_head.specs.inner.Answers.{totals}
-use Rattle.book_reading.specs.Reading.{andThis}
-use Rattle.book_reading.specs.Rows.{bookRows, allLengths, allCodewords, allMultiplicands, decodeBooks}
-use Rattle.book_reading.specs.inner.Valid.{ValidBooks}
-use Rattle.book_reading.proofs.BooksStored.{row-length, within-entries, within-values, decode-books}
+use Rattle.book.specs.HeadReading.{totals}
+use Rattle.book.specs.Reading.{andThis}
+use Rattle.book.specs.Rows.{bookRows, allLengths, allCodewords, allMultiplicands, decodeBooks}
+use Rattle.book.specs.inner.Valid.{ValidBooks}
+use Rattle.book.proofs.BooksStored.{row-length, within-entries, within-values, decode-books}
 use Rattle.book_tables.specs.declared.row.Row.{Row}
 use Rattle.book_tables.specs.inner.Rules.{rowOf, BookRules}
 use Rattle.book_tables.specs.inner.Recognised.{Countable, BooksLeft, Clear, OneContent}

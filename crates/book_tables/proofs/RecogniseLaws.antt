@@ -12,7 +12,7 @@ use lib.Seq.{drop-drop}
 use Rattle.reading.proofs.Encodes.{iff-false, refuted, shown}
 use Rattle.limits.specs.declared.Limits.{Limits}
 use Rattle.book.specs.Layout.{bookWidth, booksNeed}
-use Rattle.book_reading.specs.inner.BookBuffers.{BookBuffers}
+use Rattle.book.specs.inner.BookBuffers.{BookBuffers}
 use Rattle.book_tables.specs.declared.row.Row.{Row}
 use Rattle.book_tables.specs.inner.Rules.{rowOf, BookRules, Begun}
 use Rattle.book_tables.specs.inner.Recognised.{Countable, BooksLeft, Clear, BooksRecognised}

@@ -20,7 +20,7 @@ use Rattle.reading.proofs.Encodes.{iff-false, iff-true, refuted, shown}
 use Rattle.limits.specs.declared.Limits.{Limits}
 use Rattle.codeword_assignment.specs.Book.{Coded, loneMark}
 use Rattle.book.specs.Layout.{bookWidth}
-use Rattle.book_lookup.specs.Reading.{valueCount}
+use Rattle.book.specs.LookupReading.{valueCount}
 use Rattle.book_tables.specs.declared.row.Row.{Row}
 use Rattle.book_tables.specs.inner.Recognised.{Clear}
 use Rattle.book_tables.specs.inner.Rules.{rowOf, HeadRules, PlaceRules, NoneRules, SomeRules, LookupRules, BookRules, Begun}

@@ -16,10 +16,10 @@ use Rattle.codeword_assignment.specs.Book.{ledgerCodewords, loneMark}
 use Rattle.codeword_assignment.proofs.Laws.{codewords-length}
 use Rattle.book.specs.Content.{Book}
 use Rattle.book.specs.Layout.{bookWidth, bookRow}
-use Rattle.book_head.specs.inner.Answers.{totals}
-use Rattle.book_reading.specs.Carried.{NoLookup, SomeLookup}
-use Rattle.book_reading.specs.inner.Valid.{ValidBook}
-use Rattle.book_reading.proofs.RuleLaws.{rule6-met, rule7-met, rule8-met, rule14-met, some-dimensions, some-entries, known-lookup, lengths-accepted, few-entries}
+use Rattle.book.specs.HeadReading.{totals}
+use Rattle.book.specs.Carried.{NoLookup, SomeLookup}
+use Rattle.book.specs.inner.Valid.{ValidBook}
+use Rattle.book.proofs.RuleLaws.{rule6-met, rule7-met, rule8-met, rule14-met, some-dimensions, some-entries, known-lookup, lengths-accepted, few-entries}
 use Rattle.book_tables.specs.declared.row.Row.{Row}
 use Rattle.book_tables.specs.inner.Rules.{rowOf, NoneRules, SomeRules, BookRules}
 use Rattle.book_tables.proofs.Small.{accepted-small}

@@ -7,7 +7,7 @@ use reading::widths::wide_u32;
 ghost use mathlib.Core.Path.{_≡_};
 ghost use mathlib.Core.Bool.{true};
 ghost use mathlib.Core.Logic.{_↔_};
-ghost use Rattle.book_reading.specs.inner.BookBuffers.{BookBuffers};
+ghost use Rattle.book.specs.inner.BookBuffers.{BookBuffers};
 ghost use Rattle.book_tables.specs.inner.Recognised.{Countable, BooksLeft, BooksRecognised, OneContent};
 
 // The books one after the other, with how many entries and multiplicands those before have; then zeros.

@@ -9,15 +9,12 @@ use Rattle.reading.specs.Lists.{rows}
 use Rattle.reading.specs.Pad.{pad}
 use Rattle.reading.proofs.Pads.{length-pad}
 use Rattle.reading.proofs.Stored.{Stored, stored-at, stored-left, stored-right, stored-first, stored-rest, stored-slice, stored-self}
-use Rattle.floor_class.specs.Layout.{classRow}
-use Rattle.floor_class.specs.inner.Decode.{classesAt}
-use Rattle.floor_class.proofs.Decoded.{classes-decoded}
-use Rattle.floor_x_list.specs.Content.{xList}
-use Rattle.floor.specs.Content.{Floor}
-use Rattle.floor.specs.Layout.{floorRow}
+use Rattle.floor.specs.Layout.{classRow, floorRow}
+use Rattle.floor.specs.inner.Decode.{classesAt, floorAt, decodeFloor}
+use Rattle.floor.proofs.ClassDecoded.{classes-decoded}
+use Rattle.floor.specs.Content.{xList, Floor}
 use Rattle.floor.specs.inner.Valid.{ValidFloor}
-use Rattle.floor.specs.inner.Decode.{floorAt, decodeFloor}
-use Rattle.floor.proofs.RowLaws.{class-count-most}
+use Rattle.floor.proofs.CountLaws.{class-count-most}
 use Rattle.floor.proofs.ValidLaws.{values-few}
 
 -- the row of a floor has 277 numbers

@@ -19,10 +19,10 @@ use Rattle.bits.specs.Field.{field}
 use Rattle.bits.proofs.Fields.{field-ok}
 use Rattle.reading.proofs.Stored.{Stored, rows-stored}
 use Rattle.numbers.proofs.Accepted.{field-below}
-use Rattle.floor_class.specs.Reading.{class}
-use Rattle.floor_class.proofs.Accepted.{classes-valid}
-use Rattle.floor_x_list.specs.Reading.{ends}
-use Rattle.floor_x_list.proofs.Accepted.{ends-fit}
+use Rattle.floor.specs.ClassReading.{class}
+use Rattle.floor.proofs.ClassAccepted.{classes-valid}
+use Rattle.floor.specs.XListReading.{ends}
+use Rattle.floor.proofs.XListAccepted.{ends-fit}
 use Rattle.floor.specs.Content.{Floor, classCount, valueCount, noFloor}
 use Rattle.floor.specs.Layout.{floorRow}
 use Rattle.floor.specs.Reading.{floorType, floorFrom, floor1, floor}

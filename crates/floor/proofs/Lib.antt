@@ -1,5 +1,7 @@
-pub mod FloorLaws
-pub mod RowLaws
+pub mod CountLaws
 pub mod ValidLaws
+pub mod ClassAccepted
+pub mod ClassDecoded
+pub mod XListAccepted
 pub mod Decoded
 pub mod Laws

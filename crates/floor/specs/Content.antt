@@ -1,8 +1,22 @@
--- A floor of type 1 as content: every number that the rules name, without how it was coded (004, "header decode"; 01, "Setup order").
-use Prim.Native.Nat.{ℕ, suc, _+_, max}
+-- A floor of type 1 as content, its partition classes and its X list: every number that the rules name, without how it was coded (004, "header decode"; 01,
+-- "Setup order"). A place for a codebook holds the book's number plus one, or 0 for none.
+use Prim.Native.Nat.{ℕ, suc, _+_, max, _^_}
 use mathlib.Core.List.{List, [], _∷_}
 use lib.ListN.{getD}
-use Rattle.floor_class.specs.Content.{Class}
+
+-- a partition class (004, steps 7 to 12)
+pub record Class : Type 0 where
+  -- how many values a partition of this class has, 1 to 8
+  pub dimensions : ℕ
+  -- the base 2 logarithm of the number of its subclass books
+  pub subclasses : ℕ
+  -- the book that chooses among them; none where there is but one
+  pub master : ℕ
+  pub books : List ℕ
+
+-- what stands for a class past the last
+abbrev pub noClass : Class
+noClass = record { dimensions = 0; subclasses = 0; master = 0; books = [] }
 
 pub record Floor : Type 0 where
   -- the class of each partition (004, step 4)
@@ -30,3 +44,11 @@ valueCount dims (c ∷ cs) = dimensionsOf dims c + valueCount dims cs
 -- what stands for a floor past the last
 abbrev pub noFloor : Floor
 noFloor = record { partitions = []; classes = []; multiplier = 0; rangebits = 0; xs = [] }
+
+-- THE WHOLE X LIST: 0 and 2 ^ rangebits stand before the X values that are read (004, steps 15 to 22)
+abbrev pub xList : ℕ → List ℕ → List ℕ
+xList rangebits xs = 0 ∷ 2 ^ rangebits ∷ xs
+
+-- how many places it has in a buffer and in a floor's row: two and 63
+abbrev pub xListRoom : ℕ
+xListRoom = 65

@@ -1,14 +1,22 @@
--- A floor's row in the table of floors: 277 numbers. docs/TABLES.md draws it.
+-- A floor's row in the table of floors: 277 numbers, and within it the row of each class: 11. docs/TABLES.md draws them.
 use Prim.Native.Nat.{ℕ, _+_, _*_}
 use mathlib.Core.List.{List, [], _∷_, _++_}
 use lib.ListN.{length}
 use Rattle.reading.specs.Pad.{pad}
 use Rattle.reading.specs.Lists.{rows}
-use Rattle.floor_class.specs.Layout.{classRow}
-use Rattle.floor_x_list.specs.Content.{xListRoom, xList}
-use Rattle.floor.specs.Content.{Floor}
+use Rattle.floor.specs.Content.{xListRoom, xList, Floor, Class}
 
--- the width of a row; the fixed need of the table, of 64 rows; where its partitions, its classes, its X list begin, and in the list 2 ^ rangebits and the X values that are read; how many places
+-- A CLASS: the width of its row, and how many places its subclass books have
+abbrev pub classWidth : ℕ
+classWidth = 11
+
+abbrev pub subclassBooksRoom : ℕ
+subclassBooksRoom = 8
+
+unfoldable pub classRow : Class → List ℕ
+classRow c = c .dimensions ∷ c .subclasses ∷ c .master ∷ pad subclassBooksRoom (c .books)
+
+-- A FLOOR: the width of its row; the fixed need of the table, of 64 rows; where its partitions, its classes, its X list begin, and in the list 2 ^ rangebits and the X values that are read; how many places
 -- partitions (31) and classes (16 of 11) have
 abbrev pub floorWidth : ℕ
 floorWidth = 277

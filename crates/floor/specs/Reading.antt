@@ -5,8 +5,8 @@ use Rattle.reading.specs.Outcome.{ok, then}
 use Rattle.reading.specs.Reader.{Reader, judged, many}
 use Rattle.bits.specs.Field.{field}
 use Rattle.rules.specs.Rules as Rule
-use Rattle.floor_class.specs.Reading.{class}
-use Rattle.floor_x_list.specs.Reading.{ends}
+use Rattle.floor.specs.ClassReading.{class}
+use Rattle.floor.specs.XListReading.{ends}
 use Rattle.floor.specs.Content.{Floor, classCount, valueCount}
 
 -- the type: 0 is 14, above 1 is 10

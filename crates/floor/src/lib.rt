@@ -1,5 +1,4 @@
-// Floors in a setup packet: what one is, its rules, its row in the tables, reading it.
-pub mod floor;
+// Floors of type 1: what one is, its partition classes and its X list among it, its rules, how it is read, its row in the tables. Definitions and laws; the constants of the layout.
 
 // The width of a floor's row in the table, the table's fixed need, where its parts begin, and how many places partitions and classes have (specs/Layout.antt).
 pub const FLOOR_WIDTH: usize = 277;
@@ -19,3 +18,8 @@ pub const X_VALUES_PLACE: usize = 214;
 pub const PARTITIONS_ROOM: usize = 31;
 
 pub const CLASSES_ROOM: usize = 176;
+
+// The width of a class's row within it, and how many places the X list has.
+pub const CLASS_WIDTH: usize = 11;
+
+pub const X_LIST_ROOM: usize = 65;

@@ -1,23 +1,20 @@
 -- Laws of reading a class, as the code asks them: one for each way out of a function. Assumes nothing.
-use Prim.Native.Nat.{ℕ, suc, _+_, _^_, _≤_, _<_}
+use Prim.Native.Nat.{ℕ, _+_, _^_, _≤_, _<_}
 use native.Mathlib.Numerals.{add-one}
 use native.Mathlib.Omega.{arith}
 use borrow.Author.Needs.{needs}
-use borrow.Author.Tests.{lt-ltb, le-ltb, le-leb, lt-leb, eq-eqb, ne-eqb, ltb-true, eqb-true, eqb-false}
-use mathlib.Core.Bool.{Bool, true, false, cond}
+use borrow.Author.Tests.{lt-ltb, le-ltb, le-leb, lt-leb, eq-eqb, ne-eqb}
 use mathlib.Core.List.{List, [], _∷_, _++_}
 use mathlib.Core.Path.{_≡_, refl, sym, ap, _∙_}
-use lib.Dec.{eqb, ltb}
 use lib.ListN.{length, set, replicate}
 use lib.Pow.{pow-mono}
 use lib.Seq.{sets}
 use Rattle.reading.specs.Outcome.{Outcome, ok, bad, then}
-use Rattle.reading.specs.Reader.{many, judged, mapped, into, into1}
+use Rattle.reading.specs.Reader.{many, mapped, into, into1}
 use Rattle.reading.specs.Pad.{pad}
 use Rattle.reading.specs.inner.Table.{Table, table, putRow}
-use Rattle.reading.proofs.Outcomes.{judged-ok}
 use Rattle.reading.proofs.Pads.{pad-nil, length-pad}
-use Rattle.reading.proofs.Readers.{mapped-ok, mapped-bad}
+use Rattle.reading.proofs.Readers.{mapped-bad}
 use Rattle.bits.specs.declared.Cursor.{Cursor}
 use Rattle.bits.specs.declared.Refusal.{Refusal}
 use Rattle.bits.specs.declared.Field.{Field}
@@ -30,10 +27,10 @@ use Rattle.bits.proofs.Answers.{value-is, refused-is, value-below}
 use Rattle.bits.proofs.Steps.{wrote-refused, wrote-next, wrote-bad}
 use Rattle.numbers.specs.inner.Cell.{cell}
 use Rattle.numbers.proofs.Collected.{collected, rows-cell, wrote-as}
-use Rattle.floor_class.specs.Layout.{classRow}
-use Rattle.floor_class.specs.Reading.{masterBook, subclassBook, class}
+use Rattle.floor.specs.Layout.{classRow}
+use Rattle.floor.specs.ClassReading.{masterBook, subclassBook, class}
+use Rattle.floor.proofs.ClassAccepted.{master-ok}
 use Rattle.floor_class.specs.inner.Pieces.{classRowOf}
-use Rattle.floor_class.specs.inner.Valid.{MasterFits}
 
 abbrev at : ℕ → Cursor → Refusal
 at n c = record { number = n; place = c }
@@ -57,23 +54,6 @@ module _ (books subclasses : ℕ) (s : List ℕ) (k : Cursor) where
       pub master-set : v < books → outcome (Value (v + 1) k₁) ≡ masterBook books subclasses s (position k)
       unfolding masterBook outcome mapped
       master-set h = rw (ne-eqb _ _ some, value-is p q, lt-ltb _ _ h, add-one)
-
--- which master books are accepted
-pub master-ok : (books subclasses : ℕ) (s : List ℕ) (k : ℕ) {m n : ℕ} → masterBook books subclasses s k ≡ ok (m, n) → MasterFits books subclasses m
-unfolding masterBook
-master-ok books subclasses s k {m} {n} e = go (eqb subclasses 0) refl e
-  where
-    go : (b : Bool) → eqb subclasses 0 ≡ b → cond b (ok (0, k)) (mapped suc (judged (λ v. ltb v books) 11 (field 8) s k)) ≡ ok (m, n) → MasterFits books subclasses m
-    go true p q =
-        let t : _≡_ {A = ℕ × ℕ} (0, k) (m, n) = cc in
-        let z : 0 ≡ m = ap (λ (x : ℕ × ℕ). x .0) t in
-        record { none = λ h. sym z; some = λ h. absurd (h (eqb-true _ _ p)); most = omega arith }
-    go false p q =
-        let a = mapped-ok suc (judged (λ v. ltb v books) 11 (field 8) s k) q in
-        let j = judged-ok (λ v. ltb v books) 11 (field 8) s k (a .1) in
-        let l : a .0 < books = ltb-true (a .0) books (j .1) in
-        let x : suc (a .0) ≡ m = a .2 in
-        record { none = λ h. absurd (eqb-false _ _ p h); some = λ h. omega arith; most = omega arith }
 
 -- a subclass book
 module _ (books : ℕ) (s : List ℕ) (k : Cursor) {r : Field} (p : outcome r ≡ field 8 s (position k)) where

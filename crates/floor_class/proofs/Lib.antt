@@ -1,4 +1,1 @@
 pub mod ClassLaws
-pub mod Accepted
-pub mod Decoded
-pub mod ValidLaws

@@ -1,4 +1,2 @@
 -- Statements that functions of this crate and their proofs share. No public contract rests on how they are worded.
-pub mod Valid
 pub mod Pieces
-pub mod Decode

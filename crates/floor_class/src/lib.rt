@@ -3,6 +3,7 @@ use bits::Cursor;
 use bits::Field;
 use bits::Refusal;
 use bits::Step;
+use floor::CLASS_WIDTH;
 use reading::buffers;
 use reading::widths::wide_u16;
 ghost use mathlib.Core.Path.{_≡_};
@@ -11,12 +12,9 @@ ghost use Rattle.reading.specs.Reader.{many, into, into1};
 ghost use Rattle.reading.specs.inner.Table.{table, putRow};
 ghost use Rattle.bits.specs.inner.Cursors.{position, outcome, Wrote};
 ghost use Rattle.numbers.specs.inner.Cell.{cell};
-ghost use Rattle.floor_class.specs.Layout.{classRow, classWidth};
-ghost use Rattle.floor_class.specs.Reading.{masterBook, subclassBook, class};
+ghost use Rattle.floor.specs.Layout.{classRow, classWidth};
+ghost use Rattle.floor.specs.ClassReading.{masterBook, subclassBook, class};
 ghost use Rattle.floor_class.specs.inner.Pieces.{classRowOf};
-
-// The width of a class's row (specs/Layout.antt).
-pub const CLASS_WIDTH: usize = 11;
 
 // The master book's number plus one, read only where there are subclass bits.
 pub fn read_master_book(packet: &[u8], from: Cursor, book_count: u32, subclasses: u32) -> Field

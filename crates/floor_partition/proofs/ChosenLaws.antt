@@ -23,8 +23,8 @@ use Rattle.bits.specs.declared.Step.the-variants.{Next, Refused}
 use Rattle.bits.specs.inner.Cursors.{position, refusalOf, Wrote}
 use Rattle.bits.proofs.Steps.{wrote-refused, wrote-next, wrote-bad, wrote-ok}
 use Rattle.numbers.specs.inner.Cell.{cell}
-use Rattle.floor_class.specs.Content.{Class}
-use Rattle.floor_class.specs.inner.Decode.{classAt}
+use Rattle.floor.specs.Content.{Class}
+use Rattle.floor.specs.inner.Decode.{classAt}
 use Rattle.floor_partition.specs.Partition.{chosen, value}
 use Rattle.book_codeword.specs.inner.Stored.{lengthsIn}
 use Rattle.floor_partition.specs.inner.Stored.{classIn, PlaceStored, ClassStored}

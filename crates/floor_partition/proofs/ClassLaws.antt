@@ -24,8 +24,8 @@ use Rattle.codeword.proofs.Laws.{read-used}
 use Rattle.book.specs.Layout.{entriesAt, firstEntryAt}
 use Rattle.book_codeword.specs.inner.Stored.{lengthsIn, entriesOf, BookStored}
 use Rattle.numbers.specs.inner.Cell.{cell}
-use Rattle.floor_class.specs.inner.Decode.{classAt}
-use Rattle.floor_class.proofs.ValidLaws.{master-most}
+use Rattle.floor.specs.inner.Decode.{classAt}
+use Rattle.floor.proofs.ValidLaws.{master-most}
 use Rattle.floor_partition.specs.Partition.{classValue, value}
 use Rattle.floor_partition.specs.inner.Stored.{classIn, Readable, PlaceStored, ClassStored}
 

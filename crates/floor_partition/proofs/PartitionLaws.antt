@@ -18,7 +18,7 @@ use Rattle.bits.specs.inner.Cursors.{position, outcome, Wrote}
 use Rattle.bits.proofs.Answers.{value-is, refused-is}
 use Rattle.bits.proofs.Steps.{wrote-refused}
 use Rattle.numbers.specs.inner.Cell.{cell}
-use Rattle.floor_class.specs.Content.{Class}
+use Rattle.floor.specs.Content.{Class}
 use Rattle.numbers.proofs.Collected.{rows-cell, wrote-as}
 use Rattle.floor_partition.specs.Partition.{classValue, chosen, value, partition, whole}
 

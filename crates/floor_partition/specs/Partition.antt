@@ -8,7 +8,7 @@ use lib.ListN.{getD}
 use Rattle.reading.specs.Outcome.{ok, then}
 use Rattle.reading.specs.Reader.{Reader, each}
 use Rattle.codeword.specs.Codeword.{codeword}
-use Rattle.floor_class.specs.Content.{Class}
+use Rattle.floor.specs.Content.{Class}
 
 -- 10 to 12: the class value, read with the master book; 0 where the class has no subclass bits. A place for a book holds its number plus one
 unfoldable pub classValue : (ℕ → List ℕ) → Class → Reader ℕ

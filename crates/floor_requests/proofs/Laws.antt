@@ -11,8 +11,7 @@ use Rattle.reading.specs.Outcome.{Outcome, ok, bad, then}
 use Rattle.reading.specs.Reader as reader
 use Rattle.bits.specs.Field.{field}
 use Rattle.codeword.specs.Codeword.{codeword}
-use Rattle.floor_class.specs.Content.{Class, noClass}
-use Rattle.floor.specs.Content.{Floor}
+use Rattle.floor.specs.Content.{Class, noClass, Floor}
 use Rattle.floor_partition.specs.Partition.{classValue, chosen, value, partition, whole}
 use Rattle.floor_values.specs.Values.{firstBits, partitionOf, usedValues, floorValues}
 use Rattle.requests.specs.Requests.{Request, number, word, floor, Requests, done, request, bind, many, each}

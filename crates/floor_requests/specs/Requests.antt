@@ -6,8 +6,7 @@ use mathlib.Core.List.{List, _++_}
 use lib.Dec.{eqb}
 use lib.ListN.{getD}
 use Rattle.reading.specs.Lists.{rows}
-use Rattle.floor_class.specs.Content.{Class, noClass}
-use Rattle.floor.specs.Content.{Floor}
+use Rattle.floor.specs.Content.{Class, noClass, Floor}
 use Rattle.floor_partition.specs.Partition.{chosen, whole}
 use Rattle.floor_values.specs.Values.{firstBits}
 use Rattle.requests.specs.Requests.{number, word, floor, Requests, done, request, bind, many, each}

@@ -8,12 +8,10 @@ use lib.ListN.{length, getD}
 use lib.Seq.{slice}
 use Rattle.reading.specs.Lists.{rows}
 use Rattle.reading.specs.Pad.{pad}
-use Rattle.floor_class.specs.Content.{Class, noClass}
-use Rattle.floor_x_list.specs.Content.{xList}
-use Rattle.floor.specs.Content.{Floor}
-use Rattle.floor_class.specs.Layout.{classRow}
+use Rattle.floor.specs.Content.{Class, noClass, xList, Floor}
+use Rattle.floor.specs.Layout.{classRow}
 use Rattle.reading.proofs.Stored.{Stored, stored-slice, stored-number, rows-stored-in}
-use Rattle.floor_class.proofs.Decoded.{ClassStored, class-long, class-stored}
+use Rattle.floor.proofs.ClassDecoded.{ClassStored, class-long, class-stored}
 use Rattle.floor.proofs.Decoded.{FloorStored}
 
 -- row c of the rows of classes

@@ -1,15 +1,16 @@
 // The numbers of a floor, read from its row in the table: `floor` is the floor's number, its row begins at 277 * floor. A place past the
 // table's end reads as 0.
+pub mod counts; // how many classes and X values a floor has
+
+use floor::CLASS_WIDTH;
 use floor::CLASSES_PLACE;
 use floor::FLOOR_WIDTH;
 use floor::PARTITIONS_PLACE;
-use floor_class::CLASS_WIDTH;
 use reading::buffers;
 ghost use mathlib.Core.Path.{_≡_};
 ghost use Prim.Native.Nat.{_+_, _*_, _<_};
 ghost use lib.ListN.{getD};
-ghost use Rattle.floor.specs.Layout.{floorWidth, partitionsPlace, classesPlace};
-ghost use Rattle.floor_class.specs.Layout.{classWidth};
+ghost use Rattle.floor.specs.Layout.{floorWidth, partitionsPlace, classesPlace, classWidth};
 
 pub fn partition_count(floors: &[u16], floor: usize) -> u16
     requires { ⌜ floor < 64 ⌝ }

@@ -11,7 +11,7 @@ use lib.ListN.{getD}
 use lib.Pow.{pow-mono}
 use Rattle.reading.proofs.Least.{below-suc}
 use Rattle.reading.proofs.Encodes.{iff-false, iff-true, refuted, shown}
-use Rattle.floor_class.specs.inner.Valid.{MasterFits}
+use Rattle.floor.specs.inner.Valid.{MasterFits}
 use Rattle.floor_tables.specs.inner.ClassRules.{Below, BookRules, ClassRules, ClassesRules}
 
 -- numbers below a limit

@@ -12,14 +12,13 @@ use Rattle.reading.specs.Lists.{rows}
 use Rattle.reading.specs.Pad.{pad}
 use Rattle.reading.specs.Encoding.{Each}
 use Rattle.reading.proofs.EachLaws.{each-at}
-use Rattle.floor_class.specs.Content.{Class, noClass}
-use Rattle.floor_class.specs.Layout.{classRow}
-use Rattle.floor_class.specs.inner.Valid.{ValidClass}
-use Rattle.floor_class.specs.inner.Decode.{classAt, classesAt}
+use Rattle.floor.specs.Content.{Class, noClass}
+use Rattle.floor.specs.Layout.{classRow}
+use Rattle.floor.specs.inner.Valid.{ValidClass}
+use Rattle.floor.specs.inner.Decode.{classAt, classesAt}
 use Rattle.reading.proofs.Stored.{Stored, stored-at, stored-both}
-use Rattle.floor_class.proofs.Decoded.{class-long}
-use Rattle.floor_class.proofs.Decoded.{ClassStored, class-stored}
-use Rattle.floor_class.proofs.ValidLaws.{master-fits}
+use Rattle.floor.proofs.ClassDecoded.{class-long, ClassStored, class-stored}
+use Rattle.floor.proofs.ValidLaws.{master-fits}
 use Rattle.floor_row.proofs.Laws.{class-row}
 use Rattle.floor_tables.specs.inner.ClassRules.{ClassRules, ClassesRules}
 use Rattle.floor_tables.proofs.Runs.{slice-long, stored-cons, slice-stored, stored-padded, padded-zeros, padded-below, slice-below, same-limit, other-limit}

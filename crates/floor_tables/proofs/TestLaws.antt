@@ -14,7 +14,7 @@ use lib.Seq.{slice}
 use Rattle.reading.specs.Lists.{distinct}
 use Rattle.reading.proofs.Least.{below-suc}
 use Rattle.reading.proofs.Parts.{part-slice}
-use Rattle.floor.specs.inner.Pieces.{classesTo, valuesTo}
+use Rattle.floor.specs.inner.Counts.{classesTo, valuesTo}
 use Rattle.floor_tables.specs.inner.ClassRules.{Below, ClassesRules}
 use Rattle.reading.proofs.Encodes.{iff-false, iff-true, refuted, shown}
 use Rattle.floor_tables.specs.inner.Rules.{PartitionRules, NamedRules, CountRules, HeadRules, ListRules, FloorRules, FloorsRules}

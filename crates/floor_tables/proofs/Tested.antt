@@ -15,20 +15,16 @@ use Rattle.reading.specs.Pad.{pad}
 use Rattle.reading.specs.Encoding.{Zeros, Each}
 use Rattle.reading.proofs.EachLaws.{each-map, each-at}
 use Rattle.reading.proofs.Pads.{length-pad}
-use Rattle.floor_class.specs.Content.{Class}
-use Rattle.floor.specs.Content.{Floor, classCount, valueCount, noFloor}
-use Rattle.floor_x_list.specs.Content.{xList}
-use Rattle.floor_class.specs.Layout.{classRow}
-use Rattle.floor.specs.Layout.{floorRow}
+use Rattle.floor.specs.Content.{Class, Floor, classCount, valueCount, noFloor, xList}
+use Rattle.floor.specs.Layout.{classRow, floorRow}
 use Rattle.floor.specs.inner.Valid.{ValidFloor}
-use Rattle.floor.specs.inner.Pieces.{classesTo, valuesTo}
+use Rattle.floor.specs.inner.Counts.{classesTo, valuesTo}
 use Rattle.floor_tables.specs.inner.Rules.{ListRules, FloorRules, FloorsRules}
-use Rattle.floor_class.specs.inner.Decode.{classesAt}
-use Rattle.floor.specs.inner.Decode.{floorAt}
+use Rattle.floor.specs.inner.Decode.{classesAt, floorAt}
 use Rattle.floor_tables.specs.inner.Recognised.{FloorsRecognised}
 use Rattle.reading.proofs.Stored.{Stored, stored-at, stored-both, stored-first, stored-rest, stored-slice, stored-of}
-use Rattle.floor_class.proofs.Decoded.{class-long}
-use Rattle.floor.proofs.RowLaws.{class-count-most, classes-counted, values-counted}
+use Rattle.floor.proofs.ClassDecoded.{class-long}
+use Rattle.floor.proofs.CountLaws.{class-count-most, classes-counted, values-counted}
 use Rattle.floor.proofs.Decoded.{floor-long, FloorStored, floor-stored, xs-stored}
 use Rattle.floor.proofs.ValidLaws.{values-few, classes-meet}
 use Rattle.floor.proofs.Laws.{floors-row}

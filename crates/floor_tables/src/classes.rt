@@ -1,14 +1,14 @@
 // Whether the rows of classes that are right for so many codebooks lie from a place on.
 use crate::below::are_below;
 use crate::below::number;
-use floor_class::CLASS_WIDTH;
+use floor::CLASS_WIDTH;
 use reading::buffers;
 use reading::widths::wide_u16;
 ghost use mathlib.Core.Path.{_≡_};
 ghost use mathlib.Core.Bool.{true};
 ghost use mathlib.Core.Logic.{_↔_};
 ghost use Prim.Native.Nat.{_≤_};
-ghost use Rattle.floor_class.specs.inner.Valid.{MasterFits};
+ghost use Rattle.floor.specs.inner.Valid.{MasterFits};
 ghost use Rattle.floor_tables.specs.inner.ClassRules.{BookRules, ClassRules, ClassesRules};
 
 // Whether there is a master book exactly where there are subclass bits, and it is set up.

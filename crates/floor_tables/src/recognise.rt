@@ -2,6 +2,7 @@
 use crate::below::are_below;
 use crate::below::number;
 use crate::classes::are_classes;
+use floor::CLASS_WIDTH;
 use floor::CLASSES_PLACE;
 use floor::FLOOR_WIDTH;
 use floor::FLOORS_NEED;
@@ -9,7 +10,6 @@ use floor::PARTITIONS_PLACE;
 use floor::RANGE_PLACE;
 use floor::X_LIST_PLACE;
 use floor::X_VALUES_PLACE;
-use floor_class::CLASS_WIDTH;
 use reading::buffers;
 use reading::widths::wide_u16;
 use reading::widths::wide_u32;
@@ -52,7 +52,7 @@ fn are_named(floors: &[u16], at: usize, book_count: usize) -> bool
         return false;
     }
     if count
-        != floor::floor::class_count(
+        != floor_row::counts::class_count(
             &floors[at + PARTITIONS_PLACE..at + CLASSES_PLACE],
             number(floors, at),
         )
@@ -82,7 +82,7 @@ fn is_counted(floors: &[u16], at: usize) -> bool
     if values < 2 {
         return false;
     }
-    let read = floor::floor::value_count(
+    let read = floor_row::counts::value_count(
         &floors[at + PARTITIONS_PLACE..at + CLASSES_PLACE],
         number(floors, at),
         &floors[at + CLASSES_PLACE..at + X_LIST_PLACE],

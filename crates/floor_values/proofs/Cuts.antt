@@ -14,8 +14,7 @@ use Rattle.bits.specs.Field.{field}
 use Rattle.bits.proofs.Cuts.{field-cut-packet}
 use Rattle.codeword.specs.Codeword.{codeword}
 use Rattle.codeword.proofs.Laws.{codeword-cut-packet}
-use Rattle.floor_class.specs.Content.{Class, noClass}
-use Rattle.floor.specs.Content.{Floor}
+use Rattle.floor.specs.Content.{Class, noClass, Floor}
 use Rattle.floor_partition.specs.Partition.{classValue, chosen, value, partition, whole}
 use Rattle.floor_values.specs.Values.{firstBits, partitionOf, usedValues, floorValues}
 use Rattle.floor_values.specs.Claims.{SameOrCut}

@@ -21,10 +21,8 @@ use Rattle.reading.proofs.Basics.{other-than-zero}
 use Rattle.bits.specs.Field.{field}
 use Rattle.bits.proofs.Fields.{field-ok}
 use Rattle.codeword.specs.Codeword.{codeword}
-use Rattle.floor_class.specs.Content.{Class, noClass}
-use Rattle.floor.specs.Content.{Floor, valueCount}
-use Rattle.floor_x_list.specs.Content.{xList}
-use Rattle.floor_class.specs.Rules.{Class11}
+use Rattle.floor.specs.Content.{Class, noClass, Floor, valueCount, xList}
+use Rattle.floor.specs.Rules.{Class11}
 use Rattle.floor.specs.inner.Valid.{ValidFloor}
 use Rattle.floor_partition.specs.Partition.{classValue, chosen, value, partition, whole}
 use Rattle.floor_values.specs.Values.{firstBits, partitionOf, usedValues, floorValues}

@@ -18,12 +18,10 @@ use Rattle.bits.specs.declared.Step.the-variants as S
 use Rattle.bits.specs.inner.Cursors.{position, Wrote}
 use Rattle.bits.proofs.Steps.{EachRest, each-loop-start, each-loop-next, each-loop-refused, each-loop-done}
 use Rattle.bits.proofs.Written.{wrote-through}
-use Rattle.floor.specs.Content.{classCount}
-use Rattle.floor_class.specs.Content.{noClass}
-use Rattle.floor_class.specs.inner.Decode.{classAt, classesAt}
-use Rattle.floor.specs.inner.Decode.{floorAt}
-use Rattle.floor_class.specs.inner.Valid.{ValidClass}
-use Rattle.floor.proofs.RowLaws.{class-count-most}
+use Rattle.floor.specs.Content.{classCount, noClass}
+use Rattle.floor.specs.inner.Decode.{classAt, classesAt, floorAt}
+use Rattle.floor.specs.inner.Valid.{ValidClass}
+use Rattle.floor.proofs.CountLaws.{class-count-most}
 use Rattle.floor.proofs.ValidLaws.{classes-meet}
 use Rattle.floor_partition.specs.Partition.{partition, whole}
 use Rattle.floor_values.specs.Values.{partitionOf}

@@ -12,8 +12,7 @@ use Rattle.reading.specs.Reader.{Reader, many, each, mapped}
 use Rattle.bits.specs.Field.{valueAt, field}
 use Rattle.codeword_assignment.specs.Book.{used, isLone, firstUsed}
 use Rattle.codeword.specs.Codeword.{bitsAt, entryOf, orGoOn, matching, codeword}
-use Rattle.floor_class.specs.Content.{Class, noClass}
-use Rattle.floor.specs.Content.{Floor}
+use Rattle.floor.specs.Content.{Class, noClass, Floor}
 use Rattle.floor_partition.specs.Partition.{classValue, chosen, value, partition, whole}
 use Rattle.floor_values.specs.Values.{firstBits, partitionOf, usedValues, floorValues}
 

@@ -6,8 +6,7 @@ use mathlib.Core.Option.{some}
 use mathlib.Core.Path.{_≡_}
 use lib.ListN.{length, getD, take}
 use Rattle.reading.specs.Outcome.{Refusal, refusal, Outcome, ok, bad}
-use Rattle.floor_x_list.specs.Content.{xList}
-use Rattle.floor.specs.Content.{Floor}
+use Rattle.floor.specs.Content.{xList, Floor}
 use Rattle.floor_values.specs.Values.{floorValues}
 
 -- what reading a cut packet comes to, beside what the whole packet gives: the same, or the cut

@@ -13,8 +13,7 @@ use Rattle.reading.specs.Reader.{Reader, many, each, mapped}
 use Rattle.reading.specs.Lists.{rows}
 use Rattle.bits.specs.Field.{field}
 use Rattle.bits.specs.Ilog.{ilog}
-use Rattle.floor.specs.Content.{Floor}
-use Rattle.floor_class.specs.Content.{noClass}
+use Rattle.floor.specs.Content.{Floor, noClass}
 use Rattle.floor_partition.specs.Partition.{partition, whole}
 use Rattle.floor_points.specs.FinalY.{rangeOf}
 

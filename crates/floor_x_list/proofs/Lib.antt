@@ -1,2 +1,1 @@
 pub mod XListLaws
-pub mod Accepted

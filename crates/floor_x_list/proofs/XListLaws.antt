@@ -2,19 +2,17 @@
 use Prim.Native.Nat.{ℕ, _+_, _^_, _≤_, _<_}
 use native.Mathlib.Omega.{arith}
 use borrow.Author.Needs.{needs}
-use borrow.Author.Tests.{le-leb, lt-leb, leb-true, not-true, not-false}
-use mathlib.Core.Bool.{Bool, true, false, not, cond}
+use borrow.Author.Tests.{le-leb, lt-leb, not-true, not-false}
+use mathlib.Core.Bool.{Bool, true, false, not}
 use mathlib.Core.List.{List, [], _∷_}
 use mathlib.Core.Path.{_≡_, refl, sym, ap, _∙_}
-use lib.Dec.{leb}
 use lib.ListN.{length, set, replicate}
 use lib.Seq.{slice}
-use Rattle.reading.specs.Outcome.{ok, bad, then, refusal}
+use Rattle.reading.specs.Outcome.{ok}
 use Rattle.reading.specs.Reader.{many, mapped, into}
 use Rattle.reading.specs.Lists.{distinct}
 use Rattle.reading.specs.Pad.{pad}
 use Rattle.reading.specs.inner.Table.{Table, table, putRow}
-use Rattle.reading.proofs.Outcomes.{then-ok}
 use Rattle.reading.proofs.Pads.{length-pad}
 use Rattle.reading.proofs.Readers.{mapped-ok, mapped-bad}
 use Rattle.reading.proofs.Accepted.{many-number}
@@ -31,7 +29,8 @@ use Rattle.bits.proofs.Steps.{wrote-refused, wrote-next, wrote-bad, wrote-ok}
 use Rattle.numbers.specs.inner.Cell.{cell}
 use Rattle.numbers.proofs.Collected.{Collected, gathered, rows-cell}
 use Rattle.numbers.proofs.ListLaws.{take-pad}
-use Rattle.floor_x_list.specs.Reading.{xValues, ends, endsFrom}
+use Rattle.floor.specs.XListReading.{xValues, ends, endsFrom}
+use Rattle.floor.proofs.XListAccepted.{values-ok}
 use Rattle.floor_x_list.specs.inner.Pieces.{EndsRead, endsRead, endsInBuffer}
 
 abbrev at : ℕ → Cursor → Refusal
@@ -52,15 +51,6 @@ module _ (place : Cursor) (b n : ℕ) (s : List ℕ) (k : Cursor) (l : List ℕ)
     pub x-many : {c : Cursor} → st ≡ S.Next c → (t : Table) → Wrote (into (putRow cell) (xValues (position place) b n s (position k)) (table l 2)) (S.Refused (at 12 place)) t
     unfolding xValues into mapped
     x-many q t = wrote-refused t (rw (lt-leb _ _ h, mapped-ok _ (many (field b) 63 s (position k)) (wrote-ok w q) .1))
-
--- what accepted X values are
-pub values-ok : (place b n : ℕ) (s : List ℕ) (k : ℕ) {xs : List ℕ} {j : ℕ} → xValues place b n s k ≡ ok (xs, j) → (n ≤ 63) × (many (field b) n s k ≡ ok (xs, j))
-unfolding xValues
-values-ok place b n s k {xs} {j} e = go (leb n 63) refl e
-  where
-    go : (t : Bool) → leb n 63 ≡ t → cond t (many (field b) n s k) (then (many (field b) 63 s k) (λ _. bad (refusal 12 place))) ≡ ok (xs, j) → (n ≤ 63) × (many (field b) n s k ≡ ok (xs, j))
-    go true p q = (leb-true _ _ p, q)
-    go false p q = let a = then-ok (many (field b) 63 s k) (λ _. bad (refusal 12 place)) q in let z : _≡_ {A = ℕ} 0 1 = cc in absurd (omega arith)
 
 -- a complete X list, judged
 module _ (place n m b : ℕ) (s : List ℕ) (k : ℕ) (xs : List ℕ) {l : List ℕ} where

@@ -4,6 +4,7 @@ use bits::Cursor;
 use bits::Field;
 use bits::Refusal;
 use bits::Step;
+use floor::X_LIST_ROOM;
 use reading::buffers;
 use reading::widths::wide_u32;
 ghost use mathlib.Core.Path.{_≡_};
@@ -13,12 +14,9 @@ ghost use Rattle.reading.specs.Reader.{mapped, into};
 ghost use Rattle.reading.specs.inner.Table.{table, putRow};
 ghost use Rattle.bits.specs.inner.Cursors.{position, Wrote};
 ghost use Rattle.numbers.specs.inner.Cell.{cell};
-ghost use Rattle.floor_x_list.specs.Reading.{xValues, ends, endsFrom};
+ghost use Rattle.floor.specs.XListReading.{xValues, ends, endsFrom};
 ghost use Rattle.floor_x_list.specs.inner.Pieces.{endsRead, endsInBuffer};
-ghost use Rattle.floor_x_list.specs.Content.{xListRoom};
-
-// How many places an X list has (specs/Content.antt).
-pub const X_LIST_ROOM: usize = 65;
+ghost use Rattle.floor.specs.Content.{xListRoom};
 
 // The X values, from place 2 on. The count is judged before each is read: of more than 63 the 64th is refused.
 pub fn read_x_values(

@@ -1,5 +1,5 @@
-// Mappings in a setup packet: what one is, its rules, its row in the tables, its counts (003, section 4.2.4, "Mappings"; 01, refusals 9 and 11).
-pub mod counts; // how many submaps and coupling steps
+// Mappings: what one is, its rules, how it is read, its row in the tables (003, section 4.2.4, "Mappings"; 01, refusals 9 and 11). Definitions and laws; the
+// constants of the layout.
 
 // The width of a mapping's row in the table, the table's fixed need, and where its parts begin (specs/Layout.antt).
 pub const MAPPING_WIDTH: usize = 804;

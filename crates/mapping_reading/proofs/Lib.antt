@@ -1,3 +1,4 @@
+pub mod CountLaws
 pub mod Fillings
 pub mod CouplingLaws
 pub mod SubmapLaws

@@ -1,5 +1,6 @@
 // Reading mappings into their table (003, section 4.2.4, "Mappings"; 01, refusals 9 and 11).
 // Each field is judged as soon as it is read; a refusal says nothing of the buffer, which the outermost function clears.
+pub mod counts; // how many submaps and coupling steps
 pub mod couplings; // the coupling steps, into their part of a mapping's row
 pub mod submaps; // each channel's submap, and the submaps, into theirs
 
@@ -120,9 +121,9 @@ pub fn read_mapping(
                     place: from,
                 });
             }
-            match mapping::counts::read_submap_count(packet, at_submaps) {
+            match counts::read_submap_count(packet, at_submaps) {
                 Field::Refused(z) => Step::Refused(z),
-                Field::Value(submaps, at_steps) => match mapping::counts::read_coupling_count(
+                Field::Value(submaps, at_steps) => match counts::read_coupling_count(
                     packet,
                     at_steps,
                 ) {

@@ -13,7 +13,6 @@ use Rattle.reading.specs.Pad.{pad}
 use Rattle.reading.specs.Encoding.{Each}
 use Rattle.reading.proofs.Outcomes.{then-ok, judged-ok}
 use Rattle.reading.proofs.Accepted.{many-each, many-number}
-use Rattle.reading.proofs.Encodes.{encodes-same}
 use Rattle.reading.proofs.Stored.{Stored, stored-first, stored-rest, rows-stored}
 use Rattle.bits.specs.Field.{field}
 use Rattle.bits.proofs.Fields.{field-ok}
@@ -22,7 +21,6 @@ use Rattle.mode.specs.Reading.{mode}
 use Rattle.mode.specs.Layout.{modeWidth, modeRow}
 use Rattle.mode.specs.inner.Valid.{ValidMode}
 use Rattle.mode.specs.inner.Decode.{decodeMode}
-use Rattle.mode.specs.inner.Recognised.{ModesRecognised}
 
 pub mode-wide : (m : Mode) → length (modeRow m) ≡ 2
 unfolding modeRow
@@ -49,10 +47,6 @@ mode-valid mappings s k x e =
 
 pub modes-valid : (mappings : ℕ) (s : List ℕ) (n k : ℕ) (x : List Mode × ℕ) → many (mode mappings) n s k ≡ ok x → (length (x .0) ≡ n) × Each (ValidMode mappings) (x .0)
 modes-valid mappings s n k x e = (many-number (mode mappings) s n k e, many-each (mode mappings) s (ValidMode mappings) (mode-valid mappings s) n k e)
-
--- no other modes share a table
-pub one-content : (mappings n : ℕ) (cells : List ℕ) (a b : ModesRecognised mappings n cells) → a .items ≡ b .items
-one-content mappings n cells a b = encodes-same modeRow (ValidMode mappings) 2 mode-wide decodeMode (λ m v. decode-mode m) n cells a b
 
 -- IN A TABLE THAT IS THE WRITING-OUT OF MODES, THE ROW OF MODE i LIES AT i TIMES THE WIDTH; d stands for a mode past the last
 pub modes-stored : (ms : List Mode) (t : List ℕ) → t ≡ pad (length t) (rows modeRow ms) → modeWidth * length ms ≤ length t → (i : ℕ) → i < length ms → (d : Mode) → Stored t (modeWidth * i) (modeRow (getD ms i d))

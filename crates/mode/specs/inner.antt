@@ -1,5 +1,3 @@
 -- Statements that functions of this crate and their proofs share. No public contract rests on how they are worded.
 pub mod Valid
-pub mod Types
 pub mod Decode
-pub mod Recognised

@@ -1,4 +1,3 @@
-pub mod HeadLaws
 pub mod HeadSound
 pub mod PlanSound
 pub mod RowsLaws

@@ -1,3 +1,4 @@
+pub mod HeadLaws
 pub mod SlotLaws
 pub mod CascadeLaws
 pub mod PlanLaws

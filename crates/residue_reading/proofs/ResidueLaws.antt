@@ -16,13 +16,14 @@ use Rattle.bits.specs.inner.Cursors.{position, refusalOf, Wrote}
 use Rattle.bits.proofs.Steps.{wrote-ok, wrote-bad, wrote-refused, Rest, loop-start, loop-next, loop-refused, loop-done}
 use Rattle.residue.specs.Reading.{Books, Head, cascade, head, residue, residueFrom}
 use Rattle.residue.specs.inner.FromTable.{booksOf}
-use Rattle.residue.specs.inner.Heads.{headOf, headRead}
+use Rattle.residue.specs.inner.Heads.{headOf}
+use Rattle.residue_reading.specs.inner.Heads.{headRead}
 use Rattle.residue.specs.Layout.{Tables, putResidue}
 use Rattle.residue.specs.inner.Plans.{tablesAt}
 use Rattle.residue_reading.specs.inner.Slots.{padWith}
 use Rattle.residue.specs.declared.head.Head as D
-use Rattle.residue.specs.declared.head.HeadRead.{HeadRead}
-use Rattle.residue.specs.declared.head.HeadRead.the-variants as H
+use Rattle.residue_reading.specs.declared.head.HeadRead.{HeadRead}
+use Rattle.residue_reading.specs.declared.head.HeadRead.the-variants as H
 use Rattle.residue_reading.proofs.SlotLaws.{length-padWith, take-padWith}
 use Rattle.residue.proofs.HeadSound.{head-sound}
 

@@ -1,7 +1,9 @@
 // Reading residues into the tables (003, 4.2.4, "Residues"; 001, "header decode"; 01, refusals 11 and 13).
+pub mod head; // the fields before the plan
 pub mod cascade; // which passes each class has a book for
 pub mod plan; // the plan: which book each class has at each pass
 
+use crate::head::HeadRead;
 use bits::Cursor;
 use bits::Refusal;
 use bits::Step;
@@ -9,7 +11,6 @@ use reading::widths::wide_u32;
 use residue::HEAD_WIDTH;
 use residue::PLAN_WIDTH;
 use residue::head::Head;
-use residue::head::HeadRead;
 ghost use mathlib.Core.Path.{_≡_};
 ghost use Prim.Native.Nat.{_+_, _≤_};
 ghost use lib.ListN.{length, take};
@@ -103,7 +104,7 @@ pub fn read_residue(
         (tablesAt (now (residues .entry)) (now (plans .entry)) index))
         r (tablesAt (now (residues .exit)) (now (plans .exit)) (index + 1)) ⌝ }
 {
-    match residue::head::read_head(packet, from, book_count) {
+    match head::read_head(packet, from, book_count) {
         HeadRead::Refused(z) => Step::Refused(z),
         HeadRead::Value(head, at_cascades) => {
             let cascades = crate::cascade::read_cascades(

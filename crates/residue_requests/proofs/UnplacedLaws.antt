@@ -13,8 +13,7 @@ use Rattle.requests.specs.Run.{read, Item, item, Run, continued, run}
 use Rattle.requests.proofs.Laws.{bind-end, bind-bind, bind-same}
 use Rattle.residue_requests.specs.Requests.{planned, classesOf, vectors, partition, acrossVectors, classWords, firstPass, laterPass, laterPasses, residueRequests}
 use Rattle.residue_requests.specs.Listed.{listed}
-use Rattle.residue_requests.specs.inner.Unplaced.{nowhere, unplacedRequest, unplacedItem, unplaced}
-use Rattle.residue_requests.specs.inner.Unplaced.{flatVectors, flatClassWords, flatPartition, flatPartitions, flatFirstPass, flatLaterPasses, flatResidue}
+use Rattle.residue_requests.specs.inner.Unplaced.{nowhere, unplacedRequest, unplacedItem, unplaced, flatVectors, flatClassWords, flatPartition, flatPartitions, flatFirstPass, flatLaterPasses, flatResidue}
 use Rattle.residue_requests.proofs.PassLaws.{partitions-append}
 
 module _ {A B : Type 0} where

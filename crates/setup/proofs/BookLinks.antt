@@ -11,9 +11,9 @@ use Rattle.reading.proofs.Pads.{pad-get, length-pad}
 use Rattle.reading.proofs.Least.{lt-or-le}
 use Rattle.book.specs.Content.{Book}
 use Rattle.book.specs.Layout.{bookWidth, bookRow, numberAt}
-use Rattle.book_head.specs.Reading.{Before}
-use Rattle.book_reading.specs.Rows.{bookRows, andThese}
-use Rattle.book_reading.proofs.BooksStored.{rows-length, row-at}
+use Rattle.book.specs.HeadReading.{Before}
+use Rattle.book.specs.Rows.{bookRows, andThese}
+use Rattle.book.proofs.BooksStored.{rows-length, row-at}
 use Rattle.residue.specs.Reading.{Books}
 use Rattle.residue.specs.inner.FromTable.{booksOf}
 use Rattle.setup.specs.Content.{booksKnown}

@@ -12,9 +12,9 @@ use Rattle.reading.specs.Pad.{pad}
 use Rattle.reading.specs.Encoding.{Each}
 use Rattle.reading.proofs.Encodes.{pad-append}
 use Rattle.limits.specs.declared.Limits.{Limits}
-use Rattle.book_head.specs.Reading.{Before}
-use Rattle.book_reading.specs.Rows.{decodeBooks}
-use Rattle.book_reading.proofs.BooksStored.{within-entries, within-values, decode-books}
+use Rattle.book.specs.HeadReading.{Before}
+use Rattle.book.specs.Rows.{decodeBooks}
+use Rattle.book.proofs.BooksStored.{within-entries, within-values, decode-books}
 use Rattle.floor.specs.inner.Decode.{decodeFloor}
 use Rattle.floor.specs.Layout.{floorRow}
 use Rattle.floor.specs.inner.Valid.{ValidFloor}

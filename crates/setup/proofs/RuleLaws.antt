@@ -10,13 +10,12 @@ use Rattle.reading.specs.Encoding.{Each}
 use Rattle.reading.proofs.EachLaws.{each-map, each-both}
 use Rattle.limits.specs.declared.Limits.{Limits}
 use Rattle.book.specs.Content.{Book}
-use Rattle.book_head.specs.Reading.{Before}
-use Rattle.book_reading.specs.Reading.{andThis}
-use Rattle.book_reading.specs.Carried.{CarriedBook}
-use Rattle.book_reading.specs.Rules.{Rule6, Rule7, Rule8, Book14}
-use Rattle.book_reading.specs.inner.Valid.{ValidBook, ValidBooks}
-use Rattle.floor_class.specs.Rules.{Class11}
-use Rattle.floor.specs.Rules.{Rule12}
+use Rattle.book.specs.HeadReading.{Before}
+use Rattle.book.specs.Reading.{andThis}
+use Rattle.book.specs.Carried.{CarriedBook}
+use Rattle.book.specs.Rules.{Rule6, Rule7, Rule8, Book14}
+use Rattle.book.specs.inner.Valid.{ValidBook, ValidBooks}
+use Rattle.floor.specs.Rules.{Class11, Rule12}
 use Rattle.residue.specs.Rules.{Rule10, Residue11, Rule13}
 use Rattle.setup.specs.Content.{Setup, booksKnown, known}
 use Rattle.setup.specs.Carried.{Carried}

@@ -21,9 +21,9 @@ use Rattle.identification.specs.declared.Identity.{Identity}
 use Rattle.identification.specs.Sound.{isSound}
 use Rattle.identification.proofs.SoundLaws.{sound-test}
 use Rattle.book.specs.Content.{Book}
-use Rattle.book_reading.specs.Reading.{books}
-use Rattle.book_reading.specs.inner.Valid.{ValidBooks}
-use Rattle.book_reading.proofs.Accepted.{books-valid}
+use Rattle.book.specs.Reading.{books}
+use Rattle.book.specs.inner.Valid.{ValidBooks}
+use Rattle.book.proofs.Accepted.{books-valid}
 use Rattle.floor.specs.Reading.{floor}
 use Rattle.floor.proofs.Laws.{floors-valid}
 use Rattle.residue.specs.Reading.{Books, residue}

@@ -5,7 +5,7 @@ use lib.ListN.{length}
 use Rattle.reading.specs.Lists.{rows}
 use Rattle.reading.specs.Pad.{pad}
 use Rattle.limits.specs.declared.Limits.{Limits}
-use Rattle.book_reading.specs.Rows.{bookRows, allLengths, allCodewords, allMultiplicands}
+use Rattle.book.specs.Rows.{bookRows, allLengths, allCodewords, allMultiplicands}
 use Rattle.floor.specs.Layout.{floorRow}
 use Rattle.residue.specs.Layout.{headRow, planTable}
 use Rattle.mapping.specs.Layout.{mappingRow}

@@ -4,7 +4,7 @@ use Prim.Native.Nat.{ℕ, _≤_}
 use lib.ListN.{length}
 use Rattle.reading.specs.Encoding.{Each}
 use Rattle.reading.specs.Counted.{Counted}
-use Rattle.book_reading.specs.Carried.{CarriedBook}
+use Rattle.book.specs.Carried.{CarriedBook}
 use Rattle.floor.specs.Carried.{CarriedFloor}
 use Rattle.residue.specs.Carried.{CarriedResidue}
 use Rattle.mapping.specs.Carried.{CarriedMapping}

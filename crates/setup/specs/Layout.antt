@@ -8,7 +8,7 @@ use Rattle.reading.specs.Lists.{rows}
 use Rattle.reading.specs.Pad.{pad}
 use Rattle.limits.specs.declared.Limits.{Limits}
 use Rattle.book.specs.Layout.{booksNeed}
-use Rattle.book_reading.specs.Rows.{bookRows, allLengths, allCodewords, allMultiplicands}
+use Rattle.book.specs.Rows.{bookRows, allLengths, allCodewords, allMultiplicands}
 use Rattle.floor.specs.Layout.{floorsNeed, floorRow}
 use Rattle.residue.specs.Layout.{residuesNeed, plansNeed, headRow, planTable}
 use Rattle.mapping.specs.Layout.{mappingsNeed, mappingRow}

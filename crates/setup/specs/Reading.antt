@@ -10,7 +10,7 @@ use Rattle.rules.specs.Rules as Rule
 use Rattle.header.specs.Header.{commonHeader, framing}
 use Rattle.limits.specs.declared.Limits.{Limits}
 use Rattle.book.specs.Content.{Book}
-use Rattle.book_reading.specs.Reading.{books}
+use Rattle.book.specs.Reading.{books}
 use Rattle.floor.specs.Content.{Floor}
 use Rattle.floor.specs.Reading.{floor}
 use Rattle.residue.specs.Content.{Residue}

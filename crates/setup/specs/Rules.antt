@@ -11,15 +11,14 @@ use Rattle.reading.specs.Encoding.{Each}
 use Rattle.limits.specs.declared.Limits.{Limits}
 use Rattle.rules.specs.Rules as Rule
 use Rattle.book.specs.Content.{Book}
-use Rattle.book_reading.specs.Rules.{Rule6, Rule7, Rule8, Book14}
-use Rattle.floor_class.specs.Rules.{Class11}
-use Rattle.floor.specs.Rules.{Rule12}
+use Rattle.book.specs.Rules.{Rule6, Rule7, Rule8, Book14}
+use Rattle.floor.specs.Rules.{Class11, Rule12}
 use Rattle.residue.specs.Rules.{Rule10, Residue11, Rule13}
 use Rattle.mapping.specs.Rules.{Mapping11}
 use Rattle.mode.specs.Rules.{Mode11}
 use Rattle.setup.specs.Content.{Setup, booksKnown}
 
--- 6, 7 and 8, of a book, and 14 of a book alone: crates/book_reading/specs/Rules.antt
+-- 6, 7 and 8, of a book, and 14 of a book alone: crates/book/specs/Rules.antt
 
 -- 11, of a floor's class, a residue, a mapping and a mode, where so many of each are set up
 pub record Rule11 (channels : ℕ) (c : Setup) : Type 0 where

@@ -14,15 +14,12 @@ use Rattle.limits.specs.declared.Limits.{Limits}
 use Rattle.identification.specs.declared.Identity.{Identity}
 use Rattle.identification.specs.Sound.{isSound}
 use Rattle.book.specs.Content.{Book}
-use Rattle.book_lookup.specs.Reading as L
-use Rattle.book_reading.specs.Carried.{NoLookup, SomeLookup, CarriedBook}
-use Rattle.book_reading.specs.Rules.{Rule6}
-use Rattle.floor_class.specs.Content.{Class}
-use Rattle.floor_class.specs.Carried.{CarriedClass}
-use Rattle.floor_class.specs.Rules.{Class11}
-use Rattle.floor.specs.Content.{Floor, classCount, valueCount}
-use Rattle.floor.specs.Carried.{CarriedFloor}
-use Rattle.floor.specs.Rules.{Rule12}
+use Rattle.book.specs.LookupReading as L
+use Rattle.book.specs.Carried.{NoLookup, SomeLookup, CarriedBook}
+use Rattle.book.specs.Rules.{Rule6}
+use Rattle.floor.specs.Content.{Class, Floor, classCount, valueCount}
+use Rattle.floor.specs.Carried.{CarriedClass, CarriedFloor}
+use Rattle.floor.specs.Rules.{Class11, Rule12}
 use Rattle.residue.specs.Content.{Residue}
 use Rattle.residue.specs.Carried.{Rows8, CarriedResidue}
 use Rattle.residue.specs.Rules.{Residue11}

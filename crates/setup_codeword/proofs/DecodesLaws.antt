@@ -15,10 +15,10 @@ use Rattle.codeword_assignment.proofs.Laws.{exactly-one-entry}
 use Rattle.codeword.specs.Codeword.{codeword}
 use Rattle.codeword.proofs.Laws.{read-whole, read-lone}
 use Rattle.book.specs.Content.{Book}
-use Rattle.book_head.specs.Reading.{Before}
-use Rattle.book_reading.specs.Reading.{andThis}
-use Rattle.book_reading.specs.inner.Valid.{ValidBooks}
-use Rattle.book_reading.proofs.RuleLaws as B
+use Rattle.book.specs.HeadReading.{Before}
+use Rattle.book.specs.Reading.{andThis}
+use Rattle.book.specs.inner.Valid.{ValidBooks}
+use Rattle.book.proofs.RuleLaws as B
 use Rattle.setup.specs.Content.{Setup, lengthsOf}
 use Rattle.setup.specs.Layout.{Tables, writtenOut}
 use Rattle.setup.specs.Call.{setupOf, setupCall, answered}

@@ -12,7 +12,7 @@ use Rattle.bits.specs.declared.Step.{Step}
 use Rattle.bits.specs.declared.Step.the-variants as S
 use Rattle.bits.specs.inner.Cursors.{position}
 use Rattle.limits.specs.declared.Limits.{Limits}
-use Rattle.book_reading.specs.inner.BookBuffers.{BookBuffers}
+use Rattle.book.specs.inner.BookBuffers.{BookBuffers}
 use Rattle.residue.specs.Reading.{Books}
 use Rattle.residue.specs.inner.FromTable.{booksOf}
 use Rattle.setup.specs.Content.{Setup, booksKnown}

@@ -12,7 +12,7 @@ ghost use mathlib.Core.Bool.{true};
 ghost use mathlib.Core.Path.{_≡_};
 ghost use Prim.Native.Nat.{_≤_};
 ghost use Rattle.bits.specs.inner.Cursors.{position};
-ghost use Rattle.book_reading.specs.inner.BookBuffers.{BookBuffers};
+ghost use Rattle.book.specs.inner.BookBuffers.{BookBuffers};
 ghost use Rattle.setup.specs.Layout.{hasRoom, tables};
 ghost use Rattle.setup.specs.Handed.{handed, leftIn};
 ghost use Rattle.setup.specs.inner.Parts.{ReadInto, Small, WrittenOut, bookPart, afterHeader};

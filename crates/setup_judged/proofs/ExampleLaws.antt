@@ -20,11 +20,11 @@ use Rattle.codespace.proofs.Whole.{answers-are}
 use Rattle.codeword_assignment.specs.Book.{used, isUsed, isLone, firstRefused, verdict}
 use Rattle.codeword_assignment.specs.Book as B
 use Rattle.codeword_assignment.proofs.Computed.{verdictBy, verdict-is}
-use Rattle.book_head.specs.Reading as H
-use Rattle.book_lengths.specs.Reading as L
-use Rattle.book_lookup.specs.Reading as U
-use Rattle.book_reading.specs.Reading as K
-use Rattle.floor_x_list.specs.Reading as X
+use Rattle.book.specs.HeadReading as H
+use Rattle.book.specs.LengthsReading as L
+use Rattle.book.specs.LookupReading as U
+use Rattle.book.specs.Reading as K
+use Rattle.floor.specs.XListReading as X
 use Rattle.floor.specs.Content.{classCount, valueCount}
 use Rattle.floor.specs.Reading as F
 use Rattle.residue.specs.Reading as R

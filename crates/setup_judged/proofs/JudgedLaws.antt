@@ -20,10 +20,10 @@ use Rattle.codeword_assignment.specs.Book as B
 use Rattle.codeword_assignment.specs.Book.{used, isLone, firstRefused, freeAfter, verdict}
 use Rattle.rules.specs.Rules.{meets7, meets8}
 use Rattle.book.specs.Content.{Book}
-use Rattle.book_head.specs.Reading.{Before}
-use Rattle.book_lengths.specs.Reading.{lengths, entered}
-use Rattle.book_lookup.specs.Reading.{Lookup}
-use Rattle.book_reading.specs.Reading.{book, andThis, books}
+use Rattle.book.specs.HeadReading.{Before}
+use Rattle.book.specs.LengthsReading.{lengths, entered}
+use Rattle.book.specs.LookupReading.{Lookup}
+use Rattle.book.specs.Reading.{book, andThis, books}
 use Rattle.floor.specs.Content.{Floor}
 use Rattle.floor.specs.Reading.{floor}
 use Rattle.residue.specs.Content.{Residue}

@@ -17,15 +17,13 @@ use Rattle.limits.specs.declared.Limits.{Limits}
 use Rattle.codeword_assignment.specs.Book.{used, firstRefused, freeAfter, isLone}
 use Rattle.rules.specs.Rules.{meets7, meets8}
 use Rattle.book.specs.Content.{Book}
-use Rattle.book_head.specs.Reading as H
-use Rattle.book_lengths.specs.Reading as L
-use Rattle.book_lookup.specs.Reading as U
-use Rattle.book_reading.specs.Reading as K
-use Rattle.floor_class.specs.Content.{Class}
-use Rattle.floor_class.specs.Reading as C
-use Rattle.floor_x_list.specs.Content.{xList}
-use Rattle.floor_x_list.specs.Reading as X
-use Rattle.floor.specs.Content.{classCount, valueCount}
+use Rattle.book.specs.HeadReading as H
+use Rattle.book.specs.LengthsReading as L
+use Rattle.book.specs.LookupReading as U
+use Rattle.book.specs.Reading as K
+use Rattle.floor.specs.Content.{Class, xList, classCount, valueCount}
+use Rattle.floor.specs.ClassReading as C
+use Rattle.floor.specs.XListReading as X
 use Rattle.floor.specs.Reading as F
 use Rattle.residue.specs.Reading as R
 use Rattle.mapping.specs.Content.{Coupling, Submap}

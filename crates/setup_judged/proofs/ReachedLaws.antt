@@ -13,11 +13,11 @@ use Rattle.identification.specs.declared.Identity.{Identity}
 use Rattle.codeword_assignment.specs.Book.{used, firstRefused, freeAfter, isLone}
 use Rattle.rules.specs.Rules.{meets7, meets8}
 use Rattle.book.specs.Content.{Book}
-use Rattle.book_head.specs.Reading.{Before, Head, head}
-use Rattle.book_lengths.specs.Reading.{lengths, entered}
-use Rattle.book_lookup.specs.Reading.{lookup}
-use Rattle.book_reading.specs.Reading.{book, andThis, books}
-use Rattle.book_reading.proofs.Accepted.{books-valid}
+use Rattle.book.specs.HeadReading.{Before, Head, head}
+use Rattle.book.specs.LengthsReading.{lengths, entered}
+use Rattle.book.specs.LookupReading.{lookup}
+use Rattle.book.specs.Reading.{book, andThis, books}
+use Rattle.book.proofs.Accepted.{books-valid}
 use Rattle.floor.specs.Reading.{floor}
 use Rattle.residue.specs.Reading.{residue}
 use Rattle.mapping.specs.Reading.{mapping}

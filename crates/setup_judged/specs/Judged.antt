@@ -1,5 +1,5 @@
 -- WHEN THE SETUP CALL GIVES 7 OR 8 FOR A BOOK (01, "Bits and books": once a setup call has read all lengths of a book, they are accepted when it gives neither
--- 7 nor 8 for that book). Refusals 7 and 8 have their place at the book's first bit (crates/book_lengths/specs/Reading.antt), so a book is named by it.
+-- 7 nor 8 for that book). Refusals 7 and 8 have their place at the book's first bit (crates/book/specs/LengthsReading.antt), so a book is named by it.
 use Prim.Native.Nat.{ℕ, _≤_}
 use mathlib.Core.Bool.{true, false}
 use mathlib.Core.List.{List}
@@ -15,9 +15,9 @@ use Rattle.identification.specs.declared.Identity.{Identity}
 use Rattle.identification.specs.Sound.{isSound}
 use Rattle.codeword_assignment.specs.Book.{used, isLone, firstRefused, freeAfter}
 use Rattle.book.specs.Content.{Book}
-use Rattle.book_head.specs.Reading.{Before, Head, head}
-use Rattle.book_lengths.specs.Reading.{lengths}
-use Rattle.book_reading.specs.Reading.{books}
+use Rattle.book.specs.HeadReading.{Before, Head, head}
+use Rattle.book.specs.LengthsReading.{lengths}
+use Rattle.book.specs.Reading.{books}
 use Rattle.setup.specs.Layout.{Tables, hasRoom}
 use Rattle.setup.specs.Rules.{entriesInAll, multiplicandsInAll}
 use Rattle.setup.specs.Call.{setupOf, setupCall}

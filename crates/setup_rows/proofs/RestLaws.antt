@@ -11,8 +11,7 @@ use Rattle.reading.proofs.EachLaws.{each-at}
 use Rattle.reading.proofs.Least.{lt-or-le}
 use Rattle.reading.proofs.Stored.{Stored}
 use Rattle.limits.specs.declared.Limits.{Limits}
-use Rattle.floor_x_list.specs.Content.{xList}
-use Rattle.floor.specs.Content.{Floor, noFloor}
+use Rattle.floor.specs.Content.{xList, Floor, noFloor}
 use Rattle.floor.specs.Layout.{floorRow}
 use Rattle.floor.specs.inner.Valid.{ValidFloor}
 use Rattle.floor.proofs.Decoded.{floor-long, floor-stored, floor-decoded-at}

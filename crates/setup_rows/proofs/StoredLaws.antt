@@ -14,12 +14,12 @@ use Rattle.codeword_assignment.proofs.Laws.{codewords-length}
 use Rattle.codeword.specs.inner.Book.{Codebook}
 use Rattle.book.specs.Content.{Book}
 use Rattle.book.specs.Layout.{bookWidth, bookRow, numberAt, entriesAt, firstEntryAt, loneAt}
-use Rattle.book_head.specs.Reading.{Before}
-use Rattle.book_reading.specs.Reading.{andThis}
-use Rattle.book_reading.specs.Rows.{bookRows, allLengths, allCodewords, andThese}
-use Rattle.book_reading.specs.inner.Valid.{ValidBook, ValidBooks}
-use Rattle.book_reading.proofs.RuleLaws.{lengths-accepted}
-use Rattle.book_reading.proofs.BooksStored.{row-at, these-entries, within-entries, pad-fits}
+use Rattle.book.specs.HeadReading.{Before}
+use Rattle.book.specs.Reading.{andThis}
+use Rattle.book.specs.Rows.{bookRows, allLengths, allCodewords, andThese}
+use Rattle.book.specs.inner.Valid.{ValidBook, ValidBooks}
+use Rattle.book.proofs.RuleLaws.{lengths-accepted}
+use Rattle.book.proofs.BooksStored.{row-at, these-entries, within-entries, pad-fits}
 use Rattle.book_codeword.specs.inner.Stored.{entriesOf, BookStored}
 use Rattle.setup.specs.Content.{lengthsOf}
 use Rattle.setup.specs.Layout.{Tables}

@@ -26,13 +26,13 @@ use Rattle.bits.proofs.Answers.{value-is, refused-is, value-below}
 use Rattle.bits.proofs.Steps.{next-is, stop-is}
 use Rattle.limits.specs.declared.Limits.{Limits}
 use Rattle.book.specs.Content.{Book}
-use Rattle.book_head.specs.Reading.{Before}
-use Rattle.book_reading.specs.inner.Layout.{tables, putBook}
-use Rattle.book_reading.specs.inner.Layout as B
-use Rattle.book_reading.specs.inner.Parts as P
-use Rattle.book_reading.specs.Reading.{books}
-use Rattle.book_reading.specs.Rows.{bookRows, allLengths, allCodewords, allMultiplicands, andThese}
-use Rattle.book_reading.proofs.BooksStored.{cleared-stored}
+use Rattle.book.specs.HeadReading.{Before}
+use Rattle.book.specs.inner.Layout.{tables, putBook}
+use Rattle.book.specs.inner.Layout as B
+use Rattle.book.specs.inner.Parts as P
+use Rattle.book.specs.Reading.{books}
+use Rattle.book.specs.Rows.{bookRows, allLengths, allCodewords, allMultiplicands, andThese}
+use Rattle.book.proofs.BooksStored.{cleared-stored}
 use Rattle.residue.specs.Content.{Residue}
 use Rattle.residue.specs.Layout.{headRow, planTable, putResidue}
 use Rattle.residue.specs.Layout as R

@@ -134,7 +134,13 @@ pub fn read_floor_section(
         },
         Field::Value(less_one, next) => {
             let count = less_one + 1;
-            let step = floor::floor::read_floors(packet, next, wide_u32(count), book_count, floors);
+            let step = floor_reading::read_floors(
+                packet,
+                next,
+                wide_u32(count),
+                book_count,
+                floors,
+            );
             Section { count, step }
         }
     }
@@ -222,7 +228,13 @@ pub fn read_mode_section(
         },
         Field::Value(less_one, next) => {
             let count = less_one + 1;
-            let step = mode::read_modes(packet, next, wide_u32(count), mapping_count, modes);
+            let step = mode_reading::read_modes(
+                packet,
+                next,
+                wide_u32(count),
+                mapping_count,
+                modes,
+            );
             Section { count, step }
         }
     }

@@ -13,7 +13,7 @@ use Rattle.floor_tables.specs.inner.Recognised.{FloorsRecognised}
 use Rattle.residue.specs.inner.FromTable.{booksOf}
 use Rattle.residue_tables.specs.inner.Recognised.{ResiduesRecognised}
 use Rattle.mapping_tables.specs.inner.Recognised.{MappingsRecognised}
-use Rattle.mode.specs.inner.Recognised.{ModesRecognised}
+use Rattle.mode_tables.specs.inner.Recognised.{ModesRecognised}
 use Rattle.setup.specs.Layout.{hasRoom, tables}
 use Rattle.setup.specs.inner.Parts.{Small}
 use Rattle.setup.specs.Sound.{Sound}

@@ -7,13 +7,12 @@ use lib.ListN.{length, getD}
 use Rattle.reading.specs.Pad.{pad}
 use Rattle.reading.specs.Counted.{Counted}
 use Rattle.reading.specs.Encoding.{Each}
-use Rattle.reading.specs.Counted.{Counted}
 use Rattle.reading.proofs.Encodes.{rows-length}
 use Rattle.limits.specs.declared.Limits.{Limits}
 use Rattle.book.specs.Content.{Book}
 use Rattle.book.specs.Layout.{booksNeed}
-use Rattle.book_head.specs.inner.Answers.{totals}
-use Rattle.book_reading.specs.Rows.{bookRows}
+use Rattle.book.specs.HeadReading.{totals}
+use Rattle.book.specs.Rows.{bookRows}
 use Rattle.book_tables.specs.inner.Recognised.{BooksRecognised}
 use Rattle.floor.specs.Content.{Floor}
 use Rattle.floor.specs.inner.Valid.{ValidFloor}
@@ -30,7 +29,7 @@ use Rattle.mapping.proofs.RowLaws.{mapping-wide}
 use Rattle.mapping_tables.specs.inner.Recognised.{MappingsRecognised}
 use Rattle.mode.specs.Layout.{modeRow}
 use Rattle.mode.specs.inner.Valid.{ValidMode}
-use Rattle.mode.specs.inner.Recognised.{ModesRecognised}
+use Rattle.mode_tables.specs.inner.Recognised.{ModesRecognised}
 use Rattle.mode.proofs.Laws.{mode-wide}
 use Rattle.setup.specs.Content.{Setup, booksKnown, known}
 use Rattle.setup.specs.Layout.{Tables, layout, writtenOut, tables}

@@ -14,7 +14,7 @@ ghost use Rattle.book_tables.specs.inner.Recognised.{BooksRecognised};
 ghost use Rattle.floor_tables.specs.inner.Recognised.{FloorsRecognised};
 ghost use Rattle.residue_tables.specs.inner.Recognised.{ResiduesRecognised};
 ghost use Rattle.mapping_tables.specs.inner.Recognised.{MappingsRecognised};
-ghost use Rattle.mode.specs.inner.Recognised.{ModesRecognised};
+ghost use Rattle.mode_tables.specs.inner.Recognised.{ModesRecognised};
 ghost use Rattle.setup.specs.inner.Parts.{Small};
 ghost use Rattle.setup_tables.specs.inner.Recognised.{CountsRecognised, FrontRecognised, BackRecognised, knownBy};
 
@@ -109,7 +109,7 @@ fn are_modes(counts: &[u32], modes: &[u8]) -> bool
     requires { ⌜ CountsRecognised (now counts) ⌝ }
     ensures { λ r. ⌜ (r ≡ true) ↔ ModesRecognised (getD (now (counts .entry)) 3 0) (getD (now (counts .entry)) 4 0) (now (modes .entry)) ⌝ }
 {
-    mode::recognise::are_modes(modes, wide_u32(get_u32(counts, 4)), get_u32(counts, 3))
+    mode_tables::recognise::are_modes(modes, wide_u32(get_u32(counts, 4)), get_u32(counts, 3))
 }
 
 // Books and floors.

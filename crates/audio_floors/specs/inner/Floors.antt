@@ -11,8 +11,7 @@ use Rattle.reading.specs.Least.{one}
 use Rattle.reading.specs.Pad.{pad}
 use Rattle.bits.specs.declared.Cursor.{Cursor}
 use Rattle.bits.specs.inner.Cursors.{position}
-use Rattle.floor_x_list.specs.Content.{xList, xListRoom}
-use Rattle.floor.specs.Content.{Floor}
+use Rattle.floor.specs.Content.{xList, xListRoom, Floor}
 use Rattle.floor.specs.Layout.{floorWidth, xListPlace}
 use Rattle.floor_points.specs.FinalY.{finalYs}
 use Rattle.floor_curve.specs.Curve.{curve}

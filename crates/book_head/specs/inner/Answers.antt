@@ -2,14 +2,10 @@
 use Prim.Native.Nat.{ℕ}
 use Rattle.reading.specs.Outcome.{Outcome, ok, bad}
 use Rattle.bits.specs.inner.Cursors.{position, refusalOf}
-use Rattle.book_head.specs.Reading.{Before, Head}
+use Rattle.book.specs.HeadReading.{Head}
 use Rattle.book_head.specs.declared.head.Head as D
 use Rattle.book_head.specs.declared.head.HeadRead.{HeadRead}
 use Rattle.book_head.specs.declared.head.HeadRead.the-variants as H
-
--- how many entries and multiplicands the books before have
-abbrev pub totals : ℕ → ℕ → Before
-totals entries values = record { entries = entries; values = values }
 
 abbrev pub headOf : D.Head → Head
 headOf h = record { dimensions = h .dimensions; entries = h .entries }

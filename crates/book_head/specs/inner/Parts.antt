@@ -1,4 +1,4 @@
--- A piece of specs/Reading.antt under a name of its own, for the function that reads it. Nothing is added to what is read.
+-- A piece of the head's reading (crates/book/specs/HeadReading.antt) under a name of its own, for the function that reads it. Nothing is added to what is read.
 use Prim.Native.Nat.{ℕ}
 use Rattle.reading.specs.Reader.{Reader, judged}
 use Rattle.bits.specs.Field.{field}

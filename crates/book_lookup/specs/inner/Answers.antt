@@ -3,7 +3,7 @@ use Prim.Native.Nat.{ℕ}
 use mathlib.Core.List.{List, [], _∷_}
 use Rattle.reading.specs.Outcome.{Outcome, ok, bad}
 use Rattle.bits.specs.inner.Cursors.{position, refusalOf}
-use Rattle.book_lookup.specs.inner.Parts.{Parameters}
+use Rattle.book.specs.inner.LookupParts.{Parameters}
 use Rattle.book_lookup.specs.declared.lookup.ParametersRead.{ParametersRead}
 use Rattle.book_lookup.specs.declared.lookup.ParametersRead.the-variants as P
 use Rattle.book_lookup.specs.declared.lookup.LookupRead.{LookupRead}

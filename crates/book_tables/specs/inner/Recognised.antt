@@ -8,9 +8,9 @@ use Rattle.reading.specs.Encoding.{Zeros}
 use Rattle.limits.specs.declared.Limits.{Limits}
 use Rattle.book.specs.Content.{Book}
 use Rattle.book.specs.Layout.{booksNeed}
-use Rattle.book_head.specs.inner.Answers.{totals}
-use Rattle.book_reading.specs.Rows.{bookRows, allLengths, allCodewords, allMultiplicands, decodeBooks}
-use Rattle.book_reading.specs.inner.Valid.{ValidBooks}
+use Rattle.book.specs.HeadReading.{totals}
+use Rattle.book.specs.Rows.{bookRows, allLengths, allCodewords, allMultiplicands, decodeBooks}
+use Rattle.book.specs.inner.Valid.{ValidBooks}
 
 -- what a caller may ask about: few books, and limits that a place in a table can count up to
 pub record Countable (limits : Limits) (count : ℕ) : Type 0 where

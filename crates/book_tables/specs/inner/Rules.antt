@@ -10,7 +10,7 @@ use lib.ListN.{length, getD, take}
 use Rattle.reading.specs.Lists.{all}
 use Rattle.limits.specs.declared.Limits.{Limits}
 use Rattle.codeword_assignment.specs.Book.{Coded, loneMark}
-use Rattle.book_lookup.specs.Reading.{valueCount}
+use Rattle.book.specs.LookupReading.{valueCount}
 use Rattle.book_tables.specs.declared.row.Row.{Row}
 
 -- the row that begins a list

@@ -2,8 +2,8 @@
 use Prim.Native.Nat.{_≤_, _-_}
 use native.Mathlib.Omega.{arith}
 use borrow.Author.Needs.{needs}
-use Rattle.floor_class.specs.Layout.{classRow}
-use Rattle.floor_class.specs.Reading.{class}
+use Rattle.floor.specs.Layout.{classRow}
+use Rattle.floor.specs.ClassReading.{class}
 use Rattle.numbers.proofs.Loops.{Filling, fill-start, fill-next, fill-refused, fill-done}
 use Rattle.floor_class.proofs.read_classes.Statement.{statement}
 use Rattle.floor_class.proofs.read_classes.Tie as tie

@@ -2,7 +2,7 @@
 use Prim.Native.Nat.{_≤_, _-_}
 use native.Mathlib.Omega.{arith}
 use Rattle.numbers.specs.inner.Cell.{cell}
-use Rattle.floor_class.specs.Reading.{subclassBook}
+use Rattle.floor.specs.ClassReading.{subclassBook}
 use Rattle.numbers.proofs.Loops.{Filling, fill-start, fill-next, fill-refused, fill-done}
 use borrow.Author.Needs.{needs}
 use Rattle.floor_class.proofs.read_subclass_books.Statement.{statement}

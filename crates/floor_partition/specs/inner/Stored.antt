@@ -4,9 +4,9 @@ use mathlib.Core.List.{List}
 use mathlib.Core.Path.{_≡_}
 use Rattle.book.specs.Layout.{entriesAt}
 use Rattle.book_codeword.specs.inner.Stored.{BookStored}
-use Rattle.floor_class.specs.Content.{Class}
-use Rattle.floor_class.specs.inner.Decode.{classAt}
-use Rattle.floor_class.specs.inner.Valid.{ValidClass}
+use Rattle.floor.specs.Content.{Class}
+use Rattle.floor.specs.inner.Decode.{classAt}
+use Rattle.floor.specs.inner.Valid.{ValidClass}
 
 -- class number c of floor number n
 unfoldable pub classIn : List ℕ → ℕ → ℕ → Class

@@ -3,8 +3,8 @@
 use Prim.Native.Nat.{ℕ, _+_, _*_, _^_, _≤_, _<_}
 use mathlib.Core.List.{List}
 use lib.ListN.{getD}
-use Rattle.floor_class.specs.Layout.{classWidth}
-use Rattle.floor_class.specs.inner.Valid.{MasterFits}
+use Rattle.floor.specs.Layout.{classWidth}
+use Rattle.floor.specs.inner.Valid.{MasterFits}
 
 -- every number from place `from` up to `to` is below the limit: below 1 it is 0
 pub record Below (t : List ℕ) (from to limit : ℕ) : Type 0 where

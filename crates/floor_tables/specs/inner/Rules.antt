@@ -7,9 +7,8 @@ use mathlib.Core.Path.{_≡_}
 use lib.ListN.{getD}
 use lib.Seq.{slice}
 use Rattle.reading.specs.Lists.{distinct}
-use Rattle.floor_class.specs.Layout.{classWidth}
-use Rattle.floor.specs.Layout.{floorWidth, partitionsPlace, classesPlace, xListPlace, rangePlace, xValuesPlace}
-use Rattle.floor.specs.inner.Pieces.{classesTo, valuesTo}
+use Rattle.floor.specs.Layout.{classWidth, floorWidth, partitionsPlace, classesPlace, xListPlace, rangePlace, xValuesPlace}
+use Rattle.floor.specs.inner.Counts.{classesTo, valuesTo}
 use Rattle.floor_tables.specs.inner.ClassRules.{Below, ClassesRules}
 
 -- a floor's partitions, where its row begins at place `at`

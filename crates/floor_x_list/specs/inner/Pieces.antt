@@ -2,8 +2,8 @@
 use Prim.Native.Nat.{ℕ}
 use mathlib.Core.List.{List}
 use Rattle.reading.specs.Pad.{pad}
-use Rattle.floor_x_list.specs.Content.{xListRoom, xList}
-use Rattle.floor_x_list.specs.Reading.{Ends}
+use Rattle.floor.specs.Content.{xListRoom, xList}
+use Rattle.floor.specs.XListReading.{Ends}
 
 -- the ends of a floor as the program holds them: the X list in a buffer
 pub record EndsRead : Type 0 where

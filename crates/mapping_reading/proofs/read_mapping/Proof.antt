@@ -1,6 +1,6 @@
 -- `mapping_reading::read_mapping` meets its contract, by MappingLaws and CountLaws. Assumes nothing.
 use Rattle.mapping_reading.proofs.MappingLaws.{type-cut, type-wrong, submap-count-refused, step-count-refused, mapping-rest}
-use Rattle.mapping.proofs.CountLaws.{submaps-few-here, steps-few-here}
+use Rattle.mapping_reading.proofs.CountLaws.{submaps-few-here, steps-few-here}
 use borrow.Author.Needs.{needs}
 use Rattle.mapping_reading.proofs.read_mapping.Statement.{statement}
 use Rattle.mapping_reading.proofs.read_mapping.Tie as tie

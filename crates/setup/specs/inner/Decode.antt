@@ -3,7 +3,7 @@
 use Prim.Native.Nat.{ℕ, zero, suc}
 use mathlib.Core.List.{List, [], _∷_}
 use lib.ListN.{getD, take, drop}
-use Rattle.book_reading.specs.Rows.{decodeBooks}
+use Rattle.book.specs.Rows.{decodeBooks}
 use Rattle.floor.specs.inner.Decode.{decodeFloor}
 use Rattle.residue.specs.inner.Decode.{decodeResidues}
 use Rattle.mapping.specs.inner.Decode.{decodeMapping}

@@ -16,8 +16,8 @@ use Rattle.limits.specs.declared.Limits.{Limits}
 use Rattle.identification.specs.declared.Identity.{Identity}
 use Rattle.identification.specs.Sound.{isSound}
 use Rattle.book.specs.Content.{Book}
-use Rattle.book_reading.specs.inner.BookBuffers.{BookBuffers}
-use Rattle.book_reading.specs.Rows.{bookRows, allLengths, allCodewords, allMultiplicands}
+use Rattle.book.specs.inner.BookBuffers.{BookBuffers}
+use Rattle.book.specs.Rows.{bookRows, allLengths, allCodewords, allMultiplicands}
 use Rattle.floor.specs.Content.{Floor}
 use Rattle.floor.specs.Layout.{floorRow}
 use Rattle.floor.specs.Reading.{floor}

@@ -5,7 +5,7 @@ use lib.ListN.{length}
 use Rattle.reading.specs.Encoding.{Each}
 use Rattle.reading.specs.Counted.{Counted}
 use Rattle.limits.specs.declared.Limits.{Limits}
-use Rattle.book_reading.specs.inner.Valid.{ValidBooks}
+use Rattle.book.specs.inner.Valid.{ValidBooks}
 use Rattle.floor.specs.inner.Valid.{ValidFloor}
 use Rattle.residue.specs.inner.Valid.{ValidResidue}
 use Rattle.mapping.specs.inner.Valid.{ValidMapping}

@@ -7,8 +7,7 @@ use lib.Seq.{slice}
 use Rattle.reading.specs.Counted.{Counted}
 use Rattle.limits.specs.declared.Limits.{Limits}
 use Rattle.book_codeword.specs.inner.Stored.{lengthsIn, dimensionsIn, BookStored}
-use Rattle.floor_x_list.specs.Content.{xList}
-use Rattle.floor.specs.Content.{noFloor}
+use Rattle.floor.specs.Content.{xList, noFloor}
 use Rattle.floor.specs.Layout.{floorWidth, xListPlace}
 use Rattle.floor_partition.specs.inner.Stored.{Readable}
 use Rattle.floor_values.specs.inner.Stored.{floorIn, FloorStored}

@@ -14,7 +14,7 @@ use Rattle.residue.specs.inner.FromTable.{booksOf}
 use Rattle.residue_tables.specs.inner.Recognised.{ResiduesRecognised}
 use Rattle.mapping.specs.declared.Known.{Known}
 use Rattle.mapping_tables.specs.inner.Recognised.{MappingsRecognised}
-use Rattle.mode.specs.inner.Recognised.{ModesRecognised}
+use Rattle.mode_tables.specs.inner.Recognised.{ModesRecognised}
 use Rattle.setup.specs.Layout.{Tables, hasRoom}
 
 -- how many books, floors, residues, mappings and modes there are, each as its field can carry it; zeros behind them (003, 4.2.4)

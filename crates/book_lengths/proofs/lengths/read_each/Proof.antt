@@ -3,7 +3,7 @@ use Rattle.bits.proofs.Answers.{value-is, refused-is}
 use Prim.Native.Nat.{_-_}
 use lib.ListN.{length}
 use Rattle.bits.specs.inner.Cursors.{position}
-use Rattle.book_lengths.specs.Reading.{entryLength}
+use Rattle.book.specs.LengthsReading.{entryLength}
 use Rattle.bits.proofs.Filling.{Filling, filling-start, filling-refused, filling-next, filling-done}
 use Rattle.book_lengths.proofs.LengthLaws.{length-laws}
 use borrow.Author.Needs.{needs}

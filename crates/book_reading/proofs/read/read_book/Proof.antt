@@ -1,6 +1,6 @@
 -- `book_reading::read::read_book` meets its contract, by BookLaws. Assumes nothing.
 use native.Mathlib.Omega.{arith}
-use Rattle.book_head.proofs.Accepted.{head-known}
+use Rattle.book_head.proofs.HeadLaws.{head-known}
 use Rattle.book_reading.proofs.BookLaws.{book-refused, book-whole}
 use borrow.Author.Needs.{needs}
 use Rattle.book_reading.proofs.read.read_book.Statement.{statement}

@@ -4,7 +4,7 @@ use native.Mathlib.Omega.{arith}
 use mathlib.Core.Path.{_≡_, refl}
 use Rattle.bits.specs.declared.Step.the-variants.{Next}
 use Rattle.bits.specs.inner.Cursors.{position}
-use Rattle.book_reading.specs.inner.BookBuffers.{BookBuffers}
+use Rattle.book.specs.inner.BookBuffers.{BookBuffers}
 use Rattle.book_reading.proofs.BooksLaws.{BooksRead, books-start, books-buffers, books-refused, books-next, books-done}
 use borrow.Author.Needs.{needs}
 use Rattle.book_reading.proofs.read.read_books.Statement.{statement}

@@ -1,6 +1,6 @@
 -- `book_tables::recognise::are_rows` meets its contract. Assumes nothing.
 use Prim.Native.Nat.{_-_}
-use Rattle.book_reading.specs.inner.BookBuffers.{BookBuffers}
+use Rattle.book.specs.inner.BookBuffers.{BookBuffers}
 use Rattle.book_tables.specs.inner.Recognised.{Countable}
 use Rattle.book_tables.proofs.RecogniseLaws.{Progress, progress-start, progress-stop, progress-next, progress-end, entries-fit, values-fit}
 use borrow.Author.Needs.{needs}

@@ -1,0 +1,7 @@
+-- Statements that functions of this crate and their proofs share. No public contract rests on how they are worded.
+pub mod LengthsParts
+pub mod LookupParts
+pub mod Parts
+pub mod Layout
+pub mod Valid
+pub mod BookBuffers

@@ -1,2 +1,0 @@
--- Statements that functions of this crate and their proofs share. No public contract rests on how they are worded.
-pub mod Parts
