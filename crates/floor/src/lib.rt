@@ -1,4 +1,5 @@
-// Floors of type 1: what one is, its partition classes and its X list among it, its rules, how it is read, its row in the tables. Definitions and laws; the constants of the layout.
+// Floors of type 1: what one is, with its partition classes and its X list, its rules, how it is read, its row in the tables. Definitions and laws; the constants
+// of the layout.
 
 // The width of a floor's row in the table, the table's fixed need, where its parts begin, and how many places partitions and classes have (specs/Layout.antt).
 pub const FLOOR_WIDTH: usize = 277;

@@ -1,4 +1,5 @@
-// Floors of a setup packet, read into the tables: floors of type 1 (004, "header decode"; 01, "Setup order"). A row is put together from three buffers: partitions, classes, X list.
+// Floors of a setup packet, read into the tables: floors of type 1 (004, "header decode"; 01, "Setup order"). A row is put together from three buffers:
+// partitions, classes, X list.
 use bits::Cursor;
 use bits::Field;
 use bits::Refusal;
