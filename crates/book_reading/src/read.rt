@@ -34,128 +34,112 @@ pub struct BooksRead {
     pub values: u32,
 }
 
-// A book's row, at its place in the table of books.
-fn write_row(
-    books: &mut [u32],
-    index: u32,
+// A book whose head is read: its first bit, its head, the limit on multiplicands, its number, and how many entries and multiplicands the books before it have.
+struct BookStart {
+    place: Cursor,
     head: Head,
+    most: u32,
+    index: u32,
     entries: u32,
-    l: LookupRead,
     values: u32,
-    lone: u32,
-)
-    requires { ⌜ index < 256 ⌝ }
+}
+
+// A book's row, at its place in the table of books.
+fn write_row(books: &mut [u32], at: BookStart, l: LookupRead, lone: u32)
+    requires { ⌜ at .index < 256 ⌝ }
     ensures { λ _. ⌜ now (books .exit)
-        ≡ sets (now (books .entry)) (bookWidth * index) (head .dimensions ∷ head .entries ∷ entries ∷ (numbersOf l ++ (values ∷ lone ∷ []))) ⌝ }
+        ≡ sets (now (books .entry)) (bookWidth * at .index)
+        (at .head .dimensions ∷ at .head .entries ∷ at .entries ∷ (numbersOf l ++ (at .values ∷ lone ∷ []))) ⌝ }
 {
+    let first_entry = at.entries;
+    let first_value = at.values;
     let row = [
-        head.dimensions,
-        head.entries,
-        entries,
+        at.head.dimensions,
+        at.head.entries,
+        first_entry,
         l.lookup,
         l.minimum,
         l.delta,
         l.width,
         l.sequence,
         l.count,
-        values,
+        first_value,
         lone,
     ];
-    write_u32(books, book::WIDTH * index as usize, &row);
+    write_u32(books, book::WIDTH * at.index as usize, &row);
 }
 
-// What follows a book's lengths: its lookup and its row. `place`, `most`, `entries` and `values` as for `read_body`; `lone` is the mark of its lengths.
+// What follows a book's lengths: its lookup and its row. `lone` is the mark of its lengths.
 fn finish_book(
     packet: &[u8],
     from: Cursor,
-    place: Cursor,
-    head: Head,
-    most: u32,
-    index: u32,
-    entries: u32,
-    values: u32,
+    at: BookStart,
     lone: u32,
     books: &mut [u32],
     multiplicands: &mut [u16],
 ) -> BooksRead
-    requires { ⌜ (index < 256) × (entries + head .entries ≤ 16777216) × (values ≤ most) × (most ≤ length (now multiplicands)) × (most ≤ 16777216) ⌝ }
+    requires { ⌜ (at .index < 256) × (at .entries + at .head .entries ≤ 16777216)
+        × (at .values ≤ at .most) × (at .most ≤ length (now multiplicands)) × (at .most ≤ 16777216) ⌝ }
     ensures { λ r. ⌜ Wrote
-        (mapped (finished (now (books .entry)) (now (multiplicands .entry)) (headOf head) index entries values lone)
-        (lookup (position place) (head .entries) (head .dimensions) most values (now (packet .entry)) (position from)))
+        (mapped (finished (now (books .entry)) (now (multiplicands .entry)) (headOf (at .head)) (at .index) (at .entries) (at .values) lone)
+        (lookup (position (at .place)) (at .head .entries) (at .head .dimensions) (at .most) (at .values) (now (packet .entry)) (position from)))
         (r .step) (now (books .exit), now (multiplicands .exit), r .values) ⌝ }
-    ensures { λ r. ⌜ (r .entries ≡ entries + head .entries) × (r .values ≤ most) ⌝ }
+    ensures { λ r. ⌜ (r .entries ≡ at .entries + at .head .entries) × (r .values ≤ at .most) ⌝ }
 {
     let l = read_lookup(
         packet,
         from,
-        place,
-        head.entries,
-        head.dimensions,
-        values,
-        most,
+        at.place,
+        at.head.entries,
+        at.head.dimensions,
+        at.values,
+        at.most,
         multiplicands,
     );
-    write_row(books, index, head, entries, l, values, lone);
+    write_row(books, at, l, lone);
     let step = l.step;
     BooksRead {
         step,
-        entries: entries + head.entries,
-        values: values + l.count,
+        entries: at.entries + at.head.entries,
+        values: at.values + l.count,
     }
 }
 
-// What follows a book's head. `place` is the book's first bit, `most` the limit on multiplicands, `entries` and `values` the totals before.
+// What follows a book's head.
 fn read_body(
     packet: &[u8],
     from: Cursor,
-    place: Cursor,
-    head: Head,
-    most: u32,
-    index: u32,
-    entries: u32,
-    values: u32,
+    at: BookStart,
     books: &mut [u32],
     lengths: &mut [u8],
     codewords: &mut [u32],
     multiplicands: &mut [u16],
 ) -> BooksRead
-    requires { ⌜ BookAt (head .entries) most index entries values (now lengths) (now codewords) (now multiplicands) ⌝ }
+    requires { ⌜ BookAt (at .head .entries) (at .most) (at .index) (at .entries) (at .values) (now lengths) (now codewords) (now multiplicands) ⌝ }
     ensures { λ r. ⌜ Wrote
-        (into1 putBook (body (position place) (headOf head) most values (now (packet .entry)) (position from))
-        (tables (now (books .entry)) (now (lengths .entry)) (now (codewords .entry)) (now (multiplicands .entry)) index entries values))
+        (into1 putBook (body (position (at .place)) (headOf (at .head)) (at .most) (at .values) (now (packet .entry)) (position from))
+        (tables (now (books .entry)) (now (lengths .entry)) (now (codewords .entry)) (now (multiplicands .entry)) (at .index) (at .entries) (at .values)))
         (r .step)
-        (tables (now (books .exit)) (now (lengths .exit)) (now (codewords .exit)) (now (multiplicands .exit)) (index + 1) (r .entries) (r .values)) ⌝ }
-    ensures { λ r. ⌜ (r .entries ≤ entries + head .entries) × (r .values ≤ most) ⌝ }
+        (tables (now (books .exit)) (now (lengths .exit)) (now (codewords .exit)) (now (multiplicands .exit)) (at .index + 1) (r .entries) (r .values)) ⌝ }
+    ensures { λ r. ⌜ (r .entries ≤ at .entries + at .head .entries) × (r .values ≤ at .most) ⌝ }
 {
     match read_entries_at(
         packet,
         from,
-        place,
-        entries,
-        head.entries,
+        at.place,
+        at.entries,
+        at.head.entries,
         lengths,
         codewords,
     ) {
         Step::Refused(z) => BooksRead {
             step: Step::Refused(z),
-            entries,
-            values,
+            entries: at.entries,
+            values: at.values,
         },
         Step::Next(next) => {
-            let lone = lone_mark_at(lengths, entries, head.entries);
-            finish_book(
-                packet,
-                next,
-                place,
-                head,
-                most,
-                index,
-                entries,
-                values,
-                lone,
-                books,
-                multiplicands,
-            )
+            let lone = lone_mark_at(lengths, at.entries, at.head.entries);
+            finish_book(packet, next, at, lone, books, multiplicands)
         }
     }
 }
@@ -188,20 +172,15 @@ pub fn read_book(
             values,
         },
         HeadRead::Value(head, next) => {
-            read_body(
-                packet,
-                next,
-                from,
+            let at = BookStart {
+                place: from,
                 head,
-                limits.multiplicands,
+                most: limits.multiplicands,
                 index,
                 entries,
                 values,
-                books,
-                lengths,
-                codewords,
-                multiplicands,
-            )
+            };
+            read_body(packet, next, at, books, lengths, codewords, multiplicands)
         }
     }
 }

@@ -3,29 +3,31 @@ use Prim.Native.Nat.{ℕ, suc, _+_, _-_, _*_, _/_, _%_, _≤_, _<_}
 use native.Mathlib.Nat.{one-mul}
 use native.Mathlib.Omega.{arith}
 use borrow.Author.Needs.{needs}
-use borrow.Author.Tests.{lt-ltb, ltb-true, le-leb, leb-true, lt-leb, not-true, not-false}
-use mathlib.Core.Bool.{Bool, true, false, not, cond}
+use borrow.Author.Tests.{lt-ltb, ltb-true, le-leb, leb-true, not-true, not-false}
+use mathlib.Core.Bool.{Bool, true, false, not}
 use mathlib.Core.List.{List, [], _∷_, _++_, map}
-use mathlib.Core.Logic.{_↔_}
+use mathlib.Core.Logic.{_↔_, ⊎-elim}
 use mathlib.Core.Path.{_≡_, refl, sym, ap, subst, _∙_}
 use lib.Dec.{eqb, leb, ltb}
-use lib.ListN.{length, getD, take, drop, length-drop, take-append-drop}
+use lib.ListN.{length, getD, take, drop, replicate, length-drop, length-replicate, take-append-drop}
 use lib.Seq.{drop-cons, drop-drop, take-all, length-take-le}
 use Rattle.reading.specs.Lists.{rows}
 use Rattle.reading.specs.Pad.{pad}
 use Rattle.reading.specs.Encoding.{Zeros, Each, RowOf, Encodes}
 use Rattle.reading.proofs.Encodes.{iff-false, not-said, encodes-pad, Left, rows-start, rows-next, rows-stop, rows-end, encodes-long}
+use Rattle.reading.proofs.Basics.{length-zero}
+use Rattle.reading.proofs.Least.{lt-or-le}
 use Rattle.reading.proofs.Pads.{length-pad}
 use Rattle.reading.proofs.PairRows.{pair-laws}
-use Rattle.mapping.specs.Content.{Coupling, Submap, Mapping}
+use Rattle.mapping.specs.Content.{Coupling, Submap, Mapping, noSubmap}
 use Rattle.mapping.specs.declared.Known.{Known}
 use Rattle.mapping.specs.Layout.{couplingRow, multiplexRow, submapRow, mappingRow}
 use Rattle.mapping.specs.Rules.{Coupling11}
 use Rattle.mapping.specs.inner.Valid.{ValidMultiplex, ValidSubmap, ValidMapping}
 use Rattle.mapping.specs.inner.Decode.{couplingOf, submapOf}
-use Rattle.mapping_tables.specs.inner.Recognised.{MappingsRecognised, multiplexCount}
+use Rattle.mapping_tables.specs.inner.Recognised.{MappingsRecognised, MultiplexCount}
 use Rattle.mapping.proofs.RowLaws.{couplings-length, submaps-length, multiplex-rows, multiplex-length, multiplex-wide, mapping-wide, part-couplings, part-multiplex, part-submaps}
-use Rattle.mapping.proofs.Laws.{each-all, all-each, sized-none, sized-some, coupling-pairs, submap-pairs, multiplex-number, multiplex-most}
+use Rattle.mapping.proofs.Laws.{each-all, all-each, coupling-pairs, submap-pairs, multiplex-most}
 
 -- the two numbers of a coupling step
 module _ (magnitude angle channels : ℕ) where
@@ -110,42 +112,65 @@ pub ruleset multiplex-recognise-laws = (needs, numbers-short, numbers-start, num
 
 -- how many multiplex numbers there are
 module _ (submaps channels : ℕ) where
-  pub count-none : submaps ≤ 1 → 0 ≡ multiplexCount submaps channels
-  count-none h = rw (le-leb submaps 1 h)
+  pub count-none : submaps ≤ 1 → MultiplexCount submaps channels 0
+  count-none h = record { counted = λ m c e. let l = c .submaps .low in ap length (c .no-multiplex (omega arith)) }
 
-  pub count-each : 1 < submaps → channels ≡ multiplexCount submaps channels
-  count-each h = rw (lt-leb submaps 1 h)
+  pub count-each : 1 < submaps → MultiplexCount submaps channels channels
+  count-each h = record { counted = λ m c e. c .some-multiplex (omega arith) }
 
-  pub count-most : {count : ℕ} → count ≡ multiplexCount submaps channels → channels ≤ 255 → count ≤ 256
-  count-most {count} e h = rw e (go (leb submaps 1))
-    where
-      go : (t : Bool) → cond t 0 channels ≤ 256
-      go true = omega arith
-      go false = omega arith
+  -- there is such a number
+  some-count : (count : ℕ) × MultiplexCount submaps channels count
+  some-count = ⊎-elim (λ h. (channels, count-each h)) (λ h. (0, count-none h)) (lt-or-le 1 submaps)
+
+  -- and which one it is
+  module _ {count : ℕ} (n : MultiplexCount submaps channels count) (low : 1 ≤ submaps) (high : submaps ≤ 16) where
+    abbrev with-numbers : List ℕ → Mapping
+    with-numbers l = record { couplings = []; multiplex = l; submaps = replicate submaps noSubmap }
+
+    carried : (l : List ℕ) → (submaps ≡ 1 → l ≡ []) → (2 ≤ submaps → length l ≡ channels) → length l ≡ count
+    carried l none each =
+        let e : length (replicate submaps noSubmap) ≡ submaps = length-replicate submaps noSubmap in
+        n .counted (with-numbers l) (record {
+          couplings = omega arith;
+          submaps = record { low = omega arith; high = omega arith };
+          no-multiplex = λ h. none (omega arith);
+          some-multiplex = λ h. each (omega arith);
+        }) e
+
+    is-none : submaps ≡ 1 → count ≡ 0
+    is-none e = sym (carried [] (λ h. refl) (λ h. absurd (omega arith)))
+
+    is-each : 2 ≤ submaps → count ≡ channels
+    is-each h =
+        let e : length (replicate {A = ℕ} channels 0) ≡ channels = length-replicate channels _ in
+        sym (carried (replicate channels 0) (λ g. absurd (omega arith)) (λ g. e)) ∙ e
+
+    pub count-most : channels ≤ 255 → count ≤ 256
+    count-most h = ⊎-elim (λ g. let e = is-each g in omega arith) (λ g. let e = is-none (omega arith) in omega arith) (lt-or-le 1 submaps)
 
 pub ruleset count-known = (needs, count-none, count-each)
 
 -- the row of a mapping, part by part
-pub record Parts (known : Known) (cells : List ℕ) (steps k : ℕ) : Type 0 where
+pub record Parts (known : Known) (cells : List ℕ) (steps k count : ℕ) : Type 0 where
   pub few-steps : steps ≤ 256
   pub some-submap : 1 ≤ k
   pub few-submaps : k ≤ 16
   pub zero : getD cells 3 0 ≡ 0
   pub couplings : Encodes couplingRow (Coupling11 (known .channels)) steps (take 512 (drop 4 cells))
-  pub multiplex : Encodes multiplexRow (ValidMultiplex k) (multiplexCount k (known .channels)) (take 256 (drop 516 cells))
+  pub multiplex : Encodes multiplexRow (ValidMultiplex k) count (take 256 (drop 516 cells))
   pub submaps : Encodes submapRow (ValidSubmap known) k (take 32 (drop 772 cells))
 
 -- a mapping put together from valid parts is valid
-valid-made : (known : Known) (cs : List Coupling) (ms : List ℕ) (ss : List Submap) (steps submaps : ℕ) → length cs ≡ steps → steps ≤ 256
-    → Each (Coupling11 (known .channels)) cs → length ms ≡ multiplexCount submaps (known .channels) → Each (ValidMultiplex submaps) ms
+valid-made : (known : Known) (cs : List Coupling) (ms : List ℕ) (ss : List Submap) (steps submaps count : ℕ) → length cs ≡ steps → steps ≤ 256
+    → Each (Coupling11 (known .channels)) cs → MultiplexCount submaps (known .channels) count → length ms ≡ count → Each (ValidMultiplex submaps) ms
     → length ss ≡ submaps → 1 ≤ submaps → submaps ≤ 16 → Each (ValidSubmap known) ss → ValidMapping known (record { couplings = cs; multiplex = ms; submaps = ss })
-valid-made known cs ms ss steps submaps nc h vc nm vm ns low high vs =
+valid-made known cs ms ss steps submaps count nc h vc n nm vm ns low high vs =
     record {
       carried = record {
         couplings = omega arith;
         submaps = record { low = omega arith; high = omega arith };
-        no-multiplex = λ e. sized-none submaps (known .channels) ms nm (omega arith);
-        some-multiplex = λ e. sized-some submaps (known .channels) ms nm (omega arith);
+        no-multiplex = λ e. length-zero ms (nm ∙ is-none submaps (known .channels) n low high (omega arith));
+        some-multiplex = λ e. nm ∙ is-each submaps (known .channels) n low high (omega arith);
       };
       rule11 = record { couplings = vc; multiplex = rw ns (each-all submaps ms vm); submaps = vs };
     }
@@ -159,10 +184,10 @@ four (a ∷ b ∷ c ∷ d ∷ l) h = refl
 
 module _ (known : Known) (few : known .channels ≤ 255) where
   -- a row has its parts
-  taken : (m : Mapping) → ValidMapping known m → (cells : List ℕ) → cells ≡ mappingRow m
-      → Parts known cells (getD cells 0 0 + 256 * getD cells 1 0) (getD cells 2 0)
+  taken : (m : Mapping) → ValidMapping known m → (cells : List ℕ) → cells ≡ mappingRow m → {count : ℕ} → MultiplexCount (getD cells 2 0) (known .channels) count
+      → Parts known cells (getD cells 0 0 + 256 * getD cells 1 0) (getD cells 2 0) count
   unfolding mappingRow
-  taken m v cells w =
+  taken m v cells w {count} number =
       let x = rows couplingRow (m .couplings) in
       let y = map suc (m .multiplex) in
       let z = rows submapRow (m .submaps) in
@@ -190,9 +215,9 @@ module _ (known : Known) (few : known .channels ≤ 255) where
             rw e (encodes-pad couplingRow (Coupling11 (known .channels)) n 512 (m .couplings) (take 512 (drop 4 cells))
             (ap (λ (l : List ℕ). take 512 (drop 4 l)) w ∙ part-couplings (n % 256) (n / 256) k 0 x y z) refl (v .rule11 .couplings) (omega arith));
         multiplex =
-            encodes-pad multiplexRow (ValidMultiplex (getD cells 2 0)) (multiplexCount (getD cells 2 0) (known .channels)) 256 (m .multiplex) (take 256 (drop 516 cells))
+            encodes-pad multiplexRow (ValidMultiplex (getD cells 2 0)) count 256 (m .multiplex) (take 256 (drop 516 cells))
             (ap (λ (l : List ℕ). take 256 (drop 516 l)) w ∙ part-multiplex (n % 256) (n / 256) k 0 x y z ∙ ap (pad 256) (sym (multiplex-rows (m .multiplex))))
-            (rw e2 (multiplex-number known m v)) all-below (omega arith);
+            (number .counted m (v .carried) (sym e2)) all-below (omega arith);
         submaps =
             rw e2 (encodes-pad submapRow (ValidSubmap known) k 32 (m .submaps) (take 32 (drop 772 cells))
             (ap (λ (l : List ℕ). take 32 (drop 772 l)) w ∙ ap (take 32) (part-submaps (n % 256) (n / 256) k 0 x y z) ∙ take-all 32 (pad 32 z) (let l = length-pad 32 z in omega arith))
@@ -211,9 +236,10 @@ module _ (known : Known) (few : known .channels ≤ 255) where
         sym (take-append-drop 512 (drop 4 cells)) ∙ ap (λ (l : List ℕ). take 512 (drop 4 cells) ++ l) (drop-drop 512 4 cells ∙ b) in
         sym (take-append-drop 4 cells) ∙ ap (λ (l : List ℕ). take 4 cells ++ l) c
 
-    made : getD cells 0 0 < 256 → Parts known cells (getD cells 0 0 + 256 * getD cells 1 0) (getD cells 2 0) → RowOf mappingRow (ValidMapping known) cells
+    made : getD cells 0 0 < 256 → {count : ℕ} → MultiplexCount (getD cells 2 0) (known .channels) count
+        → Parts known cells (getD cells 0 0 + 256 * getD cells 1 0) (getD cells 2 0) count → RowOf mappingRow (ValidMapping known) cells
     unfolding mappingRow
-    made byte p =
+    made byte n p =
         let cs = p .couplings .items in
         let ms = p .multiplex .items in
         let ss = p .submaps .items in
@@ -236,13 +262,13 @@ module _ (known : Known) (few : known .channels ≤ 255) where
         let heads : take 4 cells ≡ length cs % 256 ∷ length cs / 256 ∷ length ss ∷ 0 ∷ [] = four cells (omega arith) ∙ (λ j. low j ∷ high j ∷ number j ∷ p .zero j ∷ []) in
         record {
           item = record { couplings = cs; multiplex = ms; submaps = ss };
-          valid = valid-made known cs ms ss _ _ nc h (p .couplings .valid) nm (p .multiplex .valid) ns (p .some-submap) (p .few-submaps) (p .submaps .valid);
+          valid = valid-made known cs ms ss _ _ _ nc h (p .couplings .valid) n nm (p .multiplex .valid) ns (p .some-submap) (p .few-submaps) (p .submaps .valid);
           written = split ∙ (λ j. heads j ++ (ec j ++ (em j ++ es j)));
         }
 
-    module _ (byte : getD cells 0 0 < 256) {steps : ℕ} (es : steps ≡ getD cells 0 0 + 256 * getD cells 1 0) where
-      pub parts-of : RowOf mappingRow (ValidMapping known) cells ↔ Parts known cells steps (getD cells 2 0)
-      parts-of = rw es ((λ r. taken (r .item) (r .valid) cells (r .written)), (λ p. made byte p))
+    module _ (byte : getD cells 0 0 < 256) {steps : ℕ} (es : steps ≡ getD cells 0 0 + 256 * getD cells 1 0) {count : ℕ} (n : MultiplexCount (getD cells 2 0) (known .channels) count) where
+      pub parts-of : RowOf mappingRow (ValidMapping known) cells ↔ Parts known cells steps (getD cells 2 0) count
+      parts-of = rw es ((λ r. taken (r .item) (r .valid) cells (r .written) n), (λ p. made byte n p))
 
 -- as the code asks them
 module _ (known : Known) (cells : List ℕ) (long : length cells ≡ 804) (few : known .channels ≤ 255) {steps : ℕ}
@@ -250,8 +276,8 @@ module _ (known : Known) (cells : List ℕ) (long : length cells ≡ 804) (few :
   abbrev Row : Type 0
   Row = RowOf mappingRow (ValidMapping known) cells
 
-  ps : Row → Parts known cells steps (getD cells 2 0)
-  ps = parts-of known few cells long (es .1) (es .0) .0
+  ps : Row → Parts known cells steps (getD cells 2 0) (some-count (getD cells 2 0) (known .channels) .0)
+  ps = parts-of known few cells long (es .1) (es .0) (some-count (getD cells 2 0) (known .channels) .1) .0
 
   pub steps-many : 256 < steps → (false ≡ true) ↔ RowOf mappingRow (ValidMapping known) cells
   steps-many h = iff-false (λ r. let a = ps r .few-steps in omega arith)
@@ -269,19 +295,16 @@ module _ (known : Known) (cells : List ℕ) (long : length cells ≡ 804) (few :
     pub couplings-wrong : not r₁ ≡ true → (false ≡ true) ↔ RowOf mappingRow (ValidMapping known) cells
     couplings-wrong e = iff-false (λ r. not-said said₁ (not-true r₁ e) (ps r .couplings))
 
-    module _ {count : ℕ} (ec : count ≡ multiplexCount (getD cells 2 0) (known .channels)) {r₂ : Bool}
+    module _ {count : ℕ} (n : MultiplexCount (getD cells 2 0) (known .channels) count) {r₂ : Bool}
         (said₂ : (r₂ ≡ true) ↔ Encodes multiplexRow (ValidMultiplex (getD cells 2 0)) count (take 256 (drop 516 cells))) where
-      numbers : (r₂ ≡ true) ↔ Encodes multiplexRow (ValidMultiplex (getD cells 2 0)) (multiplexCount (getD cells 2 0) (known .channels)) (take 256 (drop 516 cells))
-      numbers = rw ec at said₂
-
       pub multiplex-wrong : not r₂ ≡ true → (false ≡ true) ↔ RowOf mappingRow (ValidMapping known) cells
-      multiplex-wrong e = iff-false (λ r. not-said numbers (not-true r₂ e) (ps r .multiplex))
+      multiplex-wrong e = iff-false (λ r. not-said said₂ (not-true r₂ e) (parts-of known few cells long (es .1) (es .0) n .0 r .multiplex))
 
       pub row-right : steps ≤ 256 → 1 ≤ getD cells 2 0 → getD cells 2 0 ≤ 16 → getD cells 3 0 ≡ 0 → not r₁ ≡ false → not r₂ ≡ false → {r₃ : Bool}
           → (r₃ ≡ true) ↔ Encodes submapRow (ValidSubmap known) (getD cells 2 0) (take 32 (drop 772 cells)) → (r₃ ≡ true) ↔ RowOf mappingRow (ValidMapping known) cells
       row-right a b c z e₁ e₂ said₃ =
-          let q = parts-of known few cells long (es .1) (es .0) in (
-            (λ e. q .1 (record { few-steps = a; some-submap = b; few-submaps = c; zero = z; couplings = said₁ .0 (not-false r₁ e₁); multiplex = numbers .0 (not-false r₂ e₂); submaps = said₃ .0 e })),
+          let q = parts-of known few cells long (es .1) (es .0) n in (
+            (λ e. q .1 (record { few-steps = a; some-submap = b; few-submaps = c; zero = z; couplings = said₁ .0 (not-false r₁ e₁); multiplex = said₂ .0 (not-false r₂ e₂); submaps = said₃ .0 e })),
             (λ r. said₃ .1 (ps r .submaps)),
           )
 

@@ -13,7 +13,7 @@ ghost use lib.ListN.{length};
 ghost use Rattle.reading.specs.Encoding.{RowOf, Encodes};
 ghost use Rattle.mapping.specs.inner.Decode.{couplingOf, submapOf};
 ghost use Rattle.mapping.specs.Layout.{couplingRow, multiplexRow, submapRow, mappingRow, mappingWidth};
-ghost use Rattle.mapping_tables.specs.inner.Recognised.{MappingsRecognised, multiplexCount};
+ghost use Rattle.mapping_tables.specs.inner.Recognised.{MappingsRecognised, MultiplexCount};
 ghost use Rattle.mapping.specs.Rules.{Coupling11};
 ghost use Rattle.mapping.specs.inner.Valid.{ValidMultiplex, ValidSubmap, ValidMapping};
 
@@ -103,7 +103,7 @@ fn are_submaps(part: &[u8], count: usize, known: Known) -> bool
 
 // How many multiplex numbers there are: none where there is one submap.
 fn multiplex_count(submaps: u8, channels: u32) -> usize
-    ensures { λ r. ⌜ r ≡ multiplexCount submaps channels ⌝ }
+    ensures { λ r. ⌜ MultiplexCount submaps channels r ⌝ }
 {
     if submaps <= 1 {
         return 0;

@@ -1,202 +1,255 @@
--- Laws of recognising residues in the tables, as the code asks them. Assumes nothing.
+-- Laws of recognising the rows of one residue, as the code asks them. Assumes nothing.
 use Prim.Native.Nat.{ℕ, zero, suc, _+_, _-_, _*_, _^_, _≤_, _<_}
-use native.Mathlib.Nat.{sub-zero}
 use native.Mathlib.Omega.{arith}
-use borrow.Author.Tests.{le-leb, lt-leb, lt-ltb, le-ltb, eqb-true, not-true, not-false}
+use borrow.Author.Tests.{le-leb, lt-ltb, leb-true, ltb-true}
 use mathlib.Core.Bool.{Bool, true, false, not, _&&_}
-use mathlib.Core.List.{List, [], _∷_}
+use mathlib.Core.List.{List, _++_}
 use mathlib.Core.Logic.{_↔_}
-use mathlib.Core.Path.{_≡_, refl, sym, ap, _∙_}
-use lib.Dec.{eqb, leb}
-use lib.ListN.{length, take, drop, replicate}
-use lib.Seq.{drop-drop}
-use Rattle.reading.specs.Lists.{all}
+use mathlib.Core.Path.{_≡_, refl, sym, ap, subst, _∙_}
+use lib.Dec.{leb}
+use lib.ListN.{length, take, drop, replicate, length-drop, length-replicate}
+use lib.Seq.{drop-at, take-add, length-take-le}
+use Rattle.reading.specs.Lists.{all, rows}
 use Rattle.reading.specs.Encoding.{Zeros}
+use Rattle.reading.proofs.Encodes.{iff-false, refuted, shown}
 use Rattle.reading.proofs.Least.{and-split}
+use Rattle.reading.proofs.Pads.{pad-nil}
 use Rattle.reading.proofs.Parts.{part-slice}
-use Rattle.residue.specs.Reading.{Books, Head, placeFits}
+use Rattle.rules.specs.Rules as Rule
+use Rattle.residue.specs.Reading.{Books, Head, placeFits, residueFits, withPlan}
+use Rattle.residue.specs.Layout.{planTable}
+use Rattle.residue.specs.Carried.{Rows8}
+use Rattle.residue.specs.inner.Valid.{ValidResidue}
 use Rattle.residue.specs.inner.FromTable.{booksOf}
 use Rattle.residue.specs.inner.Heads.{headOf}
 use Rattle.residue.specs.inner.Plans.{headFits}
-use Rattle.residue.specs.inner.Decode.{headAt}
-use Rattle.residue_tables.specs.inner.Recognised.{headTest, placesTest, residueTest, residuesTest}
+use Rattle.residue.specs.inner.Decode.{chunks, headAt, decodeResidue}
 use Rattle.residue.specs.declared.head.Head as D
 use Rattle.residue.proofs.DecodeLaws.{head-dropped}
+use Rattle.residue.proofs.Laws.{planTable-is}
+use Rattle.residue_tables.specs.inner.Recognised.{ValidHead, ValidRows}
+
+both : {a b : Bool} → a ≡ true → b ≡ true → a && b ≡ true
+both p q = rw (p, q)
+
+-- the part of rule 13 that the fields before the plan decide, and the part of the plan
+module _ (books : Books) (h : Head) (plan : List (List ℕ)) (v : ValidResidue books (withPlan h plan)) where
+  head-fits : headFits books h ≡ true
+  unfolding residueFits
+  head-fits =
+      let a = and-split (leb (h .begin) (h .end)) _ (v .rule13) in
+      let b = and-split (leb (h .classifications ^ books .dimensions (h .classbook)) (books .entries (h .classbook))) _ (a .1) in
+      both (a .0) (b .0)
+
+  plan-fits : all (placeFits books (h .size)) (rows (λ row. row) plan) ≡ true
+  unfolding residueFits
+  plan-fits =
+      let a = and-split (leb (h .begin) (h .end)) _ (v .rule13) in
+      and-split (leb (h .classifications ^ books .dimensions (h .classbook)) (books .entries (h .classbook))) _ (a .1) .1
+
+both-fit : (books : Books) (h : Head) (plan : List (List ℕ)) → headFits books h ≡ true → all (placeFits books (h .size)) (rows (λ row. row) plan) ≡ true
+    → residueFits books (withPlan h plan) ≡ true
+unfolding residueFits
+both-fit books h plan e f =
+    let a = and-split (leb (h .begin) (h .end)) _ e in
+    both (a .0) (both (a .1) f)
+
+-- a plan without books
+abbrev emptyPlan : ℕ → List (List ℕ)
+emptyPlan n = replicate n (replicate 8 0)
+
+empty-passes : (n : ℕ) → Rows8 (emptyPlan n)
+unfolding Rows8
+empty-passes zero = tt
+empty-passes (suc n) = (refl, empty-passes n)
+
+empty-all : (f : ℕ → Bool) → f 0 ≡ true → (n : ℕ) → all f (rows (λ row. row) (emptyPlan n)) ≡ true
+unfolding all rows
+empty-all f e zero = refl
+empty-all f e (suc n) = rw e (empty-all f e n)
+
+empty-fits : (books : Books) (size n : ℕ) → all (placeFits books size) (rows (λ row. row) (emptyPlan n)) ≡ true
+unfolding placeFits
+empty-fits books size n = empty-all (placeFits books size) refl n
 
 -- the fields before the plan, one law for each way out
 module _ (count : ℕ) (t : List ℕ) (h : D.Head) where
-  pub type-over : 2 < h .kind → false ≡ headTest (booksOf count t) (headOf h)
-  unfolding headTest
-  type-over x = rw (lt-leb (h .kind) 2 x)
+  pub type-over : 2 < h .kind → (false ≡ true) ↔ ValidHead (booksOf count t) (headOf h)
+  type-over x = iff-false (λ v. let e = leb-true (h .kind) 2 (v .valid .rule10) in omega arith)
 
-  module _ (a : h .kind ≤ 2) where
-    pub begin-over : 2 ^ 24 ≤ h .begin → false ≡ headTest (booksOf count t) (headOf h)
-    unfolding headTest
-    begin-over x = rw (le-leb (h .kind) 2 a, le-ltb (h .begin) (2 ^ 24) x)
+  pub begin-over : 2 ^ 24 ≤ h .begin → (false ≡ true) ↔ ValidHead (booksOf count t) (headOf h)
+  begin-over x = iff-false (λ v. let e = v .valid .carried .begin in omega arith)
 
-    module _ (b : h .begin < 2 ^ 24) where
-      pub end-over : 2 ^ 24 ≤ h .end → false ≡ headTest (booksOf count t) (headOf h)
-      unfolding headTest
-      end-over x = rw (le-leb (h .kind) 2 a, lt-ltb (h .begin) (2 ^ 24) b, le-ltb (h .end) (2 ^ 24) x)
+  pub end-over : 2 ^ 24 ≤ h .end → (false ≡ true) ↔ ValidHead (booksOf count t) (headOf h)
+  end-over x = iff-false (λ v. let e = v .valid .carried .end in omega arith)
 
-      module _ (c : h .end < 2 ^ 24) where
-        pub size-none : h .size < 1 → false ≡ headTest (booksOf count t) (headOf h)
-        unfolding headTest
-        size-none x = rw (le-leb (h .kind) 2 a, lt-ltb (h .begin) (2 ^ 24) b, lt-ltb (h .end) (2 ^ 24) c, lt-leb 1 (h .size) x)
+  pub size-none : h .size < 1 → (false ≡ true) ↔ ValidHead (booksOf count t) (headOf h)
+  size-none x = iff-false (λ v. let e = v .valid .carried .size .low in omega arith)
 
-        module _ (d : 1 ≤ h .size) where
-          pub size-over : 2 ^ 24 < h .size → false ≡ headTest (booksOf count t) (headOf h)
-          unfolding headTest
-          size-over x = rw (le-leb (h .kind) 2 a, lt-ltb (h .begin) (2 ^ 24) b, lt-ltb (h .end) (2 ^ 24) c, le-leb 1 (h .size) d, lt-leb (h .size) (2 ^ 24) x)
+  pub size-over : 2 ^ 24 < h .size → (false ≡ true) ↔ ValidHead (booksOf count t) (headOf h)
+  size-over x = iff-false (λ v. let e = v .valid .carried .size .high in omega arith)
 
-          module _ (e : h .size ≤ 2 ^ 24) where
-            pub classes-none : h .classifications < 1 → false ≡ headTest (booksOf count t) (headOf h)
-            unfolding headTest
-            classes-none x =
-                rw (le-leb (h .kind) 2 a, lt-ltb (h .begin) (2 ^ 24) b, lt-ltb (h .end) (2 ^ 24) c, le-leb 1 (h .size) d, le-leb (h .size) (2 ^ 24) e, lt-leb 1 (h .classifications) x)
+  pub classes-none : h .classifications < 1 → (false ≡ true) ↔ ValidHead (booksOf count t) (headOf h)
+  classes-none x = iff-false (λ v. let e = v .valid .carried .classifications .low in omega arith)
 
-            module _ (f : 1 ≤ h .classifications) where
-              pub classes-over : 64 < h .classifications → false ≡ headTest (booksOf count t) (headOf h)
-              unfolding headTest
-              classes-over x =
-                  rw
-                  (le-leb (h .kind) 2 a, lt-ltb (h .begin) (2 ^ 24) b, lt-ltb (h .end) (2 ^ 24) c, le-leb 1 (h .size) d, le-leb (h .size) (2 ^ 24) e, le-leb 1 (h .classifications) f, lt-leb (h .classifications) 64 x)
+  pub classes-over : 64 < h .classifications → (false ≡ true) ↔ ValidHead (booksOf count t) (headOf h)
+  classes-over x = iff-false (λ v. let e = v .valid .carried .classifications .high in omega arith)
 
-              module _ (g : h .classifications ≤ 64) where
-                pub classbook-over : count ≤ h .classbook → false ≡ headTest (booksOf count t) (headOf h)
-                unfolding headTest
-                classbook-over x =
-                    rw
-                    (le-leb (h .kind) 2 a, lt-ltb (h .begin) (2 ^ 24) b, lt-ltb (h .end) (2 ^ 24) c, le-leb 1 (h .size) d, le-leb (h .size) (2 ^ 24) e, le-leb 1 (h .classifications) f, le-leb (h .classifications) 64 g, le-ltb (h .classbook) count x)
+  pub classbook-over : count ≤ h .classbook → (false ≡ true) ↔ ValidHead (booksOf count t) (headOf h)
+  classbook-over x = iff-false (λ v. let e = ltb-true (h .classbook) count (v .valid .rule11 .classbook) in omega arith)
 
-                pub head-judged : h .classbook < count → (r : Bool) → r ≡ headFits (booksOf 0 t) (headOf h) → r ≡ headTest (booksOf count t) (headOf h)
-                unfolding headTest
-                head-judged x r p =
-                    rw
-                    (le-leb (h .kind) 2 a, lt-ltb (h .begin) (2 ^ 24) b, lt-ltb (h .end) (2 ^ 24) c, le-leb 1 (h .size) d, le-leb (h .size) (2 ^ 24) e, le-leb 1 (h .classifications) f, le-leb (h .classifications) 64 g, lt-ltb (h .classbook) count x)
-                    p
+  pub head-judged : h .kind ≤ 2 → h .begin < 2 ^ 24 → h .end < 2 ^ 24 → 1 ≤ h .size → h .size ≤ 2 ^ 24 → 1 ≤ h .classifications → h .classifications ≤ 64
+      → h .classbook < count → {r : Bool} → r ≡ headFits (booksOf 0 t) (headOf h) → (r ≡ true) ↔ ValidHead (booksOf count t) (headOf h)
+  head-judged a b c d e f g i {r} p = (
+    (λ y. record {
+      plan = emptyPlan (h .classifications);
+      valid = record {
+        carried = record {
+          begin = b;
+          end = c;
+          size = record { low = d; high = e };
+          classifications = record { low = f; high = g };
+          plan = length-replicate (h .classifications) _;
+          passes = empty-passes (h .classifications);
+        };
+        rule10 = le-leb (h .kind) 2 a;
+        rule11 = record { classbook = lt-ltb (h .classbook) count i; plan = empty-all (λ v. leb v count) (le-leb 0 count (omega arith)) (h .classifications) };
+        rule13 = both-fit (booksOf count t) (headOf h) _ (sym p ∙ y) (empty-fits (booksOf count t) (h .size) (h .classifications));
+      };
+    }),
+    (λ v. p ∙ head-fits (booksOf count t) (headOf h) (v .plan) (v .valid)),
+  )
 
--- zeros alone, as a test of each number
-zeros-tested : (n : ℕ) → all (λ b. eqb b 0) (replicate n 0) ≡ true
-unfolding all
-zeros-tested zero = refl
-zeros-tested (suc n) = zeros-tested n
+-- chunks of 8
+chunks-long : (n : ℕ) (l : List ℕ) → length (chunks n l) ≡ n
+unfolding chunks
+chunks-long zero l = refl
+chunks-long (suc n) l = ap suc (chunks-long n (drop 8 l))
 
-tested-zeros : (l : List ℕ) → all (λ b. eqb b 0) l ≡ true → Zeros l
-unfolding all
-tested-zeros [] e = refl
-tested-zeros (x ∷ l) e =
-    let a = and-split (eqb x 0) (all (λ b. eqb b 0) l) e in
-    let b : x ≡ 0 = eqb-true x 0 (a .0) in
-    let c = tested-zeros l (a .1) in
-    λ j. b j ∷ c j
+chunks-8 : (n : ℕ) (l : List ℕ) → 8 * n ≤ length l → Rows8 (chunks n l)
+unfolding chunks Rows8
+chunks-8 zero l h = tt
+chunks-8 (suc n) l h = (length-take-le 8 l (omega arith), chunks-8 n (drop 8 l) (simp length-drop (omega arith)))
 
-judge : (r : Bool) (l : List ℕ) → (r ≡ true) ↔ Zeros l → r ≡ all (λ b. eqb b 0) l
-judge true l p = sym (ap (all (λ b. eqb b 0)) (p .0 refl) ∙ zeros-tested (length l))
-judge false l p = go (all (λ b. eqb b 0) l) refl
-  where
-    go : (t : Bool) → all (λ b. eqb b 0) l ≡ t → false ≡ t
-    go false e = refl
-    go true e = p .1 (tested-zeros l e)
+chunks-rows : (n : ℕ) (l : List ℕ) → rows (λ row. row) (chunks n l) ≡ take (8 * n) l
+unfolding chunks rows
+chunks-rows zero l = refl
+chunks-rows (suc n) l =
+    let e : 8 + 8 * n ≡ 8 * suc n = omega arith in
+    ap (λ (x : List ℕ). take 8 l ++ x) (chunks-rows n (drop 8 l)) ∙ sym (take-add 8 (8 * n) l) ∙ ap (λ (m : ℕ). take m l) e
 
-pub judged : {r : Bool} {l : List ℕ} → (r ≡ true) ↔ Zeros l → r ≡ all (λ b. eqb b 0) l
-judged {r} {l} p = judge r l p
+-- the rows of a residue, in the parts that the code takes them in
+record Parts (books : Books) (h : Head) (p : List ℕ) : Type 0 where
+  pub head : ValidHead books h
+  pub set-up : all (λ v. Rule.meets11 (Rule.bookOrNone (books .count) v)) (take (8 * h .classifications) p) ≡ true
+  pub fits : all (placeFits books (h .size)) (take (8 * h .classifications) p) ≡ true
+  pub empty : Zeros (drop (8 * h .classifications) (take 512 p))
 
--- one residue: the test in the parts that the code takes it in
-module _ (count : ℕ) (t residues plans : List ℕ) (i : ℕ) (h : D.Head) (e : headOf h ≡ headAt residues i) where
-  abbrev whole : Bool
-  whole = residueTest (booksOf count t) (drop (6 * i) residues) (drop (512 * i) plans)
+module _ (books : Books) (h p : List ℕ) (room : 512 ≤ length p) where
+  abbrev hd : Head
+  hd = headAt h 0
 
-  module _ {w c : ℕ} (ew : w ≡ i) (ec : c ≡ h .classifications) where
-    parts : whole
-        ≡ headTest (booksOf count t) (headOf h)
-        && (all (λ b. leb b count) (take (512 * w + 8 * c - 512 * w) (drop (512 * w) plans))
-        && (all (placeFits (booksOf 0 t) (h .size)) (take (512 * w + 8 * c - 512 * w) (drop (512 * w) plans))
-        && all (λ b. eqb b 0) (take (512 * w + 512 - (512 * w + 8 * c)) (drop (512 * w + 8 * c) plans))))
-    unfolding residueTest placeFits
-    parts =
-        let same : headAt (drop (6 * i) residues) 0 ≡ headOf h = head-dropped residues i ∙ sym e in
-        let a : 512 * w + 8 * c - 512 * w ≡ 8 * c = omega arith in
-        let b : 512 * w + 512 - (512 * w + 8 * c) ≡ 512 - 8 * c = omega arith in
-        ap (λ (x : Head). headTest (booksOf count t) x && placesTest (booksOf count t) x (drop (512 * i) plans)) same
-        ∙ rw (a, b, ew, ec, ← drop-drop (8 * h .classifications) (512 * i) plans)
+  abbrev used : ℕ
+  used = 8 * hd .classifications
 
-    -- what lies behind the places in use, of the 512 of a plan
-    after-used : drop (8 * c) (take (512 * w + 512 - 512 * w) (drop (512 * w) plans)) ≡ take (512 * w + 512 - (512 * w + 8 * c)) (drop (512 * w + 8 * c) plans)
-    after-used =
-        let a : 512 * w + 512 - 512 * w ≡ 512 = omega arith in
-        let b : 512 * w + 512 - (512 * w + 8 * c) ≡ 512 - 8 * c = omega arith in
-        rw (a, b, ← drop-drop (8 * c) (512 * w) plans) (sym (part-slice (8 * c) 512 (drop (512 * w) plans)))
+  -- a plan's row is what is used and what is behind
+  row-split : hd .classifications ≤ 64 → take 512 p ≡ take used p ++ drop used (take 512 p)
+  row-split few =
+      let e : 512 ≡ used + (512 - used) = omega arith in
+      ap (λ (n : ℕ). take n p) e ∙ take-add used (512 - used) p ∙ ap (λ (l : List ℕ). take used p ++ l) (part-slice used 512 p)
 
-    module _ {rh : Bool} (ph : rh ≡ headTest (booksOf count t) (headOf h)) where
-      pub head-fails : not rh ≡ true → false ≡ whole
-      head-fails q = sym (parts ∙ rw (← ph, not-true rh q))
+  written-out : ValidResidue books (decodeResidue h p) → planTable (decodeResidue h p) ≡ take used p ++ replicate (512 - used) 0
+  unfolding decodeResidue
+  written-out v = planTable-is books (decodeResidue h p) v ∙ (λ j. chunks-rows (hd .classifications) p j ++ pad-nil (512 - used) j)
 
-      module _ (qh : not rh ≡ false) {r₁ : Bool} (p₁ : r₁ ≡ all (λ b. leb b count) (take (512 * w + 8 * c - 512 * w) (drop (512 * w) plans))) where
-        pub set-up-fails : not r₁ ≡ true → false ≡ whole
-        set-up-fails q = sym (parts ∙ rw (← ph, not-false rh qh, ← p₁, not-true r₁ q))
+  behind-long : hd .classifications ≤ 64 → length (drop used (take 512 p)) ≡ 512 - used
+  behind-long few = simp length-drop (let e = length-take-le 512 p room in omega arith)
 
-        module _ (q₁ : not r₁ ≡ false) {r₂ : Bool}
-            (p₂ : r₂ ≡ all (placeFits (booksOf 0 t) (h .size)) (take (512 * w + 8 * c - 512 * w) (drop (512 * w) plans))) where
-          pub fits-fails : not r₂ ≡ true → false ≡ whole
-          fits-fails q = sym (parts ∙ rw (← ph, not-false rh qh, ← p₁, not-false r₁ q₁, ← p₂, not-true r₂ q))
+  apart : ValidRows books h p → Parts books hd p
+  unfolding decodeResidue
+  apart w =
+      let v = w .valid in
+      let few = v .carried .classifications .high in
+      let long = length-take-le used p (omega arith) in
+      let r = chunks-rows (hd .classifications) p in
+      let e : drop used (take 512 p) ≡ replicate (512 - used) 0 =
+      sym (drop-at (take used p) (drop used (take 512 p)) used long)
+      ∙ ap (drop used) (sym (row-split few) ∙ w .written ∙ written-out v)
+      ∙ drop-at (take used p) (replicate (512 - used) 0) used long in
+      record {
+        head = record { plan = chunks (hd .classifications) p; valid = v };
+        set-up = rw (← r) (v .rule11 .plan);
+        fits = rw (← r) (plan-fits books hd (chunks (hd .classifications) p) v);
+        empty = e ∙ ap (λ (n : ℕ). replicate n 0) (sym (behind-long few));
+      }
 
-          pub residue-whole : not r₂ ≡ false → (r₃ : Bool) → (r₃ ≡ true) ↔ Zeros (drop (8 * c) (take (512 * w + 512 - 512 * w) (drop (512 * w) plans))) → r₃ ≡ whole
-          residue-whole q r₃ z =
-              let p₃ : r₃ ≡ all (λ b. eqb b 0) (take (512 * w + 512 - (512 * w + 8 * c)) (drop (512 * w + 8 * c) plans)) = judged z ∙ ap (all (λ b. eqb b 0)) after-used in
-              sym (parts ∙ rw (← ph, not-false rh qh, ← p₁, not-false r₁ q₁, ← p₂, not-false r₂ q, ← p₃))
+  together : Parts books hd p → ValidRows books h p
+  unfolding decodeResidue
+  together w =
+      let v = w .head .valid in
+      let few = v .carried .classifications .high in
+      let r = chunks-rows (hd .classifications) p in
+      let valid : ValidResidue books (decodeResidue h p) =
+      record {
+        carried = record {
+          begin = v .carried .begin;
+          end = v .carried .end;
+          size = v .carried .size;
+          classifications = v .carried .classifications;
+          plan = chunks-long (hd .classifications) p;
+          passes = chunks-8 (hd .classifications) p (omega arith);
+        };
+        rule10 = v .rule10;
+        rule11 = record { classbook = v .rule11 .classbook; plan = rw r (w .set-up) };
+        rule13 = both-fit books hd (chunks (hd .classifications) p) (head-fits books hd (w .head .plan) v) (rw r (w .fits));
+      } in
+      let e : drop used (take 512 p) ≡ replicate (512 - used) 0 = w .empty ∙ ap (λ (n : ℕ). replicate n 0) (behind-long few) in
+      record { valid = valid; written = row-split few ∙ ap (λ (l : List ℕ). take used p ++ l) e ∙ sym (written-out valid) }
 
--- all residues: i are done
-module _ (books : Books) (n : ℕ) (residues plans : List ℕ) where
-  pub record Recognising (i : ℕ) : Type 0 where
-    pub within : i ≤ n
-    pub rest : residuesTest books (n - i) (drop (6 * i) residues) (drop (512 * i) plans) ≡ residuesTest books n residues plans
+-- one residue, one law for each way out
+module _ (count : ℕ) (t residues plans : List ℕ) (i : ℕ) (at : (i ≤ 63) × (32768 ≤ length plans)) (h : D.Head) (e : headOf h ≡ headAt residues i) where
+  parts : ValidRows (booksOf count t) (drop (6 * i) residues) (drop (512 * i) plans) ↔ Parts (booksOf count t) (headOf h) (drop (512 * i) plans)
+  parts =
+      let same : headAt (drop (6 * i) residues) 0 ≡ headOf h = head-dropped residues i ∙ sym e in
+      let a = at .0 in
+      let b = at .1 in
+      let room : 512 ≤ length (drop (512 * i) plans) = simp length-drop (omega arith) in (
+        (λ w. subst (λ (x : Head). Parts (booksOf count t) x (drop (512 * i) plans)) same (apart (booksOf count t) (drop (6 * i) residues) (drop (512 * i) plans) room w)),
+        (λ w. together (booksOf count t) (drop (6 * i) residues) (drop (512 * i) plans) room (subst (λ (x : Head). Parts (booksOf count t) x (drop (512 * i) plans)) (sym same) w)),
+      )
 
-  pub recognising-start : Recognising 0
-  recognising-start = record { within = omega arith; rest = rw sub-zero }
+  module _ {rh : Bool} (head : (rh ≡ true) ↔ ValidHead (booksOf count t) (headOf h)) where
+    pub head-fails : not rh ≡ true → (false ≡ true) ↔ ValidRows (booksOf count t) (drop (6 * i) residues) (drop (512 * i) plans)
+    head-fails q = iff-false (λ w. refuted head q (parts .0 w .head))
 
-  module _ {i : ℕ} (w : Recognising i) where
-    turn : i < n
-        → residuesTest books (n - i) (drop (6 * i) residues) (drop (512 * i) plans)
-        ≡ residueTest books (drop (6 * i) residues) (drop (512 * i) plans) && residuesTest books (n - (i + 1)) (drop (6 * (i + 1)) residues) (drop (512 * (i + 1)) plans)
-    unfolding residuesTest
-    turn h =
-        let e : n - i ≡ suc (n - (i + 1)) = omega arith in
-        let a : 6 * i + 6 ≡ 6 * (i + 1) = omega arith in
-        let b : 512 * i + 512 ≡ 512 * (i + 1) = omega arith in
-        rw (e, drop-drop 6 (6 * i) residues, drop-drop 512 (512 * i) plans, a, b)
+    -- w and c are the residue's number and its classifications as the code has widened them
+    module _ {w c : ℕ} (ew : w ≡ i) (ec : c ≡ h .classifications) where
+      -- the places in use
+      places : take (512 * w + 8 * c - 512 * w) (drop (512 * w) plans) ≡ take (8 * h .classifications) (drop (512 * i) plans)
+      places = let a : 512 * w + 8 * c - 512 * w ≡ 8 * c = omega arith in rw (a, ew, ec)
 
-    module _ (h : i < n) {r : Bool} (p : r ≡ residueTest books (drop (6 * i) residues) (drop (512 * i) plans)) where
-      pub recognising-failed : not r ≡ true → residuesTest books n residues plans ≡ false
-      recognising-failed q = sym (w .rest) ∙ turn h ∙ rw (← p, not-true r q)
+      tested : (f : ℕ → Bool) {r : Bool} → r ≡ all f (take (512 * w + 8 * c - 512 * w) (drop (512 * w) plans))
+          → (r ≡ true) ↔ (all f (take (8 * h .classifications) (drop (512 * i) plans)) ≡ true)
+      tested f p = let q = p ∙ ap (all f) places in ((λ y. sym q ∙ y), (λ y. q ∙ y))
 
-      pub recognising-next : not r ≡ false → Recognising (i + 1)
-      recognising-next q =
-          let k : residuesTest books (n - (i + 1)) (drop (6 * (i + 1)) residues) (drop (512 * (i + 1)) plans) ≡ residuesTest books (n - i) (drop (6 * i) residues) (drop (512 * i) plans) =
-          sym (turn h ∙ rw (← p, not-false r q)) in
-          record { within = omega arith; rest = k ∙ w .rest }
+      module _ {r₁ : Bool} (p₁ : r₁ ≡ all (λ v. Rule.meets11 (Rule.bookOrNone count v)) (take (512 * w + 8 * c - 512 * w) (drop (512 * w) plans))) where
+        pub set-up-fails : not r₁ ≡ true → (false ≡ true) ↔ ValidRows (booksOf count t) (drop (6 * i) residues) (drop (512 * i) plans)
+        set-up-fails q = iff-false (λ w. refuted (tested (λ v. Rule.meets11 (Rule.bookOrNone count v)) p₁) q (parts .0 w .set-up))
 
-    -- the zeros behind the last residue
-    module _ (h : n ≤ i) {m : ℕ} (em : m ≡ n) where
-      after : residuesTest books n residues plans
-          ≡ all (λ b. eqb b 0) (drop (6 * m) residues) && all (λ b. eqb b 0) (drop (512 * m) plans)
-      unfolding residuesTest
-      after =
-          let a = w .within in
-          let x : n - i ≡ 0 = omega arith in
-          let y : i ≡ m = omega arith in
-          sym (w .rest) ∙ rw (x, y)
+        module _ {r₂ : Bool} (p₂ : r₂ ≡ all (placeFits (booksOf 0 t) (h .size)) (take (512 * w + 8 * c - 512 * w) (drop (512 * w) plans))) where
+          fit : (r₂ ≡ true) ↔ (all (placeFits (booksOf count t) (h .size)) (take (8 * h .classifications) (drop (512 * i) plans)) ≡ true)
+          unfolding placeFits
+          fit = tested (placeFits (booksOf 0 t) (h .size)) p₂
 
-      module _ {r : Bool} (z : (r ≡ true) ↔ Zeros (drop (6 * m) residues)) where
-        p : r ≡ all (λ b. eqb b 0) (drop (6 * m) residues)
-        p = judged z
+          pub fits-fails : not r₂ ≡ true → (false ≡ true) ↔ ValidRows (booksOf count t) (drop (6 * i) residues) (drop (512 * i) plans)
+          fits-fails q = iff-false (λ w. refuted fit q (parts .0 w .fits))
 
-        pub tail-failed : not r ≡ true → residuesTest books n residues plans ≡ false
-        tail-failed q = after ∙ rw (← p, not-true r q)
-
-        pub tail-judged : not r ≡ false → {m₂ : ℕ} → m₂ ≡ n → {r₂ : Bool} → (r₂ ≡ true) ↔ Zeros (drop (512 * m₂) plans)
-            → residuesTest books n residues plans ≡ r₂
-        tail-judged q {m₂} e {r₂} z₂ =
-            let s : r₂ ≡ all (λ b. eqb b 0) (drop (512 * m) plans) =
-            judged z₂ ∙ ap (λ (k : ℕ). all (λ b. eqb b 0) (drop (512 * k) plans)) (e ∙ sym em) in
-            after ∙ rw (← p, not-false r q) (sym s)
+          pub residue-judged : not rh ≡ false → not r₁ ≡ false → not r₂ ≡ false → {r₃ : Bool}
+              → (r₃ ≡ true) ↔ Zeros (drop (8 * c) (take (512 * w + 512 - 512 * w) (drop (512 * w) plans)))
+              → (r₃ ≡ true) ↔ ValidRows (booksOf count t) (drop (6 * i) residues) (drop (512 * i) plans)
+          residue-judged qh q₁ q₂ z =
+              let a : 512 * w + 512 - 512 * w ≡ 512 = omega arith in
+              let s = rw (a, ew, ec) at z in (
+                (λ y. parts .1 (record { head = shown head qh; set-up = shown (tested (λ v. Rule.meets11 (Rule.bookOrNone count v)) p₁) q₁; fits = shown fit q₂; empty = s .0 y })),
+                (λ v. s .1 (parts .0 v .empty)),
+              )

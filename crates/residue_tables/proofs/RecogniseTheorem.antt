@@ -1,72 +1,65 @@
--- The test along the tables passes exactly where they are the writing-out of residues that meet every rule. Assumes nothing.
-use Prim.Native.Nat.{ℕ, zero, suc, _+_, _-_, _*_, _^_, _≤_, _<_}
+-- Tables are the writing-out of residues that meet every rule exactly where the rows of each are, one after the other, and zeros stand behind them. Assumes nothing.
+use Prim.Native.Nat.{ℕ, suc, _+_, _-_, _*_, _≤_, _<_}
+use native.Mathlib.Nat.{sub-zero}
 use native.Mathlib.Omega.{arith}
-use borrow.Author.Tests.{le-leb, lt-ltb, leb-true, ltb-true, eqb-true}
-use mathlib.Core.Bool.{Bool, true, false, _&&_}
-use mathlib.Core.List.{List, [], _∷_, _++_, append-nil, append-assoc}
+use mathlib.Core.Bool.{Bool, true, false, not}
+use mathlib.Core.List.{List, [], _∷_, _++_}
 use mathlib.Core.Logic.{_↔_}
-use mathlib.Core.Path.{_≡_, refl, sym, ap, _∙_}
-use lib.Dec.{eqb, leb, ltb}
+use mathlib.Core.Path.{_≡_, refl, sym, ap, subst, _∙_}
 use lib.ListN.{length, take, drop, length-drop, take-append-drop}
-use lib.Seq.{take-at, drop-at, take-add, length-take-le}
+use lib.Seq.{take-at, drop-at, drop-drop}
 use Rattle.reading.specs.Pad.{pad}
-use Rattle.reading.specs.Lists.{all, rows}
-use Rattle.reading.specs.Encoding.{Each}
-use Rattle.reading.proofs.Least.{and-split}
-use Rattle.reading.proofs.Pads.{length-pad}
+use Rattle.reading.specs.Lists.{rows}
+use Rattle.reading.specs.Encoding.{Zeros, Each}
+use Rattle.reading.proofs.Encodes.{iff-false, refuted, shown}
+use Rattle.reading.proofs.Pads.{pad-nil}
 use Rattle.residue.specs.Content.{Residue}
-use Rattle.residue.specs.Reading.{Books, Head, placeFits, residueFits}
+use Rattle.residue.specs.Reading.{Books}
 use Rattle.residue.specs.Layout.{headRow, planTable}
-use Rattle.residue.specs.Carried.{Rows8}
 use Rattle.residue.specs.inner.Valid.{ValidResidue}
-use Rattle.residue.specs.inner.Plans.{headFits}
-use Rattle.residue.specs.inner.Decode.{chunks, headAt, decodeResidue, decodeResidues}
-use Rattle.residue_tables.specs.inner.Recognised.{Holds, ResiduesRecognised, OneContent, headTest, placesTest, residueTest, residuesTest}
-use Rattle.residue.proofs.Laws.{length-headRow, length-planTable, rows8-long, planTable-is, decode-residues}
+use Rattle.residue.specs.inner.Decode.{decodeResidue, decodeResidues}
+use Rattle.residue.proofs.Laws.{length-headRow, length-planTable, decode-rows, decode-residues}
 use Rattle.residue.proofs.RowsLaws.{pad-cat}
+use Rattle.residue_tables.specs.inner.Recognised.{Holds, ResiduesRecognised, OneContent, ValidRows}
 
-both : {a b : Bool} → a ≡ true → b ≡ true → a && b ≡ true
-both p q = rw (p, q)
+-- the tables hold some content
+abbrev Held : Books → ℕ → List ℕ → List ℕ → Type 0
+Held books n h p = (content : List Residue) × Holds books n h p content
 
--- zeros and padding
-zeros-pad : (l : List ℕ) (n : ℕ) → n ≡ length l → all (λ b. eqb b 0) l ≡ true → pad n [] ≡ l
-unfolding all pad
-zeros-pad [] zero e z = refl
-zeros-pad [] (suc n) e z = absurd (omega arith)
-zeros-pad (x ∷ l) zero e z = absurd (omega arith)
-zeros-pad (x ∷ l) (suc n) e z =
-    let a = and-split (eqb x 0) (all (λ b. eqb b 0) l) z in
-    let b : x ≡ 0 = eqb-true x 0 (a .0) in
-    let c : pad n [] ≡ l = zeros-pad l n (omega arith) (a .1) in
-    λ j. sym b j ∷ c j
+-- no residue: zeros alone
+held-none : (books : Books) (h p : List ℕ) → Held books 0 h p ↔ (Zeros h × Zeros p)
+unfolding rows Each
+held-none books h p = (
+  (λ s. none (s .0) (s .1)),
+  (λ z. ([], record { count = refl; valid = tt; head-rows = z .0 ∙ sym (pad-nil (length h)); plan-rows = z .1 ∙ sym (pad-nil (length p)) })),
+)
+  where
+    none : (rs : List Residue) → Holds books 0 h p rs → Zeros h × Zeros p
+    none [] s = (s .head-rows ∙ pad-nil (length h), s .plan-rows ∙ pad-nil (length p))
+    none (r ∷ rs) s = let e = s .count in absurd (omega arith)
 
-pad-zeros : (n : ℕ) → all (λ b. eqb b 0) (pad n []) ≡ true
-unfolding all pad
-pad-zeros zero = refl
-pad-zeros (suc n) = pad-zeros n
+-- one row more in front of a table
+module _ (row : Residue → List ℕ) (w : ℕ) (wide : (r : Residue) → length (row r) ≡ w) (r : Residue) (rs : List Residue) (cells : List ℕ) (room : w ≤ length cells) where
+  in-front : pad (length cells) (rows row (r ∷ rs)) ≡ row r ++ pad (length (drop w cells)) (rows row rs)
+  unfolding rows
+  in-front =
+      let a = wide r in
+      let b : length (drop w cells) ≡ length cells - w = length-drop w cells in
+      pad-cat (length cells) (row r) (rows row rs) (length (drop w cells)) (omega arith)
 
--- chunks of 8
-chunks-long : (n : ℕ) (l : List ℕ) → length (chunks n l) ≡ n
-unfolding chunks
-chunks-long zero l = refl
-chunks-long (suc n) l = ap suc (chunks-long n (drop 8 l))
+  front-row : cells ≡ pad (length cells) (rows row (r ∷ rs)) → cells ≡ row r ++ drop w cells
+  front-row e =
+      let f = e ∙ in-front in
+      f ∙ ap (λ (l : List ℕ). row r ++ l) (sym (ap (drop w) f ∙ drop-at (row r) (pad (length (drop w cells)) (rows row rs)) w (wide r)))
 
-chunks-8 : (n : ℕ) (l : List ℕ) → 8 * n ≤ length l → Rows8 (chunks n l)
-unfolding chunks Rows8
-chunks-8 zero l h = tt
-chunks-8 (suc n) l h = (length-take-le 8 l (omega arith), chunks-8 n (drop 8 l) (simp length-drop (omega arith)))
+  behind-row : cells ≡ pad (length cells) (rows row (r ∷ rs)) → drop w cells ≡ pad (length (drop w cells)) (rows row rs)
+  behind-row e = ap (drop w) (e ∙ in-front) ∙ drop-at (row r) (pad (length (drop w cells)) (rows row rs)) w (wide r)
 
-chunks-rows : (n : ℕ) (l : List ℕ) → 8 * n ≤ length l → rows (λ row. row) (chunks n l) ≡ take (8 * n) l
-unfolding chunks rows
-chunks-rows zero l h = refl
-chunks-rows (suc n) l h =
-    let e : 8 + 8 * n ≡ 8 * suc n = omega arith in
-    ap (λ (x : List ℕ). take 8 l ++ x) (chunks-rows n (drop 8 l) (simp length-drop (omega arith)))
-    ∙ sym (take-add 8 (8 * n) l)
-    ∙ ap (λ (m : ℕ). take m l) e
+  with-row : take w cells ≡ row r → drop w cells ≡ pad (length (drop w cells)) (rows row rs) → cells ≡ pad (length cells) (rows row (r ∷ rs))
+  with-row e f = sym (take-append-drop w cells) ∙ (λ j. e j ++ f j) ∙ sym in-front
 
 -- the six numbers that begin a list
-six : (h p : List ℕ) → 6 ≤ length h → headRow (decodeResidue h p) ≡ take 6 h
+six : (h p : List ℕ) → 6 ≤ length h → take 6 h ≡ headRow (decodeResidue h p)
 unfolding headRow decodeResidue
 six [] p l = absurd (omega arith)
 six (a ∷ []) p l = absurd (omega arith)
@@ -76,146 +69,117 @@ six (a ∷ b ∷ c ∷ d ∷ []) p l = absurd (omega arith)
 six (a ∷ b ∷ c ∷ d ∷ e ∷ []) p l = absurd (omega arith)
 six (a ∷ b ∷ c ∷ d ∷ e ∷ f ∷ h) p l = refl
 
--- rows that pass the test are those of the residue that they decode to, and it meets every rule
-pub record Tested (books : Books) (h p : List ℕ) : Type 0 where
-  pub valid : ValidResidue books (decodeResidue h p)
-  pub head-row : headRow (decodeResidue h p) ≡ take 6 h
-  pub plan-row : planTable (decodeResidue h p) ≡ take 512 p
+-- one residue more: its rows, and then the others'
+module _ (books : Books) (n : ℕ) (h p : List ℕ) (room : 6 ≤ length h) (room-p : 512 ≤ length p) where
+  held-first : Held books (suc n) h p → ValidRows books h p × Held books n (drop 6 h) (drop 512 p)
+  unfolding Each
+  held-first s = go (s .0) (s .1)
+    where
+      go : (rs : List Residue) → Holds books (suc n) h p rs → ValidRows books h p × Held books n (drop 6 h) (drop 512 p)
+      go [] s = let e = s .count in absurd (omega arith)
+      go (r ∷ rs) s =
+          let k = s .count in
+          let a = front-row headRow 6 length-headRow r rs h room (s .head-rows) in
+          let b = front-row planTable 512 length-planTable r rs p room-p (s .plan-rows) in
+          let d : r ≡ decodeResidue h p = sym ((λ j. decodeResidue (a j) (b j)) ∙ decode-rows books r (s .valid .0) (drop 6 h) (drop 512 p)) in (
+            record {
+              valid = subst (ValidResidue books) d (s .valid .0);
+              written = ap (take 512) b ∙ take-at (planTable r) (drop 512 p) 512 (length-planTable r) ∙ ap planTable d;
+            },
+            (
+              rs,
+              record {
+                count = omega arith;
+                valid = s .valid .1;
+                head-rows = behind-row headRow 6 length-headRow r rs h room (s .head-rows);
+                plan-rows = behind-row planTable 512 length-planTable r rs p room-p (s .plan-rows);
+              },
+            ),
+          )
 
-pub tested : (books : Books) (h p : List ℕ) → 6 ≤ length h → 512 ≤ length p → residueTest books h p ≡ true → Tested books h p
-unfolding residueTest headTest decodeResidue residueFits planTable
-tested books h p room room-p e =
-    let hd : Head = headAt h 0 in
-    let c : ℕ = hd .classifications in
-    let s = and-split (headTest books hd) (placesTest books hd p) e in
-    let a₁ = and-split (leb (hd .type) 2) _ (s .0) in
-    let a₂ = and-split (ltb (hd .begin) (2 ^ 24)) _ (a₁ .1) in
-    let a₃ = and-split (ltb (hd .end) (2 ^ 24)) _ (a₂ .1) in
-    let a₄ = and-split (leb 1 (hd .size)) _ (a₃ .1) in
-    let a₅ = and-split (leb (hd .size) (2 ^ 24)) _ (a₄ .1) in
-    let a₆ = and-split (leb 1 c) _ (a₅ .1) in
-    let a₇ = and-split (leb c 64) _ (a₆ .1) in
-    let a₈ = and-split (ltb (hd .classbook) (books .count)) (headFits books hd) (a₇ .1) in
-    let b₁ = and-split (all (λ b. leb b (books .count)) (take (8 * c) p)) _ (s .1) in
-    let b₂ = and-split (all (placeFits books (hd .size)) (take (8 * c) p)) (all (λ b. eqb b 0) (take (512 - 8 * c) (drop (8 * c) p))) (b₁ .1) in
-    let f = and-split (leb (hd .begin) (hd .end)) _ (a₈ .1) in
-    let few = leb-true c 64 (a₇ .0) in
-    let r : rows (λ row. row) (chunks c p) ≡ take (8 * c) p = chunks-rows c p (omega arith) in
-    let long : length (take (8 * c) p) ≡ 8 * c = length-take-le (8 * c) p (omega arith) in
-    let rest : length (take (512 - 8 * c) (drop (8 * c) p)) ≡ 512 - 8 * c = length-take-le (512 - 8 * c) (drop (8 * c) p) (simp length-drop (omega arith)) in
-    let sum : 8 * c + (512 - 8 * c) ≡ 512 = omega arith in
+  held-cons : ValidRows books h p → Held books n (drop 6 h) (drop 512 p) → Held books (suc n) h p
+  unfolding Each
+  held-cons v s = (
+    decodeResidue h p ∷ s .0,
     record {
-      valid = record {
-        carried = record {
-          begin = ltb-true (hd .begin) (2 ^ 24) (a₂ .0);
-          end = ltb-true (hd .end) (2 ^ 24) (a₃ .0);
-          size = record { low = leb-true 1 (hd .size) (a₄ .0); high = leb-true (hd .size) (2 ^ 24) (a₅ .0) };
-          classifications = record { low = leb-true 1 c (a₆ .0); high = few };
-          plan = chunks-long c p;
-          passes = chunks-8 c p (omega arith);
-        };
-        rule10 = a₁ .0;
-        rule11 = record { classbook = a₈ .0; plan = rw r (b₁ .0) };
-        rule13 = both (f .0) (both (f .1) (rw r (b₂ .0)));
-      };
-      head-row = six h p room;
-      plan-row =
-          ap (pad 512) (r ∙ sym (append-nil (take (8 * c) p)))
-          ∙ pad-cat 512 (take (8 * c) p) [] (512 - 8 * c) (omega arith)
-          ∙ ap (λ (l : List ℕ). take (8 * c) p ++ l) (zeros-pad (take (512 - 8 * c) (drop (8 * c) p)) (512 - 8 * c) (sym rest) (b₂ .1))
-          ∙ sym (take-add (8 * c) (512 - 8 * c) p)
-          ∙ ap (λ (m : ℕ). take m p) sum;
-    }
+      count = ap suc (s .1 .count);
+      valid = (v .valid, s .1 .valid);
+      head-rows = with-row headRow 6 length-headRow (decodeResidue h p) (s .0) h room (six h p room) (s .1 .head-rows);
+      plan-rows = with-row planTable 512 length-planTable (decodeResidue h p) (s .0) p room-p (v .written) (s .1 .plan-rows);
+    },
+  )
 
--- the rows of a residue that meets every rule pass the test, whatever follows them
-residue-passes : (books : Books) (r : Residue) → ValidResidue books r → (h p : List ℕ) → residueTest books (headRow r ++ h) (planTable r ++ p) ≡ true
-unfolding residueTest headTest headRow residueFits
-residue-passes books r v h p =
-    let w = v .carried in
-    let f = and-split (leb (r .begin) (r .end)) _ (v .rule13) in
-    let g = and-split (leb (r .classifications ^ books .dimensions (r .classbook)) (books .entries (r .classbook))) _ (f .1) in
-    let z : List ℕ = pad (512 - 8 * r .classifications) [] in
-    let whole : planTable r ++ p ≡ rows (λ row. row) (r .plan) ++ (z ++ p) = ap (λ (l : List ℕ). l ++ p) (planTable-is books r v) ∙ append-assoc (rows (λ row. row) (r .plan)) z p in
-    let long : length (rows (λ row. row) (r .plan)) ≡ 8 * r .classifications = rows8-long (r .plan) (w .passes) ∙ ap (λ (n : ℕ). 8 * n) (w .plan) in
-    let front : take (8 * r .classifications) (planTable r ++ p) ≡ rows (λ row. row) (r .plan) =
-    ap (take (8 * r .classifications)) whole ∙ take-at (rows (λ row. row) (r .plan)) (z ++ p) (8 * r .classifications) long in
-    let back : take (512 - 8 * r .classifications) (drop (8 * r .classifications) (planTable r ++ p)) ≡ z =
-    ap (λ (l : List ℕ). take (512 - 8 * r .classifications) (drop (8 * r .classifications) l)) whole
-    ∙ ap (take (512 - 8 * r .classifications)) (drop-at (rows (λ row. row) (r .plan)) (z ++ p) (8 * r .classifications) long)
-    ∙ take-at z p (512 - 8 * r .classifications) (length-pad (512 - 8 * r .classifications) []) in
-    rw
-    (v .rule10, lt-ltb (r .begin) (2 ^ 24) (w .begin), lt-ltb (r .end) (2 ^ 24) (w .end), le-leb 1 (r .size) (w .size .low), le-leb (r .size) (2 ^ 24) (w .size .high), le-leb 1 (r .classifications) (w .classifications .low), le-leb (r .classifications) 64 (w .classifications .high), v .rule11 .classbook, f .0, g .0, front, v .rule11 .plan, g .1, back)
-    (pad-zeros (512 - 8 * r .classifications))
+-- the loop over the residues: the rows of i are found right, so that all depends on the others
+pub record Recognising (books : Books) (n : ℕ) (residues plans : List ℕ) (i : ℕ) : Type 0 where
+  pub within : i ≤ n
+  pub left : Held books n residues plans ↔ Held books (n - i) (drop (6 * i) residues) (drop (512 * i) plans)
 
--- tables that pass hold a content
-content : (books : Books) (n : ℕ) (h p : List ℕ) → 6 * n ≤ length h → 512 * n ≤ length p → residuesTest books n h p ≡ true → (rs : List Residue) × Holds books n h p rs
-unfolding residuesTest rows Each
-content books zero h p room room-p e =
-    let a = and-split (all (λ b. eqb b 0) h) (all (λ b. eqb b 0) p) e in
-    ([], record { count = refl; valid = tt; head-rows = sym (zeros-pad h (length h) refl (a .0)); plan-rows = sym (zeros-pad p (length p) refl (a .1)) })
-content books (suc n) h p room room-p e =
-    let a = and-split (residueTest books h p) (residuesTest books n (drop 6 h) (drop 512 p)) e in
-    let d = tested books h p (omega arith) (omega arith) (a .0) in
-    let r : Residue = decodeResidue h p in
-    let i = content books n (drop 6 h) (drop 512 p) (simp length-drop (omega arith)) (simp length-drop (omega arith)) (a .1) in
-    let x : length h ≡ length (headRow r) + length (drop 6 h) = rw length-headRow (simp length-drop (omega arith)) in
-    let y : length p ≡ length (planTable r) + length (drop 512 p) = rw length-planTable (simp length-drop (omega arith)) in (
-      r ∷ i .0,
-      record {
-        count = ap suc (i .1 .count);
-        valid = (d .valid, i .1 .valid);
-        head-rows =
-            sym (take-append-drop 6 h)
-            ∙ (λ j. sym (d .head-row) j ++ i .1 .head-rows j)
-            ∙ sym (pad-cat (length h) (headRow r) (rows headRow (i .0)) (length (drop 6 h)) x);
-        plan-rows =
-            sym (take-append-drop 512 p)
-            ∙ (λ j. sym (d .plan-row) j ++ i .1 .plan-rows j)
-            ∙ sym (pad-cat (length p) (planTable r) (rows planTable (i .0)) (length (drop 512 p)) y);
-      },
-    )
-
--- tables that hold a content pass
-passes-all : (books : Books) (rs : List Residue) (n a b : ℕ) → length rs ≡ n → Each (ValidResidue books) rs → 6 * n ≤ a → 512 * n ≤ b
-    → residuesTest books n (pad a (rows headRow rs)) (pad b (rows planTable rs)) ≡ true
-unfolding residuesTest rows Each
-passes-all books [] zero a b e v h g = both (pad-zeros a) (pad-zeros b)
-passes-all books [] (suc n) a b e v h g = absurd (omega arith)
-passes-all books (r ∷ rs) zero a b e v h g = absurd (omega arith)
-passes-all books (r ∷ rs) (suc n) a b e v h g =
-    let x : pad a (headRow r ++ rows headRow rs) ≡ headRow r ++ pad (a - 6) (rows headRow rs) = pad-cat a (headRow r) (rows headRow rs) (a - 6) (rw length-headRow (omega arith)) in
-    let y : pad b (planTable r ++ rows planTable rs) ≡ planTable r ++ pad (b - 512) (rows planTable rs) =
-    pad-cat b (planTable r) (rows planTable rs) (b - 512) (rw length-planTable (omega arith)) in
-    rw
-    (x, y, drop-at (headRow r) (pad (a - 6) (rows headRow rs)) 6 (length-headRow r), drop-at (planTable r) (pad (b - 512) (rows planTable rs)) 512 (length-planTable r))
-    (both (residue-passes books r (v .0) (pad (a - 6) (rows headRow rs)) (pad (b - 512) (rows planTable rs))) (passes-all books rs n (a - 6) (b - 512) (omega arith) (v .1) (omega arith) (omega arith)))
-
-pub one-content : (books : Books) (n : ℕ) (residues plans : List ℕ) → n ≤ 64 → OneContent books n residues plans
-one-content books n residues plans few =
-    record {
-      decoded = λ s.
-          let a = s .room in
-          let b = s .room-plans in
-          sym
-          ((λ j. decodeResidues n (s .holds .head-rows j) (s .holds .plan-rows j))
-          ∙ decode-residues books (s .content) n (length residues) (length plans) (s .holds .count) (s .holds .valid) (omega arith) (omega arith));
-    }
-
--- the recogniser's claim, for each way out of it
 module _ (books : Books) (n : ℕ) (residues plans : List ℕ) where
+  pub recognising-start : Recognising books n residues plans 0
+  recognising-start = record { within = omega arith; left = rw sub-zero ((λ s. s), (λ s. s)) }
+
+  pub one-content : n ≤ 64 → OneContent books n residues plans
+  one-content few =
+      record {
+        decoded = λ s.
+            let a = s .room in
+            let b = s .room-plans in
+            sym
+            ((λ j. decodeResidues n (s .holds .head-rows j) (s .holds .plan-rows j))
+            ∙ decode-residues books (s .content) n (length residues) (length plans) (s .holds .count) (s .holds .valid) (omega arith) (omega arith));
+      }
+
   pub short : length residues < 384 → (false ≡ true) ↔ ResiduesRecognised books n residues plans
-  short h = (λ e. let z : _≡_ {A = ℕ} 0 1 = cc in absurd (omega arith), λ s. let r = s .room in absurd (omega arith))
+  short h = iff-false (λ s. let r = s .room in omega arith)
 
   pub short-plans : length plans < 32768 → (false ≡ true) ↔ ResiduesRecognised books n residues plans
-  short-plans h = (λ e. let z : _≡_ {A = ℕ} 0 1 = cc in absurd (omega arith), λ s. let r = s .room-plans in absurd (omega arith))
+  short-plans h = iff-false (λ s. let r = s .room-plans in omega arith)
 
-  pub recognised-iff : n ≤ 64 → 384 ≤ length residues → 32768 ≤ length plans → {r : Bool} → residuesTest books n residues plans ≡ r → (r ≡ true) ↔ ResiduesRecognised books n residues plans
-  recognised-iff few a b {r} e = (
-    λ t.
-        let c = content books n residues plans (omega arith) (omega arith) (e ∙ t) in
-        record { room = a; room-plans = b; content = c .0; holds = c .1 },
-    λ s.
-        sym e
-        ∙ (λ j. residuesTest books n (s .holds .head-rows j) (s .holds .plan-rows j))
-        ∙ passes-all books (s .content) n (length residues) (length plans) (s .holds .count) (s .holds .valid) (omega arith) (omega arith),
-  )
+  module _ (few : n ≤ 64) (room : 384 ≤ length residues) (room-plans : 32768 ≤ length plans) {i : ℕ} (w : Recognising books n residues plans i) where
+    -- the residue at i, and the others behind it
+    module _ (h : i < n) where
+      abbrev Others : Type 0
+      Others = Held books (n - (i + 1)) (drop (6 * (i + 1)) residues) (drop (512 * (i + 1)) plans)
+
+      turn : Held books n residues plans ↔ (ValidRows books (drop (6 * i) residues) (drop (512 * i) plans) × Others)
+      turn =
+          let e : n - i ≡ suc (n - (i + 1)) = omega arith in
+          let a : 6 * i + 6 ≡ 6 * (i + 1) = omega arith in
+          let b : 512 * i + 512 ≡ 512 * (i + 1) = omega arith in
+          let x : 6 ≤ length (drop (6 * i) residues) = simp length-drop (omega arith) in
+          let y : 512 ≤ length (drop (512 * i) plans) = simp length-drop (omega arith) in
+          let next : Held books (n - (i + 1)) (drop 6 (drop (6 * i) residues)) (drop 512 (drop (512 * i) plans)) ≡ Others =
+          rw (drop-drop 6 (6 * i) residues, drop-drop 512 (512 * i) plans, a, b) refl in
+          let s : Held books n residues plans ↔ Held books (suc (n - (i + 1))) (drop (6 * i) residues) (drop (512 * i) plans) = rw e at (w .left) in (
+            (λ c. let d = held-first books (n - (i + 1)) _ _ x y (s .0 c) in (d .0, subst (λ (T : Type 0). T) next (d .1))),
+            (λ d. s .1 (held-cons books (n - (i + 1)) _ _ x y (d .0) (subst (λ (T : Type 0). T) (sym next) (d .1)))),
+          )
+
+      module _ {r : Bool} (said : (r ≡ true) ↔ ValidRows books (drop (6 * i) residues) (drop (512 * i) plans)) where
+        pub recognising-failed : not r ≡ true → (false ≡ true) ↔ ResiduesRecognised books n residues plans
+        recognising-failed q = iff-false (λ s. refuted said q (turn .0 (s .content, s .holds) .0))
+
+        pub recognising-next : not r ≡ false → Recognising books n residues plans (i + 1)
+        recognising-next q = record { within = omega arith; left = ((λ c. turn .0 c .1), (λ d. turn .1 (shown said q, d))) }
+
+    -- the zeros behind the last residue
+    module _ (h : n ≤ i) {m : ℕ} (em : m ≡ n) where
+      after : Held books n residues plans ↔ (Zeros (drop (6 * m) residues) × Zeros (drop (512 * m) plans))
+      after =
+          let a = w .within in
+          let x : n - i ≡ 0 = omega arith in
+          let y : i ≡ m = omega arith in
+          let s : Held books n residues plans ↔ Held books 0 (drop (6 * m) residues) (drop (512 * m) plans) = rw (x, y) at (w .left) in
+          let z = held-none books (drop (6 * m) residues) (drop (512 * m) plans) in
+          ((λ c. z .0 (s .0 c)), (λ d. s .1 (z .1 d)))
+
+      module _ {r : Bool} (said : (r ≡ true) ↔ Zeros (drop (6 * m) residues)) where
+        pub tail-failed : not r ≡ true → (false ≡ true) ↔ ResiduesRecognised books n residues plans
+        tail-failed q = iff-false (λ s. refuted said q (after .0 (s .content, s .holds) .0))
+
+        pub tail-judged : not r ≡ false → {m₂ : ℕ} → m₂ ≡ n → {r₂ : Bool} → (r₂ ≡ true) ↔ Zeros (drop (512 * m₂) plans) → (r₂ ≡ true) ↔ ResiduesRecognised books n residues plans
+        tail-judged q {m₂} e {r₂} said₂ =
+            let z : (r₂ ≡ true) ↔ Zeros (drop (512 * m) plans) = subst (λ (k : ℕ). (r₂ ≡ true) ↔ Zeros (drop (512 * k) plans)) (e ∙ sym em) said₂ in (
+              (λ y. let c = after .1 (shown said q, z .0 y) in record { room = room; room-plans = room-plans; content = c .0; holds = c .1 }),
+              (λ s. z .1 (after .0 (s .content, s .holds) .1)),
+            )

@@ -10,17 +10,17 @@ ghost use mathlib.Core.Path.{_≡_};
 ghost use mathlib.Core.Bool.{true};
 ghost use mathlib.Core.Logic.{_↔_};
 ghost use Prim.Native.Nat.{_-_, _*_, _≤_};
-ghost use lib.Dec.{leb};
 ghost use lib.ListN.{length, take, drop};
 ghost use Rattle.reading.specs.Lists.{all};
+ghost use Rattle.rules.specs.Rules as Rule;
 ghost use Rattle.residue.specs.inner.FromTable.{booksOf};
 ghost use Rattle.residue.specs.inner.Heads.{headOf};
-ghost use Rattle.residue_tables.specs.inner.Recognised.{headTest, residueTest, ResiduesRecognised, OneContent};
+ghost use Rattle.residue_tables.specs.inner.Recognised.{ValidHead, ValidRows, ResiduesRecognised, OneContent};
 ghost use Rattle.residue.specs.Layout.{headWidth, planWidth, plansNeed};
 
 // The places from `from` up to `to` name books that are set up.
 fn places_set_up(places: &[u16], from: usize, to: usize, book_count: u32) -> bool
-    ensures { λ r. ⌜ r ≡ all (λ b. leb b «book_count») (take (to - from) (drop from (now (places .entry)))) ⌝ }
+    ensures { λ r. ⌜ r ≡ all (λ v. Rule.meets11 (Rule.bookOrNone «book_count» v)) (take (to - from) (drop from (now (places .entry)))) ⌝ }
 {
     let mut i = from;
     while i < to {
@@ -37,9 +37,9 @@ fn places_set_up(places: &[u16], from: usize, to: usize, book_count: u32) -> boo
     true
 }
 
-// The fields before the plan are within their widths and meet refusals 10, 11 and 13.
+// Whether some residue that meets every rule has these fields before its plan.
 fn is_head(head: Head, book_count: u32, books: &[u32]) -> bool
-    ensures { λ r. ⌜ r ≡ headTest (booksOf «book_count» (now (books .entry))) (headOf head) ⌝ }
+    ensures { λ r. ⌜ (r ≡ true) ↔ ValidHead (booksOf «book_count» (now (books .entry))) (headOf head) ⌝ }
 {
     if 2 < head.kind {
         return false;
@@ -68,10 +68,10 @@ fn is_head(head: Head, book_count: u32, books: &[u32]) -> bool
     residue::fits::head_fits(head, books)
 }
 
-// Residue `index` of the tables meets every rule.
+// Whether the rows of residue `index` are those of a residue that meets every rule.
 fn is_residue(residues: &[u32], plans: &[u16], index: u32, book_count: u32, books: &[u32]) -> bool
     requires { ⌜ (index ≤ 63) × (plansNeed ≤ length (now plans)) ⌝ }
-    ensures { λ r. ⌜ r ≡ residueTest (booksOf «book_count» (now (books .entry))) (drop (headWidth * index) (now (residues .entry)))
+    ensures { λ r. ⌜ (r ≡ true) ↔ ValidRows (booksOf «book_count» (now (books .entry))) (drop (headWidth * index) (now (residues .entry)))
         (drop (planWidth * index) (now (plans .entry))) ⌝ }
 {
     let head = residue_row::head(residues, index);

@@ -10,11 +10,11 @@ read-lookup-requires c κs = search needs
 write-row-requires : tie.Need-write-row-requires
 write-row-requires c κs = search needs
 
-add-t19 : tie.Need-add-t19
-add-t19 c = search needs
+add-t14 : tie.Need-add-t14
+add-t14 c = search needs
 
-add-t20 : tie.Need-add-t20
-add-t20 c = search needs
+add-t15 : tie.Need-add-t15
+add-t15 c = search needs
 
 same-length : tie.Need-same-length
 same-length c = search needs
@@ -23,7 +23,7 @@ same-length-2 : tie.Need-same-length-2
 same-length-2 c = search needs
 
 returns : tie.Need-returns
-returns c = (finish-whole _ _ _ _ _ _ _ _ (c .before .before .before .before .before .before .before .before .read-lookup .ensures .0) (c .before .before .before .before .write-row .ensures), (search needs, c .before .before .before .before .before .before .before .before .read-lookup .ensures .1))
+returns c = (finish-whole _ _ _ _ _ _ _ _ (c .before .before .before .before .before .before .before .before .before .read-lookup .ensures .0) (c .before .before .before .before .before .write-row .ensures), (search needs, c .before .before .before .before .before .before .before .before .before .read-lookup .ensures .1))
 
 pub finish-book-spec : {M : Type 1} → statement M
 finish-book-spec =
@@ -31,8 +31,8 @@ finish-book-spec =
     (tie.spec
     read-lookup-requires
     write-row-requires
-    add-t19
-    add-t20
+    add-t14
+    add-t15
     same-length
     same-length-2
     returns)

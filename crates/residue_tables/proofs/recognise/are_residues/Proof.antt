@@ -1,8 +1,7 @@
--- `residue_tables::recognise::are_residues` meets its contract, by RecogniseLaws and RecogniseTheorem. Assumes nothing.
+-- `residue_tables::recognise::are_residues` meets its contract, by RecogniseTheorem. Assumes nothing.
 use Prim.Native.Nat.{_-_}
 use Rattle.residue.specs.inner.FromTable.{booksOf}
-use Rattle.residue_tables.proofs.RecogniseLaws.{Recognising, recognising-start, recognising-next, recognising-failed, tail-failed, tail-judged}
-use Rattle.residue_tables.proofs.RecogniseTheorem.{one-content, short, short-plans, recognised-iff}
+use Rattle.residue_tables.proofs.RecogniseTheorem.{Recognising, recognising-start, recognising-next, recognising-failed, tail-failed, tail-judged, one-content, short, short-plans}
 use borrow.Author.Needs.{needs}
 use Rattle.residue_tables.proofs.recognise.are_residues.Statement.{statement}
 use Rattle.residue_tables.proofs.recognise.are_residues.Tie as tie
@@ -40,8 +39,8 @@ returns-3 c =
     let at-loop = c .before .before .before in
     let at-start = at-loop .before .before .before .before .before .before in
     let books = booksOf (at-start .args .book-count) (at-start .args .books .now) in (
-      recognised-iff books (at-start .args .n) (at-start .args .residues .now) (at-start .args .plans .now) (at-start .pre) (search needs)
-          (search needs) (recognising-failed _ _ _ _ (at-loop .loop .inv) (search needs) (c .before .is-residue .ensures) (c .if3 .taken)),
+      recognising-failed books (at-start .args .n) (at-start .args .residues .now) (at-start .args .plans .now) (at-start .pre) (search needs) (search needs) (at-loop .loop .inv)
+          (search needs) (c .before .is-residue .ensures) (c .if3 .taken),
       one-content books (at-start .args .n) (at-start .args .residues .now) (at-start .args .plans .now) (at-start .pre),
     )
 
@@ -52,7 +51,10 @@ loop-less : tie.Need-loop-less Inv-loop μ-loop
 loop-less c = search needs
 
 loop-again : tie.Need-loop-again Inv-loop μ-loop
-loop-again c = recognising-next _ _ _ _ (c .before .before .before .loop .inv) (search needs) (c .before .is-residue .ensures) (c .if3 .left)
+loop-again c =
+    let at-loop = c .before .before .before in
+    let at-start = at-loop .before .before .before .before .before .before in
+    recognising-next _ _ _ _ (at-start .pre) (search needs) (search needs) (at-loop .loop .inv) (search needs) (c .before .is-residue .ensures) (c .if3 .left)
 
 wide-u32-requires : tie.Need-wide-u32-requires Inv-loop μ-loop
 wide-u32-requires c κs = search needs
@@ -69,9 +71,8 @@ returns-4 c =
     let at-loop = at-wide-u32 .before .before in
     let at-start = at-loop .before .before .before .before .before .before in
     let books = booksOf (at-start .args .book-count) (at-start .args .books .now) in (
-      recognised-iff books (at-start .args .n) (at-start .args .residues .now) (at-start .args .plans .now) (at-start .pre) (search needs)
-          (search needs)
-          (tail-failed _ _ _ _ (at-loop .loop .inv) (search needs) (at-wide-u32 .wide-u32 .ensures) (c .before .zeros-u32 .ensures) (c .if4 .taken)),
+      tail-failed books (at-start .args .n) (at-start .args .residues .now) (at-start .args .plans .now) (at-start .pre) (search needs) (search needs) (at-loop .loop .inv)
+          (search needs) (at-wide-u32 .wide-u32 .ensures) (c .before .zeros-u32 .ensures) (c .if4 .taken),
       one-content books (at-start .args .n) (at-start .args .residues .now) (at-start .args .plans .now) (at-start .pre),
     )
 
@@ -92,9 +93,9 @@ returns-5 c =
     let at-loop = at-wide-u32 .before .before in
     let at-start = at-loop .before .before .before .before .before .before in
     let books = booksOf (at-start .args .book-count) (at-start .args .books .now) in (
-      recognised-iff books (at-start .args .n) (at-start .args .residues .now) (at-start .args .plans .now) (at-start .pre) (search needs)
-          (search needs)
-          (tail-judged _ _ _ _ (at-loop .loop .inv) (search needs) (at-wide-u32 .wide-u32 .ensures) (at-zeros-u32 .zeros-u32 .ensures) (at-if4 .if4 .left) (c .before .wide-u322 .ensures) (c .zeros-u16 .ensures)),
+      tail-judged books (at-start .args .n) (at-start .args .residues .now) (at-start .args .plans .now) (at-start .pre) (search needs) (search needs) (at-loop .loop .inv)
+          (search needs) (at-wide-u32 .wide-u32 .ensures) (at-zeros-u32 .zeros-u32 .ensures) (at-if4 .if4 .left) (c .before .wide-u322 .ensures)
+          (c .zeros-u16 .ensures),
       one-content books (at-start .args .n) (at-start .args .residues .now) (at-start .args .plans .now) (at-start .pre),
     )
 

@@ -1,6 +1,5 @@
 -- `residue_tables::recognise::is_residue` meets its contract, by RecogniseLaws. Assumes nothing.
-use mathlib.Core.Path.{refl}
-use Rattle.residue_tables.proofs.RecogniseLaws.{head-fails, set-up-fails, fits-fails, residue-whole}
+use Rattle.residue_tables.proofs.RecogniseLaws.{head-fails, set-up-fails, fits-fails, residue-judged}
 use borrow.Author.Needs.{needs}
 use Rattle.residue_tables.proofs.recognise.is_residue.Statement.{statement}
 use Rattle.residue_tables.proofs.recognise.is_residue.Tie as tie
@@ -16,7 +15,7 @@ returns c =
     let at-head = c .before .before in
     let at-start = at-head .before .before .before .before in
     head-fails (at-start .args .book-count) (at-start .args .books .now) (at-start .args .residues .now) (at-start .args .plans .now)
-    (at-start .args .index) (at-head .head .result) (at-head .head .ensures) refl refl (c .before .is-head .ensures) (c .if1 .taken)
+    (at-start .args .index) (at-start .pre) (at-head .head .result) (at-head .head .ensures) (c .before .is-head .ensures) (c .if1 .taken)
 
 wide-u32-requires : tie.Need-wide-u32-requires
 wide-u32-requires c κs = search needs
@@ -40,32 +39,27 @@ returns-2 : tie.Need-returns-2
 returns-2 c =
     let at-wide-u322 = c .before .before in
     let at-wide-u32 = at-wide-u322 .before in
-    let at-if1 = at-wide-u32 .before in
-    let at-is-head = at-if1 .before in
+    let at-is-head = at-wide-u32 .before .before in
     let at-head = at-is-head .before in
     let at-start = at-head .before .before .before .before in
     set-up-fails (at-start .args .book-count) (at-start .args .books .now) (at-start .args .residues .now) (at-start .args .plans .now)
-    (at-start .args .index) (at-head .head .result) (at-head .head .ensures) (at-wide-u32 .wide-u32 .ensures)
-    (at-wide-u322 .wide-u322 .ensures) (at-is-head .is-head .ensures) (at-if1 .if1 .left) (c .before .places-set-up .ensures)
-    (c .if2 .taken)
+    (at-start .args .index) (at-start .pre) (at-head .head .result) (at-head .head .ensures) (at-is-head .is-head .ensures) (at-wide-u32 .wide-u32 .ensures)
+    (at-wide-u322 .wide-u322 .ensures) (c .before .places-set-up .ensures) (c .if2 .taken)
 
 places-fit-requires : tie.Need-places-fit-requires
 places-fit-requires c κs = search needs
 
 returns-3 : tie.Need-returns-3
 returns-3 c =
-    let at-if2 = c .before .before in
-    let at-places-set-up = at-if2 .before in
+    let at-places-set-up = c .before .before .before in
     let at-wide-u322 = at-places-set-up .before in
     let at-wide-u32 = at-wide-u322 .before in
-    let at-if1 = at-wide-u32 .before in
-    let at-is-head = at-if1 .before in
+    let at-is-head = at-wide-u32 .before .before in
     let at-head = at-is-head .before in
     let at-start = at-head .before .before .before .before in
     fits-fails (at-start .args .book-count) (at-start .args .books .now) (at-start .args .residues .now) (at-start .args .plans .now)
-    (at-start .args .index) (at-head .head .result) (at-head .head .ensures) (at-wide-u32 .wide-u32 .ensures)
-    (at-wide-u322 .wide-u322 .ensures) (at-is-head .is-head .ensures) (at-if1 .if1 .left) (at-places-set-up .places-set-up .ensures)
-    (at-if2 .if2 .left) (c .before .places-fit .ensures) (c .if3 .taken)
+    (at-start .args .index) (at-start .pre) (at-head .head .result) (at-head .head .ensures) (at-is-head .is-head .ensures) (at-wide-u32 .wide-u32 .ensures)
+    (at-wide-u322 .wide-u322 .ensures) (at-places-set-up .places-set-up .ensures) (c .before .places-fit .ensures) (c .if3 .taken)
 
 add-zeros-u16 : tie.Need-add-zeros-u16
 add-zeros-u16 c = search needs
@@ -97,10 +91,10 @@ returns-4 c =
     let at-is-head = at-if1 .before in
     let at-head = at-is-head .before in
     let at-start = at-head .before .before .before .before in
-    residue-whole (at-start .args .book-count) (at-start .args .books .now) (at-start .args .residues .now) (at-start .args .plans .now)
-    (at-start .args .index) (at-head .head .result) (at-head .head .ensures) (at-wide-u32 .wide-u32 .ensures)
-    (at-wide-u322 .wide-u322 .ensures) (at-is-head .is-head .ensures) (at-if1 .if1 .left) (at-places-set-up .places-set-up .ensures)
-    (at-if2 .if2 .left) (at-places-fit .places-fit .ensures) (at-if3 .if3 .left) _ (c .zeros-u16 .ensures)
+    residue-judged (at-start .args .book-count) (at-start .args .books .now) (at-start .args .residues .now) (at-start .args .plans .now)
+    (at-start .args .index) (at-start .pre) (at-head .head .result) (at-head .head .ensures) (at-is-head .is-head .ensures) (at-wide-u32 .wide-u32 .ensures)
+    (at-wide-u322 .wide-u322 .ensures) (at-places-set-up .places-set-up .ensures) (at-places-fit .places-fit .ensures)
+    (at-if1 .if1 .left) (at-if2 .if2 .left) (at-if3 .if3 .left) (c .zeros-u16 .ensures)
 
 pub is-residue-spec : {M : Type 1} → statement M
 is-residue-spec =
