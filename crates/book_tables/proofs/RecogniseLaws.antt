@@ -16,6 +16,7 @@ use Rattle.book_reading.specs.inner.BookBuffers.{BookBuffers}
 use Rattle.book_tables.specs.declared.row.Row.{Row}
 use Rattle.book_tables.specs.inner.Rules.{rowOf, BookRules, Begun}
 use Rattle.book_tables.specs.inner.Recognised.{Countable, BooksLeft, Clear, BooksRecognised}
+use Rattle.book_tables.proofs.Written.{entries-within, values-within}
 use Rattle.book_tables.proofs.BooksLeftLaws.{Room, left-none, left-first, left-cons, one-content}
 
 -- what is left of the tables behind i books of so many entries and values
@@ -71,10 +72,10 @@ module _ (limits : Limits) (count : ℕ) (books lengths codewords multiplicands 
         progress-stop n = iff-false (λ s. refuted judged n (left-first limits (count - (i + 1)) entries values _ _ _ _ room (one-left .0 s) .0))
 
         pub entries-inside : not b ≡ false → entries + row .entries ≤ limits .entries
-        entries-inside n = shown p n .head .entries-all
+        entries-inside n = entries-within limits entries values row _ _ _ (shown p n)
 
         pub values-inside : not b ≡ false → values + row .count ≤ limits .multiplicands
-        values-inside n = shown p n .place .values-all
+        values-inside n = values-within limits entries values row _ _ _ (shown p n)
 
         after : BooksLeft limits (count - (i + 1)) (entries + row .entries) (values + row .count) (drop bookWidth (drop (bookWidth * i) books)) (drop (row .entries) (drop entries lengths)) (drop (row .entries) (drop entries codewords)) (drop (row .count) (drop values multiplicands))
             ≡ Left limits (count - (i + 1)) (entries + row .entries) (values + row .count) books lengths codewords multiplicands (i + 1)
@@ -122,10 +123,10 @@ module _ (limits : Limits) (count : ℕ) (books lengths codewords multiplicands 
 module _ (limits : Limits) (count entries values : ℕ) (row : Row) (ls ws ms : List ℕ) (countable : Countable limits count) {b : Bool}
     (p : (b ≡ true) ↔ BookRules limits entries values row ls ws ms) (n : not b ≡ false) where
   pub entries-fit : entries + row .entries < 4294967296
-  entries-fit = let h = shown p n .head .entries-all in let a = countable .few-entries in omega arith
+  entries-fit = let h = entries-within limits entries values row ls ws ms (shown p n) in let a = countable .few-entries in omega arith
 
   pub values-fit : values + row .count < 4294967296
-  values-fit = let h = shown p n .place .values-all in let a = countable .few-values in omega arith
+  values-fit = let h = values-within limits entries values row ls ws ms (shown p n) in let a = countable .few-values in omega arith
 
 -- the whole test
 module _ (limits : Limits) (count : ℕ) (books lengths codewords multiplicands : List ℕ) where

@@ -1,5 +1,5 @@
 -- `book_tables::judge::is_book` meets its contract. Assumes nothing.
-use Rattle.book_tables.proofs.TestLaws.{lengths-inside, codewords-inside, values-inside, width-small, book-laws}
+use Rattle.book_tables.proofs.Written.{lengths-inside, codewords-inside, values-inside, width-small, book-laws}
 use borrow.Author.Needs.{needs}
 use Rattle.book_tables.proofs.judge.is_book.Statement.{statement}
 use Rattle.book_tables.proofs.judge.is_book.Tie as tie
