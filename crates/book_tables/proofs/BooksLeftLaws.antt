@@ -96,15 +96,15 @@ left-none limits entries values rs ls ws ms = (
     go [] n e f g h = record { rows = e ∙ pad-nil (length rs); lengths = f ∙ pad-nil (length ls); codewords = g ∙ pad-nil (length ws); multiplicands = h ∙ pad-nil (length ms) }
     go (b ∷ bs) n e f g h = absurd (omega arith)
 
-module _ (limits : Limits) (n entries values : ℕ) (rs ls ws ms : List ℕ) (room : Room limits (suc n) entries values rs ls ws ms) where
+module _ (limits : Limits) (n entries values : ℕ) (rs ls ws ms : List ℕ) (room : Room limits (suc n) entries values rs ls ws ms) (row : Row) (begins : row ≡ rowOf rs) where
   -- one book more: it meets the rules, and the others are held behind it
-  pub left-first : BooksLeft limits (suc n) entries values rs ls ws ms → BookRules limits entries values (rowOf rs) ls ws ms × After limits n entries values (rowOf rs) rs ls ws ms
+  pub left-first : BooksLeft limits (suc n) entries values rs ls ws ms → BookRules limits entries values row ls ws ms × After limits n entries values row rs ls ws ms
   unfolding bookRows bookRow rows ValidBooks
   left-first books = go (books .content) (books .counted) (books .valid) (books .book-rows) (books .all-lengths) (books .all-codewords) (books .all-multiplicands)
     where
       go : (bs : List Book) → length bs ≡ suc n → ValidBooks limits (totals entries values) bs → rs ≡ pad (length rs) (bookRows (totals entries values) bs)
           → ls ≡ pad (length ls) (allLengths bs) → ws ≡ pad (length ws) (allCodewords bs) → ms ≡ pad (length ms) (allMultiplicands bs)
-          → BookRules limits entries values (rowOf rs) ls ws ms × After limits n entries values (rowOf rs) rs ls ws ms
+          → BookRules limits entries values row ls ws ms × After limits n entries values row rs ls ws ms
       go [] k v e f g h = absurd (omega arith)
       go (b ∷ bs) k v e f g h =
           let within = v .0 .entries-all in
@@ -115,12 +115,12 @@ module _ (limits : Limits) (n entries values : ℕ) (rs ls ws ms : List ℕ) (ro
           let r₄ = room .values-room in
           let l₁ = row-length entries values b in
           let l₃ = codewords-length (b .lengths) in
-          let row : rowOf rs ≡ rowOf (bookRow entries values b) = ap rowOf (front rs (bookRow entries values b) _ (omega arith) e) in
+          let first : row ≡ rowOf (bookRow entries values b) = begins ∙ ap rowOf (front rs (bookRow entries values b) _ (omega arith) e) in
           let l = taken (length (b .lengths)) ls (b .lengths) _ refl (omega arith) f in
           let w = taken (length (b .lengths)) ws (ledgerCodewords (b .lengths)) _ l₃ (omega arith) g in
           let m = taken (length (b .multiplicands)) ms (b .multiplicands) _ refl (omega arith) h in
           let same : b ≡ bookIn (rowOf (bookRow entries values b)) ls ms = λ j. bookOf (rowOf (bookRow entries values b)) (sym l j) (sym m j) in
-          subst (λ (row : Row). BookRules limits entries values row ls ws ms × After limits n entries values row rs ls ws ms) (sym row) (
+          subst (λ (x : Row). BookRules limits entries values x ls ws ms × After limits n entries values x rs ls ws ms) (sym first) (
             record {
               valid = subst (ValidBook limits (totals entries values)) same (v .0);
               written = ap (λ (x : Book). rowOf (bookRow entries values x)) same;
@@ -137,30 +137,30 @@ module _ (limits : Limits) (n entries values : ℕ) (rs ls ws ms : List ℕ) (ro
             },
           )
 
-  pub left-cons : BookRules limits entries values (rowOf rs) ls ws ms → After limits n entries values (rowOf rs) rs ls ws ms → BooksLeft limits (suc n) entries values rs ls ws ms
+  pub left-cons : BookRules limits entries values row ls ws ms → After limits n entries values row rs ls ws ms → BooksLeft limits (suc n) entries values rs ls ws ms
   unfolding bookRows rows ValidBooks
   left-cons r others =
-      let b = bookIn (rowOf rs) ls ms in
+      let b = bookIn row ls ms in
       let r₁ = room .rows-room in
       let r₂ = room .lengths-room in
       let r₃ = room .codewords-room in
       let r₄ = room .values-room in
-      let within = entries-within limits entries values (rowOf rs) ls ws ms r in
-      let within-too = values-within limits entries values (rowOf rs) ls ws ms r in
-      let l₁ : length (take (getD rs 1 0) ls) ≡ getD rs 1 0 = sym (entries-counted limits entries values (rowOf rs) ls ws ms r) in
-      let l₂ : length (take (getD rs 8 0) ms) ≡ getD rs 8 0 = sym (values-counted limits entries values (rowOf rs) ls ws ms r) in
-      let l₃ : length (ledgerCodewords (take (getD rs 1 0) ls)) ≡ getD rs 1 0 = codewords-length (take (getD rs 1 0) ls) ∙ l₁ in
-      let rest : bookRows (totals (entries + getD rs 1 0) (values + getD rs 8 0)) (others .content) ≡ bookRows (andThis (totals entries values) b) (others .content) = rw (l₁, l₂) in
+      let within = entries-within limits entries values row ls ws ms r in
+      let within-too = values-within limits entries values row ls ws ms r in
+      let l₁ : length (b .lengths) ≡ row .entries = sym (entries-counted limits entries values row ls ws ms r) in
+      let l₂ : length (b .multiplicands) ≡ row .count = sym (values-counted limits entries values row ls ws ms r) in
+      let l₃ : length (ledgerCodewords (b .lengths)) ≡ row .entries = codewords-length (b .lengths) ∙ l₁ in
+      let rest : bookRows (totals (entries + row .entries) (values + row .count)) (others .content) ≡ bookRows (andThis (totals entries values) b) (others .content) = rw (l₁, l₂) in
       record {
         content = b ∷ others .content;
         counted = ap suc (others .counted);
         valid = (r .valid, rw (l₁, l₂) (others .valid));
         book-rows =
-            join bookWidth rs (bookRow entries values b) _ (row-length entries values b) (omega arith) (row-front entries values b rs (omega arith) (r .written))
+            join bookWidth rs (bookRow entries values b) _ (row-length entries values b) (omega arith) (row-front entries values b rs (omega arith) (sym begins ∙ r .written))
             (others .book-rows ∙ ap (pad (length (drop bookWidth rs))) rest);
-        all-lengths = join (getD rs 1 0) ls (b .lengths) (allLengths (others .content)) l₁ (omega arith) refl (others .all-lengths);
-        all-codewords = join (getD rs 1 0) ws (ledgerCodewords (b .lengths)) (allCodewords (others .content)) l₃ (omega arith) (r .assigned) (others .all-codewords);
-        all-multiplicands = join (getD rs 8 0) ms (b .multiplicands) (allMultiplicands (others .content)) l₂ (omega arith) refl (others .all-multiplicands);
+        all-lengths = join (row .entries) ls (b .lengths) (allLengths (others .content)) l₁ (omega arith) refl (others .all-lengths);
+        all-codewords = join (row .entries) ws (ledgerCodewords (b .lengths)) (allCodewords (others .content)) l₃ (omega arith) (r .assigned) (others .all-codewords);
+        all-multiplicands = join (row .count) ms (b .multiplicands) (allMultiplicands (others .content)) l₂ (omega arith) refl (others .all-multiplicands);
       }
 
 -- ONE CONTENT for one writing-out
