@@ -2,11 +2,10 @@
 use Prim.Native.Nat.{ℕ, suc, _+_, _-_, _*_, _≤_, _<_}
 use native.Mathlib.Nat.{sub-zero}
 use native.Mathlib.Omega.{arith}
-use borrow.Author.Needs.{needs}
 use mathlib.Core.Bool.{Bool, true, false, not}
 use mathlib.Core.List.{List}
 use mathlib.Core.Logic.{_↔_}
-use mathlib.Core.Path.{_≡_, sym, subst}
+use mathlib.Core.Path.{_≡_, subst}
 use lib.ListN.{length, drop, length-drop}
 use lib.Seq.{drop-drop}
 use Rattle.reading.proofs.Encodes.{iff-false, refuted, shown}
@@ -17,7 +16,7 @@ use Rattle.book_tables.specs.declared.row.Row.{Row}
 use Rattle.book_tables.specs.inner.Rules.{rowOf, BookRules, Begun}
 use Rattle.book_tables.specs.inner.Recognised.{Countable, BooksLeft, Clear, BooksRecognised}
 use Rattle.book_tables.proofs.Written.{entries-within, values-within}
-use Rattle.book_tables.proofs.BooksLeftLaws.{Room, left-none, left-first, left-cons, one-content}
+use Rattle.book_tables.proofs.BooksLeftLaws.{Room, left-none, left-first, left-cons}
 
 -- what is left of the tables behind i books of so many entries and values
 abbrev Left : Limits → ℕ → ℕ → ℕ → List ℕ → List ℕ → List ℕ → List ℕ → ℕ → Type 0

@@ -7,7 +7,7 @@ use mathlib.Core.List.{List}
 use mathlib.Core.Logic.{_↔_, ⊎-elim}
 use mathlib.Core.Path.{_≡_, refl, sym, ap, _∙_}
 use lib.Dec.{ltb}
-use lib.ListN.{length, take, drop, replicate, length-drop}
+use lib.ListN.{length, take, drop, length-drop}
 use lib.Seq.{length-take-le}
 use Rattle.reading.specs.Lists.{all}
 use Rattle.reading.proofs.Basics.{length-zero}
@@ -15,7 +15,6 @@ use Rattle.reading.proofs.Encodes.{shown}
 use Rattle.reading.proofs.Least.{lt-or-le}
 use Rattle.limits.specs.declared.Limits.{Limits}
 use Rattle.codeword_assignment.specs.Book.{Coded, loneMark}
-use Rattle.book.specs.Content.{Book}
 use Rattle.book.specs.Layout.{bookRow}
 use Rattle.book_lookup.specs.Reading.{valueCount}
 use Rattle.book_reading.specs.Carried.{NoLookup, SomeLookup}
