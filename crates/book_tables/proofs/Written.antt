@@ -11,7 +11,7 @@ use lib.ListN.{length, take, drop, length-drop}
 use lib.Seq.{length-take-le}
 use Rattle.reading.specs.Lists.{all}
 use Rattle.reading.proofs.Basics.{length-zero}
-use Rattle.reading.proofs.Encodes.{shown}
+use Rattle.reading.proofs.Encodes.{iff-false, refuted, shown}
 use Rattle.reading.proofs.Least.{lt-or-le}
 use Rattle.limits.specs.declared.Limits.{Limits}
 use Rattle.codeword_assignment.specs.Book.{Coded, loneMark}
@@ -106,6 +106,10 @@ module _ (limits : Limits) (entries values : ℕ) (row : Row) (ls ws ms : List �
       (λ (h : 0 < row .lookup). r .valid .carried .some-lookup (λ e. omega arith) .fit)
       (λ (h : row .lookup ≤ 0). rw (r .valid .carried .no-lookup (omega arith) .multiplicands))
       (lt-or-le 0 (row .lookup))
+
+-- the test of a part failed, and so the whole does not hold
+pub part-refused : {P Q : Type 0} {b : Bool} → not b ≡ true → (b ≡ true) ↔ P → (Q → P) → (false ≡ true) ↔ Q
+part-refused n p f = iff-false (λ q. refuted p n (f q))
 
 -- the width is one that a shift takes
 pub width-small : (row : Row) {b : Bool} → (b ≡ true) ↔ LookupRules row → not b ≡ false → row .width < 32

@@ -1,6 +1,5 @@
 -- `book_tables::judge::is_book` meets its contract. Assumes nothing.
-use Rattle.reading.proofs.Encodes.{iff-false, refuted}
-use Rattle.book_tables.proofs.Written.{has-head, has-place, has-lookup, has-codewords, has-mark, lengths-inside, codewords-inside, values-inside, width-small, book-end}
+use Rattle.book_tables.proofs.Written.{has-head, has-place, has-lookup, has-codewords, has-mark, lengths-inside, codewords-inside, values-inside, width-small, part-refused, book-end}
 use borrow.Author.Needs.{needs}
 use Rattle.book_tables.proofs.judge.is_book.Statement.{statement}
 use Rattle.book_tables.proofs.judge.is_book.Tie as tie
@@ -9,31 +8,31 @@ is-head-requires : tie.Need-is-head-requires
 is-head-requires c κs = search needs
 
 returns : tie.Need-returns
-returns c = iff-false (λ r. refuted (c .before .is-head .ensures) (c .if1 .taken) (has-head _ _ _ _ _ _ _ r))
+returns c = search (needs, part-refused, has-head)
 
 is-placed-requires : tie.Need-is-placed-requires
 is-placed-requires c κs = search needs
 
 returns-2 : tie.Need-returns-2
-returns-2 c = iff-false (λ r. refuted (c .before .is-placed .ensures) (c .if2 .taken) (has-place _ _ _ _ _ _ _ r))
+returns-2 c = search (needs, part-refused, has-place)
 
 is-lookup-requires : tie.Need-is-lookup-requires
 is-lookup-requires c κs = search needs
 
 returns-3 : tie.Need-returns-3
-returns-3 c = iff-false (λ r. refuted (c .before .is-lookup .ensures) (c .if3 .taken) (has-lookup _ _ _ _ _ _ _ r))
+returns-3 c = search (needs, part-refused, has-lookup)
 
 is-coded-requires : tie.Need-is-coded-requires
 is-coded-requires c κs = search (needs, lengths-inside, codewords-inside)
 
 returns-4 : tie.Need-returns-4
-returns-4 c = iff-false (λ r. refuted (c .before .is-coded .ensures) (c .if4 .taken) (has-codewords _ _ _ _ _ _ _ r))
+returns-4 c = search (needs, part-refused, has-codewords)
 
 is-marked-requires : tie.Need-is-marked-requires
 is-marked-requires c κs = search (needs, lengths-inside)
 
 returns-5 : tie.Need-returns-5
-returns-5 c = iff-false (λ r. refuted (c .before .is-marked .ensures) (c .if5 .taken) (has-mark _ _ _ _ _ _ _ r))
+returns-5 c = search (needs, part-refused, has-mark)
 
 is-fit-requires : tie.Need-is-fit-requires
 is-fit-requires c κs = search (needs, values-inside, width-small)
