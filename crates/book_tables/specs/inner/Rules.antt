@@ -1,5 +1,5 @@
 -- One codebook as it is tested along the tables: the content that a row and the lists from its own lengths, codewords and multiplicands on hold. The rules
--- are the content's own (`book_reading`, Carried, Rules and inner/Valid); what is said here beside them is how the content is written out.
+-- are the content's own (Carried, Rules and Valid of a book); what is said here beside them is how the content is written out.
 use Prim.Native.Nat.{ℕ, _≤_}
 use mathlib.Core.Bool.{true}
 use mathlib.Core.List.{List, []}
@@ -57,8 +57,8 @@ rowBook row = bookOf row (replicate (row .entries) 0) (replicate (row .count) 0)
 
 -- the same of the dimensions and the entries, with no lookup
 abbrev pub headBook : Row → Book
-headBook row =
-    record { dimensions = row .dimensions; lengths = replicate (row .entries) 0; lookup = 0; minimum = 0; delta = 0; width = 0; sequence = 0; multiplicands = [] }
+headBook r =
+    record { dimensions = r .dimensions; lengths = replicate (r .entries) 0; lookup = 0; minimum = 0; delta = 0; width = 0; sequence = 0; multiplicands = [] }
 
 -- the fields before the lengths (002; 01, refusals 6 and 14); entries is how many the books before have
 pub record HeadRules (limits : Limits) (entries : ℕ) (row : Row) : Type 0 where
