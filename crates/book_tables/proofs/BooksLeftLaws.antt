@@ -1,14 +1,15 @@
 -- ALL BOOKS: tables that hold one book more are that book, written, and tables that hold the others; so the test of what is left decides the whole.
 -- And the tables decide the books. Assumes nothing.
-use Prim.Native.Nat.{ℕ, suc, _+_, _-_, _*_, _≤_}
+use Prim.Native.Nat.{ℕ, zero, suc, _+_, _-_, _*_, _≤_}
 use native.Mathlib.Omega.{arith}
 use mathlib.Core.List.{List, [], _∷_, _++_}
 use mathlib.Core.Logic.{_↔_}
 use mathlib.Core.Path.{_≡_, refl, sym, ap, subst, _∙_}
 use lib.ListN.{length, getD, take, drop, length-drop, take-append-drop}
-use lib.Seq.{drop-at}
+use lib.Seq.{take-suc, take-at, drop-at}
 use Rattle.reading.specs.Pad.{pad}
 use Rattle.reading.specs.Lists.{rows}
+use Rattle.reading.specs.Tabulate.{tabulate}
 use Rattle.reading.proofs.Pads.{pad-nil}
 use Rattle.reading.proofs.Encodes.{pad-append}
 use Rattle.limits.specs.declared.Limits.{Limits}
@@ -19,18 +20,21 @@ use Rattle.book.specs.Layout.{bookWidth, bookRow}
 use Rattle.book.specs.HeadReading.{totals}
 use Rattle.book.specs.Reading.{andThis}
 use Rattle.book.specs.Rows.{bookRows, allLengths, allCodewords, allMultiplicands, decodeBooks}
-use Rattle.book.specs.inner.Valid.{ValidBooks}
+use Rattle.book.specs.inner.Valid.{ValidBook, ValidBooks}
 use Rattle.book.proofs.BooksStored.{row-length, within-entries, within-values, decode-books}
 use Rattle.book_tables.specs.declared.row.Row.{Row}
-use Rattle.book_tables.specs.inner.Rules.{rowOf, BookRules}
+use Rattle.book_tables.specs.inner.Rules.{rowOf, bookOf, bookIn, BookRules}
 use Rattle.book_tables.specs.inner.Recognised.{Countable, BooksLeft, Clear, OneContent}
-use Rattle.book_tables.proofs.Written.{bookOf, rowFor, lengths-long, values-long, rules-valid, rules-at, row-written, written-row}
+use Rattle.book_tables.proofs.Written.{entries-counted, values-counted, entries-within, values-within}
 
 -- a buffer that is filled from the front: its first part, and what is left
 front : (t xs ys : List ℕ) → length xs ≤ length t → t ≡ pad (length t) (xs ++ ys) → t ≡ xs ++ pad (length t - length xs) ys
 front t xs ys h e =
     let n : length t ≡ length xs + (length t - length xs) = omega arith in
     e ∙ ap (λ (m : ℕ). pad m (xs ++ ys)) n ∙ pad-append xs ys (length t - length xs)
+
+taken : (k : ℕ) (t xs ys : List ℕ) → length xs ≡ k → k ≤ length t → t ≡ pad (length t) (xs ++ ys) → take k t ≡ xs
+taken k t xs ys l h e = ap (take k) (front t xs ys (omega arith) e) ∙ take-at xs (pad (length t - length xs) ys) k l
 
 left : (k : ℕ) (t xs ys : List ℕ) → length xs ≡ k → k ≤ length t → t ≡ pad (length t) (xs ++ ys) → drop k t ≡ pad (length (drop k t)) ys
 left k t xs ys l h e =
@@ -43,6 +47,20 @@ join k t xs ys l h e f =
     let d = length-drop k t in
     let m : length xs + length (drop k t) ≡ length t = omega arith in
     sym (take-append-drop k t) ∙ (λ j. e j ++ f j) ∙ sym (pad-append xs ys (length (drop k t))) ∙ ap (λ (x : ℕ). pad x (xs ++ ys)) m
+
+-- the front of a list is its numbers one after the other; so where a row is that of a book, the book's numbers stand there
+front-numbers : (n : ℕ) (t : List ℕ) → n ≤ length t → take n t ≡ tabulate (λ i. getD t i 0) n
+unfolding tabulate
+front-numbers zero t h = refl
+front-numbers (suc n) t h = take-suc t n 0 (omega arith) ∙ ap (λ (l : List ℕ). l ++ (getD t n 0 ∷ [])) (front-numbers n t (omega arith))
+
+abbrev numbers : Row → List ℕ
+numbers r =
+    r .dimensions ∷ r .entries ∷ r .«first_entry» ∷ r .lookup ∷ r .minimum ∷ r .delta ∷ r .width ∷ r .sequence ∷ r .count ∷ r .«first_value» ∷ r .lone ∷ []
+
+row-front : (entries values : ℕ) (b : Book) (t : List ℕ) → bookWidth ≤ length t → rowOf t ≡ rowOf (bookRow entries values b) → take bookWidth t ≡ bookRow entries values b
+unfolding tabulate bookRow
+row-front entries values b t h e = front-numbers bookWidth t h ∙ ap numbers e
 
 -- what is left of the tables has room for the books that are left, and for what the limits allow
 pub record Room (limits : Limits) (n entries values : ℕ) (rs ls ws ms : List ℕ) : Type 0 where
@@ -78,15 +96,15 @@ left-none limits entries values rs ls ws ms = (
     go [] n e f g h = record { rows = e ∙ pad-nil (length rs); lengths = f ∙ pad-nil (length ls); codewords = g ∙ pad-nil (length ws); multiplicands = h ∙ pad-nil (length ms) }
     go (b ∷ bs) n e f g h = absurd (omega arith)
 
-module _ (limits : Limits) (n entries values : ℕ) (rs ls ws ms : List ℕ) (room : Room limits (suc n) entries values rs ls ws ms) where
+module _ (limits : Limits) (n entries values : ℕ) (rs ls ws ms : List ℕ) (room : Room limits (suc n) entries values rs ls ws ms) (row : Row) (begins : row ≡ rowOf rs) where
   -- one book more: it meets the rules, and the others are held behind it
-  pub left-first : BooksLeft limits (suc n) entries values rs ls ws ms → BookRules limits entries values (rowOf rs) ls ws ms × After limits n entries values (rowOf rs) rs ls ws ms
-  unfolding bookRows rows ValidBooks
+  pub left-first : BooksLeft limits (suc n) entries values rs ls ws ms → BookRules limits entries values row ls ws ms × After limits n entries values row rs ls ws ms
+  unfolding bookRows bookRow rows ValidBooks
   left-first books = go (books .content) (books .counted) (books .valid) (books .book-rows) (books .all-lengths) (books .all-codewords) (books .all-multiplicands)
     where
       go : (bs : List Book) → length bs ≡ suc n → ValidBooks limits (totals entries values) bs → rs ≡ pad (length rs) (bookRows (totals entries values) bs)
           → ls ≡ pad (length ls) (allLengths bs) → ws ≡ pad (length ws) (allCodewords bs) → ms ≡ pad (length ms) (allMultiplicands bs)
-          → BookRules limits entries values (rowOf rs) ls ws ms × After limits n entries values (rowOf rs) rs ls ws ms
+          → BookRules limits entries values row ls ws ms × After limits n entries values row rs ls ws ms
       go [] k v e f g h = absurd (omega arith)
       go (b ∷ bs) k v e f g h =
           let within = v .0 .entries-all in
@@ -97,13 +115,17 @@ module _ (limits : Limits) (n entries values : ℕ) (rs ls ws ms : List ℕ) (ro
           let r₄ = room .values-room in
           let l₁ = row-length entries values b in
           let l₃ = codewords-length (b .lengths) in
-          let row : rowOf rs ≡ rowFor entries values b =
-          ap rowOf (front rs (bookRow entries values b) _ (omega arith) e) ∙ row-written entries values b (pad (length rs - length (bookRow entries values b)) _) in
-          subst (λ (row : Row). BookRules limits entries values row ls ws ms × After limits n entries values row rs ls ws ms) (sym row) (
-            rules-at limits entries values b (v .0) ls ws ms _ _ _
-                (front ls (b .lengths) _ (omega arith) f)
-                (front ws (ledgerCodewords (b .lengths)) _ (omega arith) g)
-                (front ms (b .multiplicands) _ (omega arith) h),
+          let first : row ≡ rowOf (bookRow entries values b) = begins ∙ ap rowOf (front rs (bookRow entries values b) _ (omega arith) e) in
+          let l = taken (length (b .lengths)) ls (b .lengths) _ refl (omega arith) f in
+          let w = taken (length (b .lengths)) ws (ledgerCodewords (b .lengths)) _ l₃ (omega arith) g in
+          let m = taken (length (b .multiplicands)) ms (b .multiplicands) _ refl (omega arith) h in
+          let same : b ≡ bookIn (rowOf (bookRow entries values b)) ls ms = λ j. bookOf (rowOf (bookRow entries values b)) (sym l j) (sym m j) in
+          subst (λ (x : Row). BookRules limits entries values x ls ws ms × After limits n entries values x rs ls ws ms) (sym first) (
+            record {
+              valid = subst (ValidBook limits (totals entries values)) same (v .0);
+              written = ap (λ (x : Book). rowOf (bookRow entries values x)) same;
+              assigned = w ∙ ap ledgerCodewords (sym l);
+            },
             record {
               content = bs;
               counted = omega arith;
@@ -115,30 +137,30 @@ module _ (limits : Limits) (n entries values : ℕ) (rs ls ws ms : List ℕ) (ro
             },
           )
 
-  pub left-cons : BookRules limits entries values (rowOf rs) ls ws ms → After limits n entries values (rowOf rs) rs ls ws ms → BooksLeft limits (suc n) entries values rs ls ws ms
+  pub left-cons : BookRules limits entries values row ls ws ms → After limits n entries values row rs ls ws ms → BooksLeft limits (suc n) entries values rs ls ws ms
   unfolding bookRows rows ValidBooks
   left-cons r others =
-      let b : Book = bookOf (rowOf rs) ls ms in
+      let b = bookIn row ls ms in
       let r₁ = room .rows-room in
       let r₂ = room .lengths-room in
       let r₃ = room .codewords-room in
       let r₄ = room .values-room in
-      let within = r .head .entries-all in
-      let values-within = r .place .values-all in
-      let l₁ : length (take (getD rs 1 0) ls) ≡ getD rs 1 0 = lengths-long limits entries values (rowOf rs) ls ws ms r₂ r₄ r in
-      let l₂ : length (take (getD rs 8 0) ms) ≡ getD rs 8 0 = values-long limits entries values (rowOf rs) ls ws ms r₂ r₄ r in
-      let l₃ : length (ledgerCodewords (take (getD rs 1 0) ls)) ≡ getD rs 1 0 = codewords-length (take (getD rs 1 0) ls) ∙ l₁ in
-      let rest : bookRows (totals (entries + getD rs 1 0) (values + getD rs 8 0)) (others .content) ≡ bookRows (andThis (totals entries values) b) (others .content) = rw (l₁, l₂) in
+      let within = entries-within limits entries values row ls ws ms r in
+      let within-too = values-within limits entries values row ls ws ms r in
+      let l₁ : length (b .lengths) ≡ row .entries = sym (entries-counted limits entries values row ls ws ms r) in
+      let l₂ : length (b .multiplicands) ≡ row .count = sym (values-counted limits entries values row ls ws ms r) in
+      let l₃ : length (ledgerCodewords (b .lengths)) ≡ row .entries = codewords-length (b .lengths) ∙ l₁ in
+      let rest : bookRows (totals (entries + row .entries) (values + row .count)) (others .content) ≡ bookRows (andThis (totals entries values) b) (others .content) = rw (l₁, l₂) in
       record {
         content = b ∷ others .content;
         counted = ap suc (others .counted);
-        valid = (rules-valid limits entries values (rowOf rs) ls ws ms r₂ r₄ r, rw (l₁, l₂) (others .valid));
+        valid = (r .valid, rw (l₁, l₂) (others .valid));
         book-rows =
-            join bookWidth rs (bookRow entries values b) _ (row-length entries values b) (omega arith) (written-row limits entries values rs ls ws ms (omega arith) r₂ r₄ r)
+            join bookWidth rs (bookRow entries values b) _ (row-length entries values b) (omega arith) (row-front entries values b rs (omega arith) (sym begins ∙ r .written))
             (others .book-rows ∙ ap (pad (length (drop bookWidth rs))) rest);
-        all-lengths = join (getD rs 1 0) ls (b .lengths) (allLengths (others .content)) l₁ (omega arith) refl (others .all-lengths);
-        all-codewords = join (getD rs 1 0) ws (ledgerCodewords (b .lengths)) (allCodewords (others .content)) l₃ (omega arith) (r .coded .assigned) (others .all-codewords);
-        all-multiplicands = join (getD rs 8 0) ms (b .multiplicands) (allMultiplicands (others .content)) l₂ (omega arith) refl (others .all-multiplicands);
+        all-lengths = join (row .entries) ls (b .lengths) (allLengths (others .content)) l₁ (omega arith) refl (others .all-lengths);
+        all-codewords = join (row .entries) ws (ledgerCodewords (b .lengths)) (allCodewords (others .content)) l₃ (omega arith) (r .assigned) (others .all-codewords);
+        all-multiplicands = join (row .count) ms (b .multiplicands) (allMultiplicands (others .content)) l₂ (omega arith) refl (others .all-multiplicands);
       }
 
 -- ONE CONTENT for one writing-out

@@ -1,5 +1,5 @@
 pub mod Small
+pub mod TestLaws
 pub mod Written
 pub mod BooksLeftLaws
-pub mod TestLaws
 pub mod RecogniseLaws

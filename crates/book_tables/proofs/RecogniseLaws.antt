@@ -2,11 +2,10 @@
 use Prim.Native.Nat.{ℕ, suc, _+_, _-_, _*_, _≤_, _<_}
 use native.Mathlib.Nat.{sub-zero}
 use native.Mathlib.Omega.{arith}
-use borrow.Author.Needs.{needs}
 use mathlib.Core.Bool.{Bool, true, false, not}
 use mathlib.Core.List.{List}
 use mathlib.Core.Logic.{_↔_}
-use mathlib.Core.Path.{_≡_, sym, subst}
+use mathlib.Core.Path.{_≡_, subst}
 use lib.ListN.{length, drop, length-drop}
 use lib.Seq.{drop-drop}
 use Rattle.reading.proofs.Encodes.{iff-false, refuted, shown}
@@ -16,7 +15,8 @@ use Rattle.book.specs.inner.BookBuffers.{BookBuffers}
 use Rattle.book_tables.specs.declared.row.Row.{Row}
 use Rattle.book_tables.specs.inner.Rules.{rowOf, BookRules, Begun}
 use Rattle.book_tables.specs.inner.Recognised.{Countable, BooksLeft, Clear, BooksRecognised}
-use Rattle.book_tables.proofs.BooksLeftLaws.{Room, left-none, left-first, left-cons, one-content}
+use Rattle.book_tables.proofs.Written.{entries-within, values-within}
+use Rattle.book_tables.proofs.BooksLeftLaws.{Room, left-none, left-first, left-cons}
 
 -- what is left of the tables behind i books of so many entries and values
 abbrev Left : Limits → ℕ → ℕ → ℕ → List ℕ → List ℕ → List ℕ → List ℕ → ℕ → Type 0
@@ -64,17 +64,8 @@ module _ (limits : Limits) (count : ℕ) (books lengths codewords multiplicands 
 
       module _ {row : Row} (e : row ≡ rowOf (drop (bookWidth * i) books)) {b : Bool}
           (p : (b ≡ true) ↔ BookRules limits entries values row (drop entries lengths) (drop entries codewords) (drop values multiplicands)) where
-        judged : (b ≡ true) ↔ BookRules limits entries values (rowOf (drop (bookWidth * i) books)) (drop entries lengths) (drop entries codewords) (drop values multiplicands)
-        judged = subst (λ (x : Row). (b ≡ true) ↔ BookRules limits entries values x (drop entries lengths) (drop entries codewords) (drop values multiplicands)) e p
-
         pub progress-stop : not b ≡ true → (false ≡ true) ↔ BooksLeft limits count 0 0 books lengths codewords multiplicands
-        progress-stop n = iff-false (λ s. refuted judged n (left-first limits (count - (i + 1)) entries values _ _ _ _ room (one-left .0 s) .0))
-
-        pub entries-inside : not b ≡ false → entries + row .entries ≤ limits .entries
-        entries-inside n = shown p n .head .entries-all
-
-        pub values-inside : not b ≡ false → values + row .count ≤ limits .multiplicands
-        values-inside n = shown p n .place .values-all
+        progress-stop n = iff-false (λ s. refuted p n (left-first limits (count - (i + 1)) entries values _ _ _ _ room row e (one-left .0 s) .0))
 
         after : BooksLeft limits (count - (i + 1)) (entries + row .entries) (values + row .count) (drop bookWidth (drop (bookWidth * i) books)) (drop (row .entries) (drop entries lengths)) (drop (row .entries) (drop entries codewords)) (drop (row .count) (drop values multiplicands))
             ≡ Left limits (count - (i + 1)) (entries + row .entries) (values + row .count) books lengths codewords multiplicands (i + 1)
@@ -82,30 +73,22 @@ module _ (limits : Limits) (count : ℕ) (books lengths codewords multiplicands 
             let t : bookWidth * (i + 1) ≡ bookWidth * i + bookWidth = omega arith in
             rw (t, drop-drop bookWidth (bookWidth * i) books, drop-drop (row .entries) entries lengths, drop-drop (row .entries) entries codewords, drop-drop (row .count) values multiplicands)
 
-        next-left : not b ≡ false → BooksLeft limits count 0 0 books lengths codewords multiplicands
-            ↔ BooksLeft limits (count - (i + 1)) (entries + row .entries) (values + row .count) (drop bookWidth (drop (bookWidth * i) books)) (drop (row .entries) (drop entries lengths)) (drop (row .entries) (drop entries codewords)) (drop (row .count) (drop values multiplicands))
-        next-left n =
-            subst
-            (λ (x : Row).
-            BooksLeft limits count 0 0 books lengths codewords multiplicands
-            ↔ BooksLeft limits (count - (i + 1)) (entries + x .entries) (values + x .count) (drop bookWidth (drop (bookWidth * i) books)) (drop (x .entries) (drop entries lengths)) (drop (x .entries) (drop entries codewords)) (drop (x .count) (drop values multiplicands)))
-            (sym e) (
-              (λ s. left-first limits (count - (i + 1)) entries values _ _ _ _ room (one-left .0 s) .1),
-              (λ s. one-left .1 (left-cons limits (count - (i + 1)) entries values _ _ _ _ room (shown judged n) s)),
-            )
-
         pub progress-next : not b ≡ false → Progress limits count books lengths codewords multiplicands (entries + row .entries) (values + row .count) (i + 1)
         progress-next n =
             record {
               within = omega arith;
               begun = record {
-                entries-within = entries-inside n;
-                values-within = values-inside n;
+                entries-within = entries-within limits entries values row _ _ _ (shown p n);
+                values-within = values-within limits entries values row _ _ _ (shown p n);
                 lengths-room = buffers .lengths-long;
                 codewords-room = buffers .codewords-long;
                 values-room = buffers .multiplicands-long;
               };
-              left = subst (λ (x : Type 0). BooksLeft limits count 0 0 books lengths codewords multiplicands ↔ x) after (next-left n);
+              left =
+                  subst (λ (x : Type 0). BooksLeft limits count 0 0 books lengths codewords multiplicands ↔ x) after (
+                    (λ s. left-first limits (count - (i + 1)) entries values _ _ _ _ room row e (one-left .0 s) .1),
+                    (λ s. one-left .1 (left-cons limits (count - (i + 1)) entries values _ _ _ _ room row e (shown p n) s)),
+                  );
             }
 
     pub progress-end : count ≤ i → {x y z : ℕ} → x ≡ i → y ≡ entries → z ≡ values → {r : Bool}
@@ -122,26 +105,13 @@ module _ (limits : Limits) (count : ℕ) (books lengths codewords multiplicands 
 module _ (limits : Limits) (count entries values : ℕ) (row : Row) (ls ws ms : List ℕ) (countable : Countable limits count) {b : Bool}
     (p : (b ≡ true) ↔ BookRules limits entries values row ls ws ms) (n : not b ≡ false) where
   pub entries-fit : entries + row .entries < 4294967296
-  entries-fit = let h = shown p n .head .entries-all in let a = countable .few-entries in omega arith
+  entries-fit = let h = entries-within limits entries values row ls ws ms (shown p n) in let a = countable .few-entries in omega arith
 
   pub values-fit : values + row .count < 4294967296
-  values-fit = let h = shown p n .place .values-all in let a = countable .few-values in omega arith
+  values-fit = let h = values-within limits entries values row ls ws ms (shown p n) in let a = countable .few-values in omega arith
 
 -- the whole test
 module _ (limits : Limits) (count : ℕ) (books lengths codewords multiplicands : List ℕ) where
-  pub few-rows : length books < booksNeed → (false ≡ true) ↔ BooksRecognised limits count books lengths codewords multiplicands
-  few-rows h = iff-false (λ s. let r = s .books-room in omega arith)
-
-  module _ {x : ℕ} (e : x ≡ limits .entries) where
-    pub few-lengths : length lengths < x → (false ≡ true) ↔ BooksRecognised limits count books lengths codewords multiplicands
-    few-lengths h = iff-false (λ s. let r = s .lengths-room in omega arith)
-
-    pub few-codewords : length codewords < x → (false ≡ true) ↔ BooksRecognised limits count books lengths codewords multiplicands
-    few-codewords h = iff-false (λ s. let r = s .codewords-room in omega arith)
-
-  pub few-multiplicands : {x : ℕ} → x ≡ limits .multiplicands → length multiplicands < x → (false ≡ true) ↔ BooksRecognised limits count books lengths codewords multiplicands
-  few-multiplicands e h = iff-false (λ s. let r = s .multiplicands-room in omega arith)
-
   pub all-buffers : Countable limits count → booksNeed ≤ length books → {x y z : ℕ} → x ≡ limits .entries → x ≤ length lengths → y ≡ limits .entries → y ≤ length codewords
       → z ≡ limits .multiplicands → z ≤ length multiplicands → BookBuffers limits books lengths codewords multiplicands
   all-buffers countable a e b f c g d =
@@ -184,5 +154,3 @@ module _ (limits : Limits) (count : ℕ) (books lengths codewords multiplicands 
           all-multiplicands = s .all-multiplicands;
         })),
   )
-
-pub ruleset recognise-laws = (needs, few-rows, few-lengths, few-codewords, few-multiplicands, one-content)

@@ -1,208 +1,175 @@
--- ONE BOOK: the rules along the tables hold exactly where a book that meets every rule is written there. Assumes nothing.
+-- ONE BOOK: its tests together find exactly where the tables hold a book that meets every rule, written out. Assumes nothing.
 use Prim.Native.Nat.{ℕ, _+_, _^_, _≤_, _<_}
 use native.Mathlib.Omega.{arith}
-use mathlib.Core.Bool.{true}
-use mathlib.Core.List.{List, [], _∷_, _++_}
-use mathlib.Core.Logic.{⊎-elim}
+use borrow.Author.Tests.{le-leb}
+use mathlib.Core.Bool.{Bool, true, false, not}
+use mathlib.Core.List.{List}
+use mathlib.Core.Logic.{_↔_, ⊎-elim}
 use mathlib.Core.Path.{_≡_, refl, sym, ap, _∙_}
 use lib.Dec.{ltb}
-use lib.ListN.{length, getD, take}
-use lib.Seq.{take-at, length-take-le}
+use lib.ListN.{length, take, drop, length-drop}
+use lib.Seq.{length-take-le}
 use Rattle.reading.specs.Lists.{all}
-use Rattle.reading.proofs.Least.{lt-or-le}
 use Rattle.reading.proofs.Basics.{length-zero}
+use Rattle.reading.proofs.Encodes.{iff-false, refuted, shown}
+use Rattle.reading.proofs.Least.{lt-or-le}
 use Rattle.limits.specs.declared.Limits.{Limits}
-use Rattle.codeword_assignment.specs.Book.{ledgerCodewords, loneMark}
-use Rattle.codeword_assignment.proofs.Laws.{codewords-length}
-use Rattle.book.specs.Content.{Book}
-use Rattle.book.specs.Layout.{bookWidth, bookRow}
-use Rattle.book.specs.HeadReading.{totals}
+use Rattle.codeword_assignment.specs.Book.{Coded, loneMark}
+use Rattle.book.specs.Layout.{bookRow}
+use Rattle.book.specs.LookupReading.{valueCount}
 use Rattle.book.specs.Carried.{NoLookup, SomeLookup}
-use Rattle.book.specs.inner.Valid.{ValidBook}
-use Rattle.book.proofs.RuleLaws.{rule6-met, rule7-met, rule8-met, rule14-met, some-dimensions, some-entries, known-lookup, lengths-accepted, few-entries}
+use Rattle.book.proofs.RuleLaws.{rule7-met, rule8-met, lengths-accepted, some-dimensions, some-entries, few-entries}
 use Rattle.book_tables.specs.declared.row.Row.{Row}
-use Rattle.book_tables.specs.inner.Rules.{rowOf, NoneRules, SomeRules, BookRules}
+use Rattle.book_tables.specs.inner.Rules.{bookOf, bookIn, HeadRules, PlaceRules, LookupRules, BookRules, Begun}
 use Rattle.book_tables.proofs.Small.{accepted-small}
+use Rattle.book_tables.proofs.TestLaws.{row-made, zeros-long, zeros-fit, head-bounds, place-within}
 
--- the book of a row, with its lengths and multiplicands at the front of what is left of theirs
-abbrev pub bookOf : Row → List ℕ → List ℕ → Book
-bookOf row lengths multiplicands =
-    record {
-      dimensions = row .dimensions;
-      lengths = take (row .entries) lengths;
-      lookup = row .lookup;
-      minimum = row .minimum;
-      delta = row .delta;
-      width = row .width;
-      sequence = row .sequence;
-      multiplicands = take (row .count) multiplicands;
-    }
+-- books of one row that differ in the lengths and multiplicands, but not in how many there are
+module _ (row : Row) {ls ls′ ms ms′ : List ℕ} (n : length ls ≡ length ls′) (k : length ms ≡ length ms′) where
+  none-same : NoLookup (bookOf row ls ms) → NoLookup (bookOf row ls′ ms′)
+  none-same x =
+      record {
+        minimum = x .minimum;
+        delta = x .delta;
+        width = x .width;
+        sequence = x .sequence;
+        multiplicands = length-zero ms′ (sym k ∙ ap length (x .multiplicands));
+      }
 
--- the row of a book
-abbrev pub rowFor : ℕ → ℕ → Book → Row
-rowFor entries values b =
-    record {
-      dimensions = b .dimensions;
-      entries = length (b .lengths);
-      «first_entry» = entries;
-      lookup = b .lookup;
-      minimum = b .minimum;
-      delta = b .delta;
-      width = b .width;
-      sequence = b .sequence;
-      count = length (b .multiplicands);
-      «first_value» = values;
-      lone = loneMark (b .lengths);
-    }
+  some-same : SomeLookup (bookOf row ls ms) → all (λ v. ltb v (2 ^ row .width)) ms′ ≡ true → SomeLookup (bookOf row ls′ ms′)
+  some-same x f =
+      record {
+        minimum = x .minimum;
+        delta = x .delta;
+        width-low = x .width-low;
+        width-high = x .width-high;
+        sequence = x .sequence;
+        count = sym k ∙ x .count ∙ ap (λ (i : ℕ). valueCount (row .lookup) i (row .dimensions)) n;
+        fit = f;
+      }
 
-module _ (limits : Limits) (entries values : ℕ) where
-  -- what is left of the tables has room for what the limits allow
-  module _ (row : Row) (ls ws ms : List ℕ) (room : limits .entries ≤ entries + length ls) (room-values : limits .multiplicands ≤ values + length ms)
-      (r : BookRules limits entries values row ls ws ms) where
-    pub lengths-long : length (take (row .entries) ls) ≡ row .entries
-    lengths-long = let h = r .head .entries-all in length-take-le (row .entries) ls (omega arith)
+-- a book that is written out meets each test
+module _ (limits : Limits) (entries values : ℕ) (row : Row) (ls ws ms : List ℕ) (r : BookRules limits entries values row ls ws ms) where
+  pub entries-counted : row .entries ≡ length (take (row .entries) ls)
+  unfolding bookRow
+  entries-counted = ap (λ (x : Row). x .entries) (r .written)
 
-    pub values-long : length (take (row .count) ms) ≡ row .count
-    values-long = let h = r .place .values-all in length-take-le (row .count) ms (omega arith)
+  pub values-counted : row .count ≡ length (take (row .count) ms)
+  unfolding bookRow
+  values-counted = ap (λ (x : Row). x .count) (r .written)
 
-    no-values : NoneRules row → NoLookup (bookOf row ls ms)
-    no-values n =
-        record {
-          minimum = n .minimum;
-          delta = n .delta;
-          width = n .width;
-          sequence = n .sequence;
-          multiplicands = length-zero (take (row .count) ms) (values-long ∙ n .count);
-        }
+  pub entries-within : entries + row .entries ≤ limits .entries
+  entries-within = let n = entries-counted in let h = r .valid .entries-all in omega arith
 
-    some-values : SomeRules row → SomeLookup (bookOf row ls ms)
-    some-values s =
-        record {
-          minimum = s .minimum;
-          delta = s .delta;
-          width-low = s .width-low;
-          width-high = s .width-high;
-          sequence = s .sequence;
-          count = rw lengths-long (values-long ∙ s .count);
-          fit = r .fit;
-        }
+  pub values-within : values + row .count ≤ limits .multiplicands
+  values-within = let n = values-counted in let h = r .valid .values-all in omega arith
 
-    pub rules-valid : ValidBook limits (totals entries values) (bookOf row ls ms)
-    rules-valid =
-        let h = r .head in
-        let n = lengths-long in
-        let m = values-long in
-        let b = bookOf row ls ms in
-        record {
-          carried = record {
-            dimensions = h .dimensions-high;
-            entries = rw n (h .entries-high);
-            lengths = accepted-small (take (row .entries) ls) (r .coded .accepted);
-            no-lookup = λ e. no-values (r .lookup .none e);
-            some-lookup = λ e. some-values (r .lookup .some e);
-          };
-          rule6 = rule6-met b (h .dimensions-low) (rw n (h .entries-low)) (r .lookup .most);
-          rule7 = rule7-met b (r .coded .accepted);
-          rule8 = rule8-met b (r .coded .accepted);
-          rule14 = rule14-met b limits (rw n (h .entries-book));
-          entries-all = rw n (h .entries-all);
-          values-all = rw m (r .place .values-all);
-        }
+  pub has-head : HeadRules limits entries row
+  has-head =
+      let b = bookIn row ls ms in
+      let n = entries-counted in
+      let low = some-entries b (r .valid .rule6) in
+      let high : length (b .lengths) < 16777216 = r .valid .carried .entries in
+      let few = few-entries b limits (r .valid .rule14) in
+      head-bounds limits entries row .1 (some-dimensions b (r .valid .rule6), r .valid .carried .dimensions, omega arith, omega arith, omega arith, entries-within)
 
-  -- a book that meets every rule, written in front of anything
-  module _ (b : Book) (v : ValidBook limits (totals entries values) b) where
-    none-rules : NoLookup b → NoneRules (rowFor entries values b)
-    none-rules n =
-        record {
-          minimum = n .minimum;
-          delta = n .delta;
-          width = n .width;
-          sequence = n .sequence;
-          count = ap length (n .multiplicands);
-        }
+  pub has-place : PlaceRules limits entries values row
+  unfolding bookRow
+  has-place =
+      record {
+        entries-first = ap (λ (x : Row). x .«first_entry») (r .written);
+        values-first = ap (λ (x : Row). x .«first_value») (r .written);
+        values-all = le-leb _ _ values-within;
+      }
 
-    some-rules : SomeLookup b → SomeRules (rowFor entries values b)
-    some-rules s =
-        record {
-          minimum = s .minimum;
-          delta = s .delta;
-          width-low = s .width-low;
-          width-high = s .width-high;
-          sequence = s .sequence;
-          count = s .count;
-        }
+  pub has-lookup : LookupRules row
+  has-lookup =
+      let n = sym entries-counted ∙ sym (zeros-long (row .entries)) in
+      let k = sym values-counted ∙ sym (zeros-long (row .count)) in
+      record {
+        known = r .valid .rule6 .lookup;
+        none = λ z. none-same row n k (r .valid .carried .no-lookup z);
+        some = λ z. some-same row n k (r .valid .carried .some-lookup z) (zeros-fit (row .count) (row .width));
+      }
 
-    some-fit : SomeLookup b → all (λ x. ltb x (2 ^ b .width)) (b .multiplicands) ≡ true
-    some-fit s = s .fit
+  pub has-codewords : Coded (take (row .entries) ls) (take (row .entries) ws)
+  has-codewords = record { accepted = lengths-accepted (bookIn row ls ms) (r .valid .rule7) (r .valid .rule8); assigned = r .assigned }
 
-    none-fit : NoLookup b → all (λ x. ltb x (2 ^ b .width)) (b .multiplicands) ≡ true
-    unfolding all
-    none-fit n = rw (n .multiplicands)
+  pub has-mark : row .lone ≡ loneMark (take (row .entries) ls)
+  unfolding bookRow
+  has-mark = ap (λ (x : Row). x .lone) (r .written)
 
-    pub valid-rules : (ls ws ms : List ℕ) → BookRules limits entries values (rowFor entries values b) (b .lengths ++ ls) (ledgerCodewords (b .lengths) ++ ws) (b .multiplicands ++ ms)
-    valid-rules ls ws ms =
-        let l = take-at (b .lengths) ls (length (b .lengths)) refl in
-        let w = take-at (ledgerCodewords (b .lengths)) ws (length (b .lengths)) (codewords-length (b .lengths)) in
-        let m = take-at (b .multiplicands) ms (length (b .multiplicands)) refl in
-        record {
-          head = record {
-            dimensions-low = some-dimensions b (v .rule6);
-            dimensions-high = v .carried .dimensions;
-            entries-low = some-entries b (v .rule6);
-            entries-high = v .carried .entries;
-            entries-book = few-entries b limits (v .rule14);
-            entries-all = v .entries-all;
-          };
-          place = record { entries-first = refl; values-first = refl; values-all = v .values-all };
-          lookup = record { most = known-lookup b (v .rule6); none = λ e. none-rules (v .carried .no-lookup e); some = λ e. some-rules (v .carried .some-lookup e) };
-          coded = rw (l, w) (record { accepted = lengths-accepted b (v .rule7) (v .rule8); assigned = refl });
-          lone = sym (ap loneMark l);
-          fit = rw m fits;
-        }
-      where
-        fits : all (λ x. ltb x (2 ^ b .width)) (b .multiplicands) ≡ true
-        fits = ⊎-elim (λ (h : 0 < b .lookup). some-fit (v .carried .some-lookup (λ e. omega arith))) (λ (h : b .lookup ≤ 0). none-fit (v .carried .no-lookup (omega arith))) (lt-or-le 0 (b .lookup))
+  fits : all (λ v. ltb v (2 ^ row .width)) (take (row .count) ms) ≡ true
+  unfolding all
+  fits =
+      ⊎-elim
+      (λ (h : 0 < row .lookup). r .valid .carried .some-lookup (λ e. omega arith) .fit)
+      (λ (h : row .lookup ≤ 0). rw (r .valid .carried .no-lookup (omega arith) .multiplicands))
+      (lt-or-le 0 (row .lookup))
 
-    pub rules-at : (ls ws ms l w m : List ℕ) → ls ≡ b .lengths ++ l → ws ≡ ledgerCodewords (b .lengths) ++ w → ms ≡ b .multiplicands ++ m
-        → BookRules limits entries values (rowFor entries values b) ls ws ms
-    rules-at ls ws ms l w m e f g = rw (e, f, g) (valid-rules l w m)
+-- the test of a part failed, and so the whole does not hold
+pub part-refused : {P Q : Type 0} {b : Bool} → not b ≡ true → (b ≡ true) ↔ P → (Q → P) → (false ≡ true) ↔ Q
+part-refused n p f = iff-false (λ q. refuted p n (f q))
 
--- the row of a written book, and the book of a row
-pub row-written : (entries values : ℕ) (b : Book) (t : List ℕ) → rowOf (bookRow entries values b ++ t) ≡ rowFor entries values b
-unfolding bookRow
-row-written entries values b t = refl
+-- the width is one that a shift takes
+pub width-small : (row : Row) {b : Bool} → (b ≡ true) ↔ LookupRules row → not b ≡ false → row .width < 32
+width-small row p y =
+    ⊎-elim
+    (λ (h : 0 < row .lookup). let k = shown p y .some (λ e. omega arith) .width-high in omega arith)
+    (λ (h : row .lookup ≤ 0). let k = shown p y .none (omega arith) .width in omega arith)
+    (lt-or-le 0 (row .lookup))
 
-eleven : (t : List ℕ) → bookWidth ≤ length t
-    → take bookWidth t
-    ≡ getD t 0 0 ∷ getD t 1 0 ∷ getD t 2 0 ∷ getD t 3 0 ∷ getD t 4 0 ∷ getD t 5 0 ∷ getD t 6 0 ∷ getD t 7 0 ∷ getD t 8 0 ∷ getD t 9 0 ∷ getD t 10 0 ∷ []
-eleven [] long = absurd (omega arith)
-eleven (a ∷ []) long = absurd (omega arith)
-eleven (a ∷ b ∷ []) long = absurd (omega arith)
-eleven (a ∷ b ∷ c ∷ []) long = absurd (omega arith)
-eleven (a ∷ b ∷ c ∷ d ∷ []) long = absurd (omega arith)
-eleven (a ∷ b ∷ c ∷ d ∷ e ∷ []) long = absurd (omega arith)
-eleven (a ∷ b ∷ c ∷ d ∷ e ∷ f ∷ []) long = absurd (omega arith)
-eleven (a ∷ b ∷ c ∷ d ∷ e ∷ f ∷ g ∷ []) long = absurd (omega arith)
-eleven (a ∷ b ∷ c ∷ d ∷ e ∷ f ∷ g ∷ h ∷ []) long = absurd (omega arith)
-eleven (a ∷ b ∷ c ∷ d ∷ e ∷ f ∷ g ∷ h ∷ i ∷ []) long = absurd (omega arith)
-eleven (a ∷ b ∷ c ∷ d ∷ e ∷ f ∷ g ∷ h ∷ i ∷ j ∷ []) long = absurd (omega arith)
-eleven (a ∷ b ∷ c ∷ d ∷ e ∷ f ∷ g ∷ h ∷ i ∷ j ∷ k ∷ t) long = refl
+-- a book that meets each test: its lengths, codewords and multiplicands are all there, and it is written out
+module _ (limits : Limits) (entries values : ℕ) (row : Row) (ls ws ms : List ℕ) (begun : Begun limits entries values ls ws ms)
+    {b₁ : Bool} (p₁ : (b₁ ≡ true) ↔ HeadRules limits entries row) (y₁ : not b₁ ≡ false) where
+  pub lengths-inside : entries + row .entries ≤ length ls
+  lengths-inside = let h = head-bounds limits entries row .0 (shown p₁ y₁) in let r = begun .lengths-room in omega arith
 
-pub written-row : (limits : Limits) (entries values : ℕ) (t ls ws ms : List ℕ) → bookWidth ≤ length t → limits .entries ≤ entries + length ls → limits .multiplicands ≤ values + length ms
-    → BookRules limits entries values (rowOf t) ls ws ms → take bookWidth t ≡ bookRow entries values (bookOf (rowOf t) ls ms)
-unfolding bookRow
-written-row limits entries values t ls ws ms h room room-values r =
-    eleven t h
-    ∙ (λ j.
-    getD t 0 0
-    ∷ sym (lengths-long limits entries values (rowOf t) ls ws ms room room-values r) j
-    ∷ r .place .entries-first j
-    ∷ getD t 3 0
-    ∷ getD t 4 0
-    ∷ getD t 5 0
-    ∷ getD t 6 0
-    ∷ getD t 7 0
-    ∷ sym (values-long limits entries values (rowOf t) ls ws ms room room-values r) j
-    ∷ r .place .values-first j
-    ∷ r .lone j
-    ∷ [])
+  pub codewords-inside : entries + row .entries ≤ length ws
+  codewords-inside = let h = head-bounds limits entries row .0 (shown p₁ y₁) in let r = begun .codewords-room in omega arith
+
+  module _ {b₂ : Bool} (p₂ : (b₂ ≡ true) ↔ PlaceRules limits entries values row) (y₂ : not b₂ ≡ false) where
+    pub values-inside : values + row .count ≤ length ms
+    values-inside = let h = place-within limits entries values row (shown p₂ y₂) in let r = begun .values-room in omega arith
+
+    pub book-end : {b₃ b₄ b₅ b₆ : Bool} → (b₃ ≡ true) ↔ LookupRules row → not b₃ ≡ false
+        → (b₄ ≡ true) ↔ Coded (take (row .entries) (drop entries ls)) (take (row .entries) (drop entries ws)) → not b₄ ≡ false
+        → (b₅ ≡ true) ↔ (row .lone ≡ loneMark (take (row .entries) (drop entries ls))) → not b₅ ≡ false
+        → b₆ ≡ all (λ v. ltb v (2 ^ row .width)) (take (row .count) (drop values ms))
+        → (b₆ ≡ true) ↔ BookRules limits entries values row (drop entries ls) (drop entries ws) (drop values ms)
+    unfolding bookRow
+    book-end p₃ y₃ p₄ y₄ p₅ y₅ fit =
+        let b = bookIn row (drop entries ls) (drop values ms) in
+        let head = shown p₁ y₁ in
+        let place = shown p₂ y₂ in
+        let coded = shown p₄ y₄ in
+        let i = lengths-inside in
+        let d = length-drop entries ls in
+        let n : length (b .lengths) ≡ row .entries = length-take-le (row .entries) (drop entries ls) (omega arith) in
+        let n′ = zeros-long (row .entries) ∙ sym n in
+        let j = values-inside in
+        let e = length-drop values ms in
+        let k : length (b .multiplicands) ≡ row .count = length-take-le (row .count) (drop values ms) (omega arith) in
+        let k′ = zeros-long (row .count) ∙ sym k in (
+          (λ t.
+              record {
+                valid = record {
+                  carried = record {
+                    dimensions = head .carried .dimensions;
+                    entries = rw (← n′) (head .carried .entries);
+                    lengths = accepted-small (b .lengths) (coded .accepted);
+                    no-lookup = λ z. none-same row n′ k′ (shown p₃ y₃ .none z);
+                    some-lookup = λ z. some-same row n′ k′ (shown p₃ y₃ .some z) (sym fit ∙ t);
+                  };
+                  rule6 = record { dimensions = head .rule6 .dimensions; entries = rw (← n′) (head .rule6 .entries); lookup = shown p₃ y₃ .known };
+                  rule7 = rule7-met b (coded .accepted);
+                  rule8 = rule8-met b (coded .accepted);
+                  rule14 = rw (← n′) (head .rule14);
+                  entries-all = rw n (head-bounds limits entries row .0 head .5);
+                  values-all = rw k (place-within limits entries values row place);
+                };
+                written = row-made (bookRow entries values b) refl (sym n) (place .entries-first) refl refl refl refl refl (sym k) (place .values-first) (shown p₅ y₅);
+                assigned = coded .assigned;
+              }),
+          (λ r. fit ∙ fits limits entries values row (drop entries ls) (drop entries ws) (drop values ms) r),
+        )

@@ -14,7 +14,8 @@ ghost use lib.Dec.{ltb};
 ghost use lib.ListN.{length, take, drop};
 ghost use Rattle.reading.specs.Lists.{all};
 ghost use Rattle.codeword_assignment.specs.Book.{Coded, loneMark};
-ghost use Rattle.book_tables.specs.inner.Rules.{HeadRules, PlaceRules, NoneRules, SomeRules, LookupRules, BookRules, Begun};
+ghost use Rattle.book.specs.Carried.{NoLookup, SomeLookup};
+ghost use Rattle.book_tables.specs.inner.Rules.{rowBook, HeadRules, PlaceRules, LookupRules, BookRules, Begun};
 
 // The dimensions and the number of entries (01, refusals 6 and 14). `entries` is how many the books before have.
 fn is_head(limits: Limits, entries: u32, row: Row) -> bool
@@ -61,7 +62,7 @@ fn is_placed(limits: Limits, entries: u32, values: u32, row: Row) -> bool
 
 // No lookup: zeros.
 fn has_no_lookup(row: Row) -> bool
-    ensures { λ r. ⌜ (r ≡ true) ↔ NoneRules row ⌝ }
+    ensures { λ r. ⌜ (r ≡ true) ↔ NoLookup (rowBook row) ⌝ }
 {
     if row.minimum != 0 {
         return false;
@@ -83,7 +84,7 @@ fn has_no_lookup(row: Row) -> bool
 
 // A lookup with multiplicands: their number is what its type, entries and dimensions say.
 fn is_valued(row: Row) -> bool
-    ensures { λ r. ⌜ (r ≡ true) ↔ SomeRules row ⌝ }
+    ensures { λ r. ⌜ (r ≡ true) ↔ SomeLookup (rowBook row) ⌝ }
 {
     if row.width < 1 {
         return false;
@@ -133,7 +134,7 @@ fn is_marked(lengths: &[u8], first: u32, row: Row) -> bool
 }
 
 fn power(exponent: u32) -> u32
-    requires { ⌜ exponent ≤ 16 ⌝ }
+    requires { ⌜ exponent < 32 ⌝ }
     ensures { λ r. ⌜ r ≡ 2 ^ exponent ⌝ }
 {
     1 << exponent
@@ -141,7 +142,7 @@ fn power(exponent: u32) -> u32
 
 // Every multiplicand has no more than `width` bits.
 fn are_narrow(part: &[u16], width: u32) -> bool
-    requires { ⌜ width ≤ 16 ⌝ }
+    requires { ⌜ width < 32 ⌝ }
     ensures { λ r. ⌜ r ≡ all (λ v. ltb v (2 ^ width)) (now (part .entry)) ⌝ }
 {
     let bound = power(width);
@@ -157,7 +158,7 @@ fn are_narrow(part: &[u16], width: u32) -> bool
 
 // The same of `count` multiplicands from `first` on.
 fn is_fit(multiplicands: &[u16], first: u32, count: u32, width: u32) -> bool
-    requires { ⌜ (first + count ≤ length (now multiplicands)) × (width ≤ 16) ⌝ }
+    requires { ⌜ (first + count ≤ length (now multiplicands)) × (width < 32) ⌝ }
     ensures { λ r. ⌜ r ≡ all (λ v. ltb v (2 ^ width)) (take count (drop first (now (multiplicands .entry)))) ⌝ }
 {
     let start = wide_u32(first);
