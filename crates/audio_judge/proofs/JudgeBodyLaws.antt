@@ -18,10 +18,11 @@ use Rattle.codeword_list.specs.declared.Progress.{Progress}
 use Rattle.audio.specs.declared.Head.{Head}
 use Rattle.audio.specs.declared.Tally.{Tally}
 use Rattle.audio.specs.Head.{modeAt}
-use Rattle.audio.specs.Packet.{channelFloors, bodyRequests}
+use Rattle.audio.specs.Packet.{channelFloors}
 use Rattle.audio.specs.Tally.{counted}
 use Rattle.setup.specs.Content.{lengthsOf}
 use Rattle.audio.specs.Call.{roomOf}
+use Rattle.audio.specs.inner.Plain.{plainBody}
 use Rattle.audio_body.specs.declared.BodyRead.{BodyRead}
 use Rattle.audio_settle.specs.declared.Judged.{Judged}
 use Rattle.audio_judge.specs.inner.Ready.{Ready}
@@ -63,7 +64,7 @@ module _ (i : Identity) (t : Tables) (x : Ready i t) (s : List ℕ) (h : Head) (
           (floorsIn (t .mappings) (t .floors) n (i .channels))
           (wholeValues (read (lengthsIn (t .books) (t .lengths))) floorRequests (floorsIn (t .mappings) (t .floors) n (i .channels)) s k)
           (i .channels) (h .blocksize / 2) y entry exit list list′) where
-        own : BodyIs (run (read (lengthsOf c)) (bodyRequests (i .channels) c h) s k) (channelFloors (i .channels) c h)
+        own : BodyIs (run (read (lengthsOf c)) (plainBody (i .channels) c h) s k) (channelFloors (i .channels) c h)
             (wholeValues (read (lengthsOf c)) floorRequests (channelFloors (i .channels) c h) s k) (i .channels) (h .blocksize / 2) y entry exit list list′
         own =
             body-content (rows i t x) (x .few-entries) h (mode-set-up i t x s h k e) s k

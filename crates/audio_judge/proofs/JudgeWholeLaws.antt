@@ -14,9 +14,10 @@ use Rattle.setup.specs.Content.{Setup, lengthsOf}
 use Rattle.setup.specs.Layout.{Tables}
 use Rattle.setup.specs.inner.Decode.{decodeSetup}
 use Rattle.requests.specs.Run.{read, run}
+use Rattle.requests.specs.Refusing.{cameTo}
 use Rattle.audio.specs.declared.Head.{Head}
 use Rattle.audio.specs.declared.Tally.{Tally}
-use Rattle.audio.specs.Head.{headRequests, headOf}
+use Rattle.audio.specs.Head.{headRequests}
 use Rattle.audio.specs.Packet.{headRun}
 use Rattle.audio.specs.Tally.{tallySound}
 use Rattle.audio.specs.Call.{accepted, roomOf}
@@ -40,9 +41,9 @@ module _ (i : Identity) (t : Tables) (x : Ready i t) where
   c = decodeSetup t
 
   -- the head that was read, by as many modes as there are
-  module _ (s : List ℕ) {n : ℕ} (m : n ≡ getD (t .counts) 4 0) (q : HeadRead) (f : (lens : ℕ → List ℕ) → headRead q ≡ headOf (run (read lens) (headRequests i (modesIn (t .modes) n)) s 0)) where
-    head-is : headRead q ≡ headOf (headRun i c s)
-    head-is = f (lengthsOf c) ∙ ap (λ (l : List Mode). headOf (run (read (lengthsOf c)) (headRequests i l) s 0)) (ap (modesIn (t .modes)) m ∙ sym (modes-decoded t))
+  module _ (s : List ℕ) {n : ℕ} (m : n ≡ getD (t .counts) 4 0) (q : HeadRead) (f : (lens : ℕ → List ℕ) → headRead q ≡ cameTo (run (read lens) (headRequests i (modesIn (t .modes) n)) s 0)) where
+    head-is : headRead q ≡ cameTo (headRun i c s)
+    head-is = f (lengthsOf c) ∙ ap (λ (l : List Mode). cameTo (run (read (lengthsOf c)) (headRequests i l) s 0)) (ap (modesIn (t .modes)) m ∙ sym (modes-decoded t))
 
     pub head-asked : {h : Head} {k : Cursor} → q ≡ H.Value h k → HeadIs i c s h (position k)
     unfolding headRead

@@ -33,10 +33,11 @@ use Rattle.audio.specs.declared.Head.{Head}
 use Rattle.audio.specs.declared.Tally.{Tally}
 use Rattle.audio.specs.Head.{flagRequests, modeRequests, headRequests}
 use Rattle.audio.specs.Channels.{floorNumber, floorsOf, isUsed}
-use Rattle.audio.specs.Packet.{Audio, mappingOf, byChannel, channelFloors, bodyRequests, bodyAt, headRun}
+use Rattle.audio.specs.Packet.{Audio, mappingOf, byChannel, channelFloors, headRun}
 use Rattle.audio.specs.Tally.{finished, counted}
 use Rattle.audio.specs.Curves.{curveOf, curvesOf}
 use Rattle.audio.specs.Call.{Room, Accepted, judged}
+use Rattle.audio.specs.inner.Plain.{plainBody, plainAt}
 use Rattle.audio.proofs.Cuts.{by-channel-long}
 use Rattle.audio_floors.proofs.Agreement.{flags-agree, whole-few}
 use Rattle.audio_floors.proofs.FloorsLaws.{curve-long}
@@ -137,16 +138,16 @@ curves-bytes half (f ∷ fs) (v ∷ vs) e =
 
 module _ (i : Identity) (c : Setup) (t : Tally) (s : List ℕ) (h : Head) (k : ℕ) where
   abbrev whole : Audio
-  whole = bodyAt (i .channels) c s (headRun i c s .items) h k
+  whole = plainAt (i .channels) c s (headRun i c s .items) h k
 
   abbrev body : Run Unit
-  body = run (read (lengthsOf c)) (bodyRequests (i .channels) c h) s k
+  body = run (read (lengthsOf c)) (plainBody (i .channels) c h) s k
 
   abbrev floors : List FloorRead
   floors = wholeValues (read (lengthsOf c)) floorRequests (channelFloors (i .channels) c h) s k
 
   packet-words : residueWords (whole .items) ≡ residueWords (body .items)
-  unfolding bodyAt
+  unfolding plainAt
   packet-words =
       words-append (headRun i c s .items) (body .items)
       ∙ ap (λ (l : List Item). l ++ residueWords (body .items)) (run-kept (read (lengthsOf c)) s false (headRequests i (c .modes)) 0 (head-asks i (c .modes)))
@@ -182,12 +183,12 @@ module _ (i : Identity) (c : Setup) (t : Tally) (s : List ℕ) (h : Head) (k : �
     stepped = then (counted t (h .blocksize) (body .position)) (λ x. ok (record { packet = whole; tally = x .0; samples = x .1 }))
 
     no-curves : length entry < i .channels * (h .blocksize / 2) → outcome ≡ bad (refusal 17 0)
-    unfolding judged bodyAt
+    unfolding judged plainAt
     no-curves few = rw (lt-leb (i .channels * (h .blocksize / 2)) (length entry) few) refl
 
     module _ (fits : i .channels * (h .blocksize / 2) ≤ length entry) where
       by-room : outcome ≡ need (leb (length (residueWords (body .items))) (length list)) (refusal 17 0) stepped
-      unfolding judged bodyAt
+      unfolding judged plainAt
       by-room = rw (le-leb (i .channels * (h .blocksize / 2)) (length entry) fits) (ap (λ (l : List Item). need (leb (length l) (length list)) (refusal 17 0) stepped) packet-words)
 
       no-words : leb (length (residueWords (body .items))) (length list) ≡ false → outcome ≡ bad (refusal 17 0)
@@ -229,7 +230,7 @@ module _ (i : Identity) (c : Setup) (t : Tally) (s : List ℕ) (h : Head) (k : �
       -- so many codewords, all of which have room
       read-is : {r : Judged} {n : ℕ} → (leb (length (residueWords (body .items))) (length list) ≡ true) × (n ≡ length (residueWords (body .items)))
           → ((stop : ℕ) → r ≡ finishedBy (counted t (h .blocksize) stop) h (x .used) n) → JudgedIs (i .channels) c outcome r entry exit list list′
-      unfolding bodyAt
+      unfolding plainAt
       read-is {r} {n} f a = go (counted t (h .blocksize) (body .position)) refl (all-words fits (f .0)) (a (body .position))
         where
           used-are : x .used ≡ pad 255 (map (λ g. one (isUsed g)) (byChannel (i .channels) floors))

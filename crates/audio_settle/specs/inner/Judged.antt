@@ -11,15 +11,17 @@ use Rattle.reading.specs.Outcome.{Refusal, Outcome, ok, bad}
 use Rattle.reading.specs.Pad.{pad}
 use Rattle.identification.specs.declared.Identity.{Identity}
 use Rattle.setup.specs.Content.{Setup}
+use Rattle.requests.specs.Refusing.{cameTo}
 use Rattle.residue_requests.specs.Listed.{residueWords, listed}
 use Rattle.audio.specs.declared.Head.{Head}
 use Rattle.audio.specs.declared.Tally.{Tally}
 use Rattle.audio.specs.declared.AudioAnswer.{AudioAnswer}
-use Rattle.audio.specs.Head.{headOf, window}
+use Rattle.audio.specs.Head.{window}
 use Rattle.audio.specs.Channels.{isUsed}
-use Rattle.audio.specs.Packet.{channelFloors, bodyAt, headRun}
+use Rattle.audio.specs.Packet.{channelFloors, headRun}
 use Rattle.audio.specs.Curves.{curvesOf}
 use Rattle.audio.specs.Call.{Room, Accepted, judged, refused, Left}
+use Rattle.audio.specs.inner.Plain.{plainAt}
 use Rattle.audio_settle.specs.declared.Judged.{Judged}
 
 -- a refusal as the program holds it
@@ -76,11 +78,11 @@ pub record JudgedIs (channels : ℕ) (c : Setup) (o : Outcome Accepted) (r : Jud
 
 -- what follows a head that was read up to bit k
 abbrev pub afterHead : Identity → Setup → Tally → List ℕ → Head → ℕ → Room → Outcome Accepted
-afterHead i c t s h k room = judged (i .channels) t room (bodyAt (i .channels) c s (headRun i c s .items) h k)
+afterHead i c t s h k room = judged (i .channels) t room (plainAt (i .channels) c s (headRun i c s .items) h k)
 
 -- a head that was read, with the position behind it
 abbrev pub HeadIs : Identity → Setup → List ℕ → Head → ℕ → Type 0
-HeadIs i c s h k = headOf (headRun i c s) ≡ ok (h, k)
+HeadIs i c s h k = cameTo (headRun i c s) ≡ ok (h, k)
 
 -- the places of an output from one on hold nothing
 pub record ZeroFrom (place : ℕ) (l : List ℕ) : Type 0 where
