@@ -1,6 +1,7 @@
 -- What follows a head that was read by tables that are ready, as the code asks it: one law for each way out. Assumes nothing.
 use Prim.Native.Nat.{ℕ, _+_, _*_, _/_, _≤_, _<_}
 use native.Mathlib.Omega.{arith}
+use mathlib.Core.Bool.{true, false}
 use mathlib.Core.List.{List}
 use mathlib.Core.Path.{_≡_, sym, subst, _∙_}
 use lib.ListN.{length, getD}
@@ -55,7 +56,7 @@ module _ (i : Identity) (t : Tables) (x : Ready i t) (s : List ℕ) (h : Head) (
     )
 
   module _ (tally : Tally) (entry list : List ℕ) {bytes : ℕ} (size : bytes ≡ i .channels * (h .blocksize / 2)) where
-    pub judged-no-room : {r : Judged} → length entry < bytes → r ≡ refusedBy 17 → JudgedIs (i .channels) c (afterHead i c tally s h k (roomOf entry list)) r entry entry list list
+    pub judged-no-room : {r : Judged} → length entry < bytes → r ≡ refusedBy false 17 → JudgedIs (i .channels) c (afterHead i c tally s h k (roomOf entry list)) r entry entry list list
     judged-no-room few a = no-curves-is i c tally s h k entry list (omega arith) a
 
     module _ (fits : bytes ≤ length entry) {n : ℕ} (m : n ≡ getD (t .modes) (modeWidth * h .mode + 1) 0) where
@@ -77,7 +78,7 @@ module _ (i : Identity) (t : Tables) (x : Ready i t) (s : List ℕ) (h : Head) (
         room : i .channels * (h .blocksize / 2) ≤ length entry
         room = omega arith
 
-        pub judged-full : {r : Judged} → y .words ≡ L.Full → r ≡ refusedBy 17 → JudgedIs (i .channels) c (afterHead i c tally s h k (roomOf entry list)) r entry exit list list′
+        pub judged-full : {r : Judged} → y .words ≡ L.Full → r ≡ refusedBy true 17 → JudgedIs (i .channels) c (afterHead i c tally s h k (roomOf entry list)) r entry exit list list′
         judged-full w a = full-is i c tally s h k entry list (size-high i t x s h k e) room own w a
 
         pub judged-whole : {r : Judged} {p : Progress} → y .words ≡ L.Whole p → ((stop : ℕ) → r ≡ finishedBy (counted tally (h .blocksize) stop) h (y .used) (p .count))

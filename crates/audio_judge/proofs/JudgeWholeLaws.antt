@@ -53,15 +53,15 @@ module _ (i : Identity) (t : Tables) (x : Ready i t) where
       is-sound : tallySound i tally ≡ true
       is-sound = sym sound ∙ not-false b left
 
-      pub judged-head-refused : {z : Refusal} {number : ℕ} {r : Judged} → q ≡ H.Refused z → number ≡ z .number → r ≡ refusedBy number
+      pub judged-head-refused : {z : Refusal} {number : ℕ} {r : Judged} → q ≡ H.Refused z → number ≡ z .number → r ≡ refusedBy false number
           → JudgedIs (i .channels) c (accepted i tally (roomOf entry list) s c) r entry entry list list
       unfolding headRead
-      judged-head-refused {z} w d a = head-refused i c tally s entry list is-sound (sym head-is ∙ ap headRead w) (a ∙ ap refusedBy d)
+      judged-head-refused {z} w d a = head-refused i c tally s entry list is-sound (sym head-is ∙ ap headRead w) (a ∙ ap (refusedBy false) d)
 
       pub judged-head-read : {h : Head} {k : Cursor} {r : Judged} {exit list′ : List ℕ} → q ≡ H.Value h k → JudgedIs (i .channels) c (afterHead i c tally s h (position k) (roomOf entry list)) r entry exit list list′
           → JudgedIs (i .channels) c (accepted i tally (roomOf entry list) s c) r entry exit list list′
       judged-head-read w j = head-read i c tally s entry list is-sound (head-asked w) j
 
-  pub judged-unsound : (tally : Tally) (s entry list : List ℕ) {b : Bool} {r : Judged} → b ≡ tallySound i tally → not b ≡ true → r ≡ refusedBy 18
+  pub judged-unsound : (tally : Tally) (s entry list : List ℕ) {b : Bool} {r : Judged} → b ≡ tallySound i tally → not b ≡ true → r ≡ refusedBy false 18
       → JudgedIs (i .channels) c (accepted i tally (roomOf entry list) s c) r entry entry list list
   judged-unsound tally s entry list {b} e n a = tally-refused i c tally s entry list (sym e ∙ not-true b n) a
