@@ -3,21 +3,39 @@ use Prim.Native.Nat.{ℕ, _*_, _/_}
 use mathlib.Core.Bool.{true}
 use mathlib.Core.List.{List}
 use mathlib.Core.Path.{_≡_, ap, subst, _∙_}
-use lib.Dec.{leb}
+use lib.Dec.{eqb, leb}
 use lib.ListN.{length}
-use Rattle.reading.specs.Outcome.{refusal, ok}
+use Rattle.reading.specs.Outcome.{refusal, Outcome, ok, bad}
 use Rattle.reading.proofs.Outcomes.{then-ok, need-ok, ok-is}
 use Rattle.limits.specs.declared.Limits.{Limits}
 use Rattle.identification.specs.declared.Identity.{Identity}
+use Rattle.setup.specs.Content.{Setup}
 use Rattle.setup.specs.Layout.{Tables}
 use Rattle.setup.specs.inner.Decode.{decodeSetup}
 use Rattle.setup.specs.SoundTest.{soundTest}
 use Rattle.setup.specs.Later.{laterCall}
+use Rattle.requests.specs.Refusing.{cameTo}
 use Rattle.residue_requests.specs.Listed.{residueWords}
+use Rattle.audio.specs.declared.Head.{Head}
 use Rattle.audio.specs.declared.Tally.{Tally}
-use Rattle.audio.specs.Packet.{Audio, audio}
+use Rattle.audio.specs.Packet.{Audio, bodyRun, bodyAt, headRun, standing, audio}
 use Rattle.audio.specs.Tally.{tallySound, counted}
 use Rattle.audio.specs.Call.{Room, Accepted, judged, accepted}
+
+-- a packet that stands is what was read of it
+pub stood : (o : Outcome (Unit × ℕ)) (b : Audio) {a : Audio} → standing o b ≡ ok a → b ≡ a
+unfolding standing
+stood (ok x) b e = ok-is e
+stood (bad z) b e = ok-is (need-ok (eqb (z .number) 1) z (ok b) e .1)
+
+-- its head was read, and its body behind it
+pub packet-read : (i : Identity) (c : Setup) (s : List ℕ) {a : Audio} → audio i c s ≡ ok a
+    → (h : Head × ℕ) × (cameTo (headRun i c s) ≡ ok h) × (bodyAt (i .channels) c s (headRun i c s .items) (h .0) (h .1) ≡ a)
+unfolding audio
+packet-read i c s e =
+    let x = then-ok (cameTo (headRun i c s)) _ e in
+    let h = x .0 in
+    (h, x .1, stood (cameTo (bodyRun (i .channels) c s (h .0) (h .1))) (bodyAt (i .channels) c s (headRun i c s .items) (h .0) (h .1)) (x .2))
 
 -- there is room for both outputs, and the samples can be counted
 pub record Judged (channels : ℕ) (t : Tally) (room : Room) (a : Audio) (x : Accepted) : Type 0 where

@@ -1,36 +1,39 @@
 -- A PACKET THAT WAS CUT (specs/Claims.antt, `CutStands`): head and body are runs of trees of requests, so the cut theorem of runs gives the items, once for
--- each; the floors are the values that are whole. 17 and 19 cannot newly arise. Assumes nothing.
+-- each; the floors are the values that are whole. No refusal of the body can newly arise, nor 17 or 19. Assumes nothing.
 use Prim.Native.Nat.{ℕ, zero, suc, _-_, _≤_}
 use native.Mathlib.Omega.{arith}
 use borrow.Author.Tests.{leb-true, le-leb}
 use mathlib.Core.List.{List, [], _∷_, _++_, map, append-nil, append-assoc}
 use mathlib.Core.Logic.{_⊎_, inl, inr, ⊎-elim}
 use mathlib.Core.Path.{_≡_, refl, sym, ap, subst, _∙_}
+use lib.Dec.{eqb}
 use lib.ListN.{length, take, replicate, length-append}
 use Rattle.reading.specs.Outcome.{refusal, Outcome, ok, bad, then}
-use Rattle.reading.proofs.Outcomes.{then-ok, ok-is}
+use Rattle.reading.proofs.Outcomes.{then-ok, need-ok}
 use Rattle.limits.specs.declared.Limits.{Limits}
 use Rattle.identification.specs.declared.Identity.{Identity}
 use Rattle.setup.specs.Content.{Setup, lengthsOf}
 use Rattle.setup.specs.Layout.{Tables}
 use Rattle.setup.specs.inner.Decode.{decodeSetup}
 use Rattle.setup.specs.Later.{laterCall}
-use Rattle.requests.specs.Run.{read, Item, Run, run}
+use Rattle.requests.specs.Run.{read, Item, Run}
 use Rattle.requests.specs.Values.{wholeValues}
+use Rattle.requests.specs.Refusing.{valuesOf, cameTo}
 use Rattle.requests.specs.Claims.{SameOrPrefix}
 use Rattle.requests.proofs.Cuts.{cut-theorem}
 use Rattle.requests.proofs.Values.{sequence}
-use Rattle.floor_requests.specs.Requests.{FloorRead, unused, floorRequests}
+use Rattle.requests.proofs.Refusing.{values-begin}
+use Rattle.floor_requests.specs.Requests.{FloorRead, unused}
 use Rattle.residue_requests.specs.Listed.{residueWords, listed}
 use Rattle.residue_requests.proofs.ListedLaws.{words-append}
 use Rattle.audio.specs.declared.Tally.{Tally}
 use Rattle.audio.specs.declared.Head.{Head}
-use Rattle.audio.specs.Head.{headRequests, headOf}
-use Rattle.audio.specs.Packet.{Audio, channelFloors, bodyRequests, byChannel, bodyAt, headRun, audio}
+use Rattle.audio.specs.Head.{headRequests}
+use Rattle.audio.specs.Packet.{Audio, channelFloors, channelRequests, bodyRequests, bodyRun, byChannel, bodyAt, headRun, standing, audio}
 use Rattle.audio.specs.Tally.{counted}
 use Rattle.audio.specs.Call.{Room, Accepted, judged, accepted}
 use Rattle.audio.specs.Claims.{CutPacket, CutStands}
-use Rattle.audio.proofs.Accepted.{Judged, packet-accepted}
+use Rattle.audio.proofs.Accepted.{stood, Judged, packet-accepted}
 
 -- FLOORS: those before the cut, and unused ones
 pub by-channel-long : (n : ℕ) (l : List FloorRead) → length (byChannel n l) ≡ n
@@ -67,18 +70,22 @@ unfolding SameOrPrefix
 begun r′ r (inl e) = ([], rw e (sym (append-nil (r .items))))
 begun r′ r (inr p) = (p .rest, p .items)
 
+-- its values before a refusal begin those of the whole packet
+values-begun : (l′ l : List (Outcome FloorRead)) → (rest : List (Outcome FloorRead)) × (l ≡ l′ ++ rest) → (rest : List FloorRead) × (valuesOf l ≡ valuesOf l′ ++ rest)
+values-begun l′ l p = let v = values-begin l′ (p .0) in (v .0, ap valuesOf (p .1) ∙ v .1)
+
 module _ (channels : ℕ) (c : Setup) (s : List ℕ) (m : ℕ) (l : List Item) (h : Head) (k : ℕ) where
   body-cut : CutPacket (bodyAt channels c s l h k) (bodyAt channels c (take m s) l h k)
   unfolding bodyAt
   body-cut =
       let reads = read (lengthsOf c) in
       let floors = channelFloors channels c h in
-      let body = bodyRequests channels c h in
-      let v = sequence (lengthsOf c) floorRequests floors .prefix s m k in
-      let w = begun (run reads body (take m s) k) (run reads body s k) (cut-theorem (lengthsOf c) body .prefix s m k) in
-      let cut = run reads body (take m s) k .items in
-      let items : l ++ run reads body s k .items ≡ (l ++ cut) ++ w .0 = ap (λ (t : List Item). l ++ t) (w .1) ∙ sym (append-assoc l cut (w .0)) in
-      let values = wholeValues reads floorRequests floors (take m s) k in
+      let whole = wholeValues reads channelRequests floors s k in
+      let v = values-begun (wholeValues reads channelRequests floors (take m s) k) whole (sequence (lengthsOf c) channelRequests floors .prefix s m k) in
+      let w = begun (bodyRun channels c (take m s) h k) (bodyRun channels c s h k) (cut-theorem (lengthsOf c) (bodyRequests channels c h) .prefix s m k) in
+      let cut = bodyRun channels c (take m s) h k .items in
+      let items : l ++ bodyRun channels c s h k .items ≡ (l ++ cut) ++ w .0 = ap (λ (t : List Item). l ++ t) (w .1) ∙ sym (append-assoc l cut (w .0)) in
+      let values = valuesOf (wholeValues reads channelRequests floors (take m s) k) in
       record {
         head = refl;
         before = length values;
@@ -88,27 +95,44 @@ module _ (channels : ℕ) (c : Setup) (s : List ℕ) (m : ℕ) (l : List Item) (
         codewords = ap (λ (t : List Item). map listed (residueWords t)) items ∙ codewords-append (l ++ cut) (w .0);
       }
 
+-- IT STANDS where the whole packet did: its run is the same, or a cut ended it
+stands-again : (o : Outcome (Unit × ℕ)) (b b′ : Audio) {a : Audio} → standing o b ≡ ok a → standing o b′ ≡ ok b′
+unfolding standing
+stands-again (ok x) b b′ e = refl
+stands-again (bad z) b b′ e = rw (need-ok (eqb (z .number) 1) z (ok b) e .0)
+
+body-stands : (r′ r : Run (Outcome Unit)) → SameOrPrefix r′ r → (b b′ : Audio) {a : Audio} → standing (cameTo r) b ≡ ok a → standing (cameTo r′) b′ ≡ ok b′
+unfolding SameOrPrefix standing cameTo
+body-stands r′ r (inl f) b b′ e = rw f (stands-again (cameTo r) b b′ e)
+body-stands r′ r (inr p) b b′ e = rw (p .cut)
+
 -- THE PACKET: a cut in the head is refusal 1
 module _ (i : Identity) (c : Setup) (s : List ℕ) (m : ℕ) (a : Audio) where
-  -- what a run of the head comes to, in packet p
+  -- behind a head in packet p, with the head's items
+  abbrev packetAt : List ℕ → List Item → Head × ℕ → Outcome Audio
+  packetAt p l h = standing (cameTo (bodyRun (i .channels) c p (h .0) (h .1))) (bodyAt (i .channels) c p l (h .0) (h .1))
+
+  -- what a run of the head comes to
   abbrev packetOf : List ℕ → Run (Outcome Head) → Outcome Audio
-  packetOf p r = then (headOf r) (λ h. ok (bodyAt (i .channels) c p (r .items) (h .0) (h .1)))
+  packetOf p r = then (cameTo r) (λ h. packetAt p (r .items) h)
 
   abbrev Cut : Outcome Audio → Type 0
   Cut o = ((place : ℕ) × (o ≡ bad (refusal 1 place))) ⊎ ((a′ : Audio) × (o ≡ ok a′) × CutPacket a a′)
 
   packet-cut : (r′ r : Run (Outcome Head)) → SameOrPrefix r′ r → packetOf s r ≡ ok a → Cut (packetOf (take m s) r′)
-  unfolding SameOrPrefix headOf
+  unfolding SameOrPrefix cameTo
   packet-cut r′ r (inr p) e = inl (r′ .position, rw (p .cut))
   packet-cut r′ r (inl f) e =
-      let x = then-ok (headOf r) _ e in
+      let x = then-ok (cameTo r) _ e in
       let h = x .0 .0 in
       let k = x .0 .1 in
+      let b = bodyAt (i .channels) c s (r .items) h k in
       let a′ = bodyAt (i .channels) c (take m s) (r .items) h k in
       let g = body-cut (i .channels) c s m (r .items) h k in
-      let read : packetOf (take m s) r ≡ ok a′ =
-      ap (λ (o : Outcome (Head × ℕ)). then o (λ y. ok (bodyAt (i .channels) c (take m s) (r .items) (y .0) (y .1)))) (x .1) in
-      rw f (inr (a′, read, subst (λ (y : Audio). CutPacket y a′) (ok-is (x .2)) g))
+      let same = cut-theorem (lengthsOf c) (bodyRequests (i .channels) c h) .prefix s m k in
+      let stands = body-stands (bodyRun (i .channels) c (take m s) h k) (bodyRun (i .channels) c s h k) same b a′ (x .2) in
+      let read : packetOf (take m s) r ≡ ok a′ = ap (λ (o : Outcome (Head × ℕ)). then o (λ y. packetAt (take m s) (r .items) y)) (x .1) ∙ stands in
+      rw f (inr (a′, read, subst (λ (y : Audio). CutPacket y a′) (stood (cameTo (bodyRun (i .channels) c s h k)) b (x .2)) g))
 
   audio-cut : audio i c s ≡ ok a → Cut (audio i c (take m s))
   unfolding audio

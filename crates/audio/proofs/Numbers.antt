@@ -1,15 +1,12 @@
--- EVERY REFUSAL of the audio call has a number, so that 0 stands for acceptance alone (specs/Claims.antt, `numbered`). A head's tree ends in outcomes that have
--- one, and so does every run of it; what is judged behind it names its numbers. Assumes nothing.
+-- EVERY REFUSAL of the audio call has a number, so that 0 stands for acceptance alone (specs/Claims.antt, `numbered`). The trees of head and body end in outcomes
+-- that have one, and so does every run of them; what is judged behind them names its numbers. Assumes nothing.
 use Prim.Native.Nat.{ℕ, _+_, _*_, _/_, _^_, _≤_}
 use native.Mathlib.Omega.{arith}
-use mathlib.Core.Bool.{Bool, true, false, cond}
 use mathlib.Core.List.{List}
-use mathlib.Core.Option.{some}
 use mathlib.Core.Path.{_≡_}
 use lib.Dec.{eqb, ltb, leb}
 use lib.ListN.{length}
-use Rattle.reading.specs.Outcome.{Refusal, refusal, Outcome, ok, bad}
-use Rattle.reading.specs.Reader.{Reader}
+use Rattle.reading.specs.Outcome.{Refusal, refusal, Outcome, bad}
 use Rattle.reading.proofs.Outcomes.{Numbered, value, number, need-numbered, then-numbered}
 use Rattle.limits.specs.declared.Limits.{Limits}
 use Rattle.identification.specs.declared.Identity.{Identity}
@@ -20,57 +17,49 @@ use Rattle.setup.specs.inner.Decode.{decodeSetup}
 use Rattle.setup.specs.SoundTest.{soundTest}
 use Rattle.setup.specs.Later.{laterCall}
 use Rattle.setup.proofs.Numbers.{not-zero}
-use Rattle.requests.specs.Requests.{Request, Requests, done, ask, request, bind}
-use Rattle.requests.specs.Run.{Run, read, continued, run}
+use Rattle.requests.specs.Requests.{request, bind}
+use Rattle.requests.specs.Run.{read}
+use Rattle.requests.specs.Refusing.{lifted, inTurn}
+use Rattle.requests.proofs.Refusing.{EndsNumbered, either-ends, lifted-ends, then-ends, turn-ends, run-numbered}
+use Rattle.floor_requests.specs.Requests.{floorRequests}
 use Rattle.residue_requests.specs.Listed.{residueWords}
 use Rattle.audio.specs.declared.Head.{Head}
 use Rattle.audio.specs.declared.Tally.{Tally}
-use Rattle.audio.specs.Head.{modeAt, flagRequests, modeRequests, headRequests, headOr, headOf}
-use Rattle.audio.specs.Packet.{Audio, headRun, audio}
+use Rattle.audio.specs.Head.{modeAt, flagRequests, modeRequests, headRequests}
+use Rattle.audio.specs.Packet.{Audio, channelFloors, channelRequests, residuesAfter, bodyRequests, standing, audio}
 use Rattle.audio.specs.Tally.{tallySound, finished, counted}
 use Rattle.audio.specs.Call.{Room, judged, accepted}
-
--- a tree that ends in outcomes that have a number, where they are refusals
-EndsNumbered : Requests (Outcome Head) → Type 0
-EndsNumbered (done o) = Numbered o
-EndsNumbered (ask q f) = (v : ℕ) → EndsNumbered (f v)
-
-either : (t : Bool) (x y : Requests (Outcome Head)) → EndsNumbered x → EndsNumbered y → EndsNumbered (cond t x y)
-either true x y n m = n
-either false x y n m = m
-
--- a run of it: a cut is refusal 1
-module _ (reads : Request → Reader ℕ) (s : List ℕ) where
-  continued-numbered : (q : Request) (k : ℕ) (f : ℕ → ℕ → Run (Outcome Head)) → ((v n : ℕ) → Numbered (headOf (f v n))) → (o : Outcome (ℕ × ℕ))
-      → Numbered (headOf (continued q k o f))
-  unfolding headOf
-  continued-numbered q k f h (ok x) = h (x .0) (x .1)
-  continued-numbered q k f h (bad z) = number (refusal 1 k) (omega arith)
-
-  done-numbered : (k : ℕ) {o : Outcome Head} → Numbered o → Numbered (headOr (some o) k)
-  done-numbered k (value h) = value (h, k)
-  done-numbered k (number z w) = number z w
-
-  run-numbered : (x : Requests (Outcome Head)) → EndsNumbered x → (k : ℕ) → Numbered (headOf (run reads x s k))
-  unfolding headOf run EndsNumbered
-  run-numbered (done o) e k = done-numbered k e
-  run-numbered (ask q f) e k = continued-numbered q k (λ v n. run reads (f v) s n) (λ v n. run-numbered (f v) (e v) n) (reads q s k)
 
 -- THE HEAD's tree: 15 and 16
 head-ends : (i : Identity) (modes : List Mode) → EndsNumbered (headRequests i modes)
 unfolding headRequests modeRequests flagRequests bind request EndsNumbered
 head-ends i modes =
     λ type.
-    either (eqb type 0) _ _
+    either-ends (eqb type 0) _ _
     (λ mode.
-    either (ltb mode (length modes)) _ _
-    (either (eqb (modeAt modes mode .blockflag) 0) _ _ (value _) (λ previous. λ next. value _))
+    either-ends (ltb mode (length modes)) _ _
+    (either-ends (eqb (modeAt modes mode .blockflag) 0) _ _ (value _) (λ previous. λ next. value _))
     (number (refusal 16 1) (omega arith)))
     (number (refusal 15 0) (omega arith))
 
+-- THE BODY's: neither floors of type 1 nor residues refuse anything
+body-ends : (channels : ℕ) (c : Setup) (h : Head) → EndsNumbered (bodyRequests channels c h)
+unfolding bodyRequests channelRequests
+body-ends channels c h =
+    then-ends (inTurn channelRequests (channelFloors channels c h)) (λ floors. lifted (residuesAfter c h floors))
+    (turn-ends channelRequests (λ f. lifted-ends (floorRequests f)) (channelFloors channels c h)) (λ floors. lifted-ends (residuesAfter c h floors))
+
+standing-numbered : {o : Outcome (Unit × ℕ)} → Numbered o → (a : Audio) → Numbered (standing o a)
+unfolding standing
+standing-numbered (value x) a = value a
+standing-numbered (number z w) a = need-numbered (eqb (z .number) 1) z w (value a)
+
 packet-numbered : (i : Identity) (c : Setup) (s : List ℕ) → Numbered (audio i c s)
 unfolding audio
-packet-numbered i c s = then-numbered (run-numbered (read (lengthsOf c)) s (headRequests i (c .modes)) (head-ends i (c .modes)) 0) (λ h. value _)
+packet-numbered i c s =
+    let reads = read (lengthsOf c) in
+    then-numbered (run-numbered reads s (headRequests i (c .modes)) (head-ends i (c .modes)) 0) (λ h.
+    standing-numbered (run-numbered reads s (bodyRequests (i .channels) c (h .0)) (body-ends (i .channels) c (h .0)) (h .1)) _)
 
 -- what is judged behind it: 17 twice, 19
 judged-numbered : (channels : ℕ) (t : Tally) (room : Room) (a : Audio) → Numbered (judged channels t room a)

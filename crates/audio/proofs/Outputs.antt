@@ -9,7 +9,6 @@ use lib.ListN.{length, getD, replicate}
 use Rattle.reading.specs.Outcome.{Outcome, ok, bad}
 use Rattle.reading.specs.Encoding.{Each}
 use Rattle.reading.specs.Pad.{pad}
-use Rattle.reading.proofs.Outcomes.{then-ok, ok-is}
 use Rattle.limits.specs.declared.Limits.{Limits}
 use Rattle.identification.specs.declared.Identity.{Identity}
 use Rattle.codeword.proofs.Laws.{read-used}
@@ -24,12 +23,12 @@ use Rattle.requests.specs.Requests.{Request, number, word, Requests, done, ask}
 use Rattle.requests.specs.Run.{read, Item, continued, run}
 use Rattle.floor_requests.specs.Requests.{FloorRead, unused, values}
 use Rattle.audio.specs.declared.Tally.{Tally}
-use Rattle.audio.specs.Head.{headRequests, headOf}
-use Rattle.audio.specs.Packet.{Audio, channelFloors, bodyRequests, bodyAt, headRun, audio}
+use Rattle.audio.specs.Head.{headRequests}
+use Rattle.audio.specs.Packet.{Audio, channelFloors, bodyRequests, bodyRun, bodyAt, headRun, audio}
 use Rattle.audio.specs.Curves.{pointsOf, curveOf, curvesOf}
 use Rattle.audio.specs.Call.{Room, Accepted, accepted, answered, audioCall}
 use Rattle.audio.specs.Claims.{NamesEntry, Outputs}
-use Rattle.audio.proofs.Accepted.{packet-accepted}
+use Rattle.audio.proofs.Accepted.{packet-read, packet-accepted}
 use Rattle.audio.proofs.UntilCut.{packet-until-cut}
 
 -- CURVES: a list of bytes
@@ -111,13 +110,14 @@ module _ (c : Setup) where
       go h (bad z) e = tt
 
   audio-named : (i : Identity) (s : List ℕ) (a : Audio) → audio i c s ≡ ok a → Each Named (a .items)
-  unfolding audio bodyAt
+  unfolding bodyAt
   audio-named i s a e =
-      let x = then-ok (headOf (headRun i c s)) _ e in
-      let body = bodyRequests (i .channels) c (x .0 .0) in
-      subst (λ (y : Audio). Each Named (y .items)) (ok-is (x .2))
-      (each-append Named (headRun i c s .items) (run (read (lengthsOf c)) body s (x .0 .1) .items)
-      (run-named (headRequests i (c .modes)) s 0) (run-named body s (x .0 .1)))
+      let x = packet-read i c s e in
+      let h = x .0 .0 in
+      let k = x .0 .1 in
+      subst (λ (y : Audio). Each Named (y .items)) (x .2)
+      (each-append Named (headRun i c s .items) (bodyRun (i .channels) c s h k .items)
+      (run-named (headRequests i (c .modes)) s 0) (run-named (bodyRequests (i .channels) c h) s k))
 
 -- ALL OF IT
 module _ (limits : Limits) (i : Identity) (t : Tables) (tally : Tally) (s : List ℕ) (room : Room) where

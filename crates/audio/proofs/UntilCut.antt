@@ -6,18 +6,20 @@ use mathlib.Core.Logic.{inl, inr}
 use mathlib.Core.Option.{Option, none, some}
 use mathlib.Core.Path.{_≡_, refl, ap, subst, _∙_}
 use Rattle.reading.specs.Outcome.{refusal, Outcome, ok, bad}
-use Rattle.reading.proofs.Outcomes.{then-ok, ok-is, not-both}
+use Rattle.reading.proofs.Outcomes.{ok-is, not-both}
 use Rattle.identification.specs.declared.Identity.{Identity}
 use Rattle.setup.specs.Content.{Setup, lengthsOf}
 use Rattle.requests.specs.Requests.{Request, Requests, done, ask}
 use Rattle.requests.specs.Run.{read, Item, Run, continued, run}
+use Rattle.requests.specs.Refusing.{onward, andThen, cameOr, cameTo}
 use Rattle.requests.specs.inner.Parts.{after, joined}
 use Rattle.requests.proofs.Laws.{run-bind}
 use Rattle.requests.proofs.Single.{read-refused}
 use Rattle.audio.specs.declared.Head.{Head}
-use Rattle.audio.specs.Head.{headRequests, headOr, headOf}
-use Rattle.audio.specs.Packet.{Audio, bodyRequests, bodyAt, headRun, audio}
-use Rattle.audio.specs.Claims.{bodyOr, packetRequests, requestsMade, nextRequest, ReadUntilCut}
+use Rattle.audio.specs.Head.{headRequests}
+use Rattle.audio.specs.Packet.{Audio, bodyRequests, bodyRun, bodyAt, headRun, audio}
+use Rattle.audio.specs.Claims.{packetRequests, requestsMade, nextRequest, ReadUntilCut}
+use Rattle.audio.proofs.Accepted.{packet-read}
 
 module _ {A : Type 0} (lengths : ℕ → List ℕ) (s : List ℕ) where
   abbrev UntilCut : Requests A → Run A → Type 0
@@ -37,30 +39,32 @@ module _ {A : Type 0} (lengths : ℕ → List ℕ) (s : List ℕ) where
 
 -- HEAD AND BODY, one after the other, are the run of the one tree
 module _ (i : Identity) (c : Setup) (s : List ℕ) where
-  packet-run : (h : Head) (k : ℕ) → headOf (headRun i c s) ≡ ok (h, k)
+  packet-run : (h : Head) (k : ℕ) → cameTo (headRun i c s) ≡ ok (h, k)
       → (bodyAt (i .channels) c s (headRun i c s .items) h k .items ≡ run (read (lengthsOf c)) (packetRequests i c) s 0 .items)
       × (bodyAt (i .channels) c s (headRun i c s .items) h k .position ≡ run (read (lengthsOf c)) (packetRequests i c) s 0 .position)
-  unfolding bodyAt packetRequests joined headOf
+  unfolding bodyAt packetRequests andThen joined cameTo
   packet-run h k e =
-      rw (run-bind (read (lengthsOf c)) s (headRequests i (c .modes)) (λ o. bodyOr (i .channels) c o) 0)
+      rw (run-bind (read (lengthsOf c)) s (headRequests i (c .modes)) follows 0)
       (go (headRun i c s .items) (headRun i c s .position) (headRun i c s .value) e)
     where
-      whole : List Item → ℕ → Option (Outcome Head) → Run Unit
-      whole l n v = after l n v (λ o m. run (read (lengthsOf c)) (bodyOr (i .channels) c o) s m)
+      follows : Outcome Head → Requests (Outcome Unit)
+      follows o = onward o (λ g. bodyRequests (i .channels) c g)
 
-      go : (l : List Item) (n : ℕ) (v : Option (Outcome Head)) → headOr v n ≡ ok (h, k)
-          → (l ++ run (read (lengthsOf c)) (bodyRequests (i .channels) c h) s k .items ≡ whole l n v .items)
-          × (run (read (lengthsOf c)) (bodyRequests (i .channels) c h) s k .position ≡ whole l n v .position)
+      whole : List Item → ℕ → Option (Outcome Head) → Run (Outcome Unit)
+      whole l n v = after l n v (λ o m. run (read (lengthsOf c)) (follows o) s m)
+
+      go : (l : List Item) (n : ℕ) (v : Option (Outcome Head)) → cameOr v n ≡ ok (h, k)
+          → (l ++ bodyRun (i .channels) c s h k .items ≡ whole l n v .items)
+          × (bodyRun (i .channels) c s h k .position ≡ whole l n v .position)
       go l n (some (ok g)) e = rw (ap (λ (y : Head × ℕ). y .0) (ok-is e), ap (λ (y : Head × ℕ). y .1) (ok-is e)) (refl, refl)
       go l n (some (bad z)) e = absurd (not-both (bad z) e refl)
       go l n none e = absurd (not-both (bad (refusal 1 n)) e refl)
 
   pub packet-until-cut : (a : Audio) → audio i c s ≡ ok a → ReadUntilCut (lengthsOf c) (packetRequests i c) s (a .items) (a .position)
-  unfolding audio
   packet-until-cut a e =
-      let x = then-ok (headOf (headRun i c s)) _ e in
+      let x = packet-read i c s e in
       let p = packet-run (x .0 .0) (x .0 .1) (x .1) in
       let b = bodyAt (i .channels) c s (headRun i c s .items) (x .0 .0) (x .0 .1) in
       let t : ReadUntilCut (lengthsOf c) (packetRequests i c) s (b .items) (b .position) =
       rw (p .0, p .1) (run-until-cut (lengthsOf c) s (packetRequests i c) 0) in
-      subst (λ (y : Audio). ReadUntilCut (lengthsOf c) (packetRequests i c) s (y .items) (y .position)) (ok-is (x .2)) t
+      subst (λ (y : Audio). ReadUntilCut (lengthsOf c) (packetRequests i c) s (y .items) (y .position)) (x .2) t

@@ -13,12 +13,12 @@ use Rattle.setup.specs.Content.{Setup, lengthsOf}
 use Rattle.setup.specs.Layout.{Tables}
 use Rattle.setup.specs.inner.Decode.{decodeSetup}
 use Rattle.setup.specs.Later.{laterCall}
-use Rattle.requests.specs.Requests.{Request, number, word, Requests, done, ask, bind}
+use Rattle.requests.specs.Requests.{Request, number, word, Requests, done, ask}
 use Rattle.requests.specs.Run.{Item, read}
+use Rattle.requests.specs.Refusing.{andThen}
 use Rattle.floor_requests.specs.Requests.{unused}
 use Rattle.residue_requests.specs.Listed.{residueWords, listed}
 use Rattle.audio.specs.declared.Tally.{Tally}
-use Rattle.audio.specs.declared.Head.{Head}
 use Rattle.audio.specs.Head.{headRequests}
 use Rattle.audio.specs.Packet.{Audio, bodyRequests}
 use Rattle.audio.specs.Call.{Room, Accepted, accepted, audioCall}
@@ -47,12 +47,8 @@ NamesEntry c (number width) answer = Unit {0}
 NamesEntry c (word book role) answer = answer < length (lengthsOf c book)
 
 -- ALL THAT IS ASKED OF A PACKET, head and body, as one tree of requests
-abbrev pub bodyOr : ℕ → Setup → Outcome Head → Requests Unit
-bodyOr channels c (ok h) = bodyRequests channels c h
-bodyOr channels c (bad z) = done tt
-
-unfoldable pub packetRequests : Identity → Setup → Requests Unit
-packetRequests i c = bind (headRequests i (c .modes)) (λ o. bodyOr (i .channels) c o)
+unfoldable pub packetRequests : Identity → Setup → Requests (Outcome Unit)
+packetRequests i c = andThen (headRequests i (c .modes)) (λ h. bodyRequests (i .channels) c h)
 
 module _ {A : Type 0} where
   -- the requests that a tree makes on these answers, each after the answers before it; and the one that it makes next, none where it has ended

@@ -19,20 +19,21 @@ use Rattle.floor_values.specs.Values.{firstBits}
 use Rattle.requests.specs.Requests.{request, bind, many, each}
 use Rattle.requests.specs.Run.{read, run}
 use Rattle.requests.specs.Values.{wholeValues}
+use Rattle.requests.specs.Refusing.{lifted, andThen, inTurn, valuesOf, cameTo}
 use Rattle.floor_requests.specs.Requests.{classRequests, valueRequests, partitionRequests, usedRequests, floorRequests}
 use Rattle.residue_requests.specs.Requests as residue
 use Rattle.residue_requests.specs.Listed.{residueWords, listed}
-use Rattle.audio.specs.Head.{modeAt, blockSize, flagRequests, modeRequests, headRequests, headOf, window}
+use Rattle.audio.specs.Head.{modeAt, blockSize, flagRequests, modeRequests, headRequests, window}
 use Rattle.audio.specs.Channels.{submapOf, floorNumber, floorsOf, isUsed, couple, coupled, channelsOf, liveOf, vectorSize, vectorCount, submapRequests, allRequests}
-use Rattle.audio.specs.Packet.{mappingOf, channelFloors, residuesAfter, bodyRequests, byChannel, bodyAt, audio}
+use Rattle.audio.specs.Packet.{mappingOf, channelFloors, channelRequests, residuesAfter, bodyRequests, byChannel, bodyAt, standing, audio}
 use Rattle.audio.specs.Tally.{tallySound, finished, counted}
 use Rattle.audio.specs.Curves.{curveOf, curvesOf}
 use Rattle.audio.specs.Call.{judged, accepted, answered, audioBy}
 
 unfoldable pub computation : Unit {0}
 unfolding
-    audioBy answered accepted judged audio bodyAt byChannel bodyRequests residuesAfter channelFloors mappingOf headOf headRequests modeRequests
-    flagRequests blockSize modeAt window submapOf floorNumber floorsOf isUsed couple coupled channelsOf liveOf vectorSize vectorCount submapRequests
+    audioBy answered accepted judged audio standing bodyAt byChannel bodyRequests residuesAfter channelRequests channelFloors mappingOf lifted andThen
+    inTurn valuesOf cameTo headRequests modeRequests flagRequests blockSize modeAt window submapOf floorNumber floorsOf isUsed couple coupled channelsOf liveOf vectorSize vectorCount submapRequests
     allRequests tallySound finished counted curveOf curvesOf count lowest rows pad mapped tabulate bitAt valueAt field highestSet ilog assignment.used
     assignment.isUsed assignment.isLone assignment.firstUsed isCodeword entryOf matching codeword lengthsOf dimensionsOf offset line searched takesLow
     takesHigh lowNeighbour highNeighbour final.rangeOf final.predicted final.room final.unwrapped final.clamped final.flagged final.step final.steps

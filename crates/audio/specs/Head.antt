@@ -3,7 +3,6 @@
 use Prim.Native.Nat.{ℕ, _+_, _-_, _*_, _/_}
 use mathlib.Core.Bool.{Bool, cond, _&&_}
 use mathlib.Core.List.{List}
-use mathlib.Core.Option.{Option, none, some}
 use lib.Dec.{eqb, ltb}
 use lib.ListN.{length, getD}
 use Rattle.reading.specs.Outcome.{refusal, Outcome, ok, bad}
@@ -11,7 +10,6 @@ use Rattle.bits.specs.Ilog.{ilog}
 use Rattle.identification.specs.declared.Identity.{Identity}
 use Rattle.mode.specs.Content.{Mode, noMode}
 use Rattle.requests.specs.Requests.{number, Requests, done, request, bind}
-use Rattle.requests.specs.Run.{Run}
 use Rattle.audio.specs.declared.Head.{Head}
 use Rattle.audio.specs.declared.Window.{Window}
 
@@ -43,15 +41,6 @@ modeRequests i modes =
 -- THE HEAD: the type bit, 15 where it is 1, at bit 0; then the mode and the flags
 unfoldable pub headRequests : Identity → List Mode → Requests (Outcome Head)
 headRequests i modes = bind (request (number 1)) (λ type. cond (eqb type 0) (modeRequests i modes) (done (bad (refusal 15 0))))
-
--- the head that a run came to, with the position behind it; a cut is refusal 1 at the first bit of what is cut
-abbrev pub headOr : Option (Outcome Head) → ℕ → Outcome (Head × ℕ)
-headOr (some (ok h)) k = ok (h, k)
-headOr (some (bad z)) k = bad z
-headOr none k = bad (refusal 1 k)
-
-unfoldable pub headOf : Run (Outcome Head) → Outcome (Head × ℕ)
-headOf r = headOr (r .value) (r .position)
 
 -- THE WINDOW'S POINTS (003, 4.3.1). A side of a long block whose flag is not set laps with a short block
 abbrev pub lapsShort : Head → ℕ → Bool

@@ -3,11 +3,13 @@ use Prim.Native.Nat.{ℕ, _-_, _^_}
 use mathlib.Core.List.{List, [], _∷_, _++_}
 use mathlib.Core.Path.{_≡_, refl}
 use lib.ListN.{take, replicate}
-use Rattle.reading.specs.Outcome.{refusal, bad}
+use Rattle.reading.specs.Outcome.{refusal, ok, bad}
 use Rattle.setup.specs.Content.{lengthsOf}
 use Rattle.requests.specs.Run.{read, run}
+use Rattle.requests.specs.Refusing.{cameTo}
 use Rattle.audio.specs.declared.Tally.{Tally}
-use Rattle.audio.specs.Head.{headRequests, headOf, window}
+use Rattle.audio.specs.Head.{headRequests, window}
+use Rattle.audio.specs.Packet.{Audio, standing}
 use Rattle.audio.specs.Tally.{finished}
 use Rattle.audio.specs.Call.{Room, Left, audioBy}
 use Rattle.audio.specs.Computation.{computation}
@@ -26,6 +28,16 @@ pub figure-samples : finished (record { blocksize = 256; samples = 0 }) 2048 ≡
 unfolding finished
 figure-samples = refl
 
+-- whatever was read behind the head: a body that was read whole stands, and so does one that was cut at bit 30; refusal 21 at bit 30 refuses the packet
+pub record StandingVectors (a : Audio) : Type 0 where
+  pub whole : standing (ok (tt, 40)) a ≡ ok a
+  pub cut : standing (bad (refusal 1 30)) a ≡ ok a
+  pub refused : standing (bad (refusal 21 30)) a ≡ bad (refusal 21 30)
+
+pub which-stand : (a : Audio) → StandingVectors a
+unfolding standing
+which-stand a = record { whole = refl; cut = refl; refused = refl }
+
 abbrev called : Tally → List ℕ → Room → Left
 called t s room = audioBy small stereo t s room
 
@@ -42,7 +54,7 @@ pub record PacketVectors : Type 0 where
   -- EVERY WAY OUT: 1 for a packet of no bytes; 1 for a flag in bit 8, since 33 modes take 6 bits; 15; 16, since mode 3 is not set up
   pub empty : called (last 100) [] room ≡ leftBy 1 (last 100) room
   pub flag-cut :
-      headOf (run (read (lengthsOf small)) (headRequests stereo (replicate 33 (record { blockflag = 1; mapping = 0 }))) (0 ∷ []) 0) ≡ bad (refusal 1 8)
+      cameTo (run (read (lengthsOf small)) (headRequests stereo (replicate 33 (record { blockflag = 1; mapping = 0 }))) (0 ∷ []) 0) ≡ bad (refusal 1 8)
   pub type-bit : called (last 100) (0b1 ∷ []) room ≡ leftBy 15 (last 100) room
   pub no-mode : called (last 100) (0b110 ∷ []) room ≡ leftBy 16 (last 100) room
   -- 17: a place too few for the curves, or for the codewords; not with exact room

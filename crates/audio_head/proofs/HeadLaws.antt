@@ -18,7 +18,8 @@ use Rattle.bits.proofs.Answers.{value-is, refused-is}
 use Rattle.bits.proofs.Ilogs.{ilog-places}
 use Rattle.identification.specs.declared.Identity.{Identity}
 use Rattle.requests.specs.Run.{read, run}
-use Rattle.audio.specs.Head.{blockSize, headRequests, headOf}
+use Rattle.requests.specs.Refusing.{cameTo}
+use Rattle.audio.specs.Head.{blockSize, headRequests}
 use Rattle.audio.specs.declared.Head.{Head}
 use Rattle.audio_head.specs.declared.HeadRead.the-variants as H
 use Rattle.audio_head.specs.inner.Readers.{modesIn, blockflagIn, flagsReader, modeReader, headReader}
@@ -95,18 +96,18 @@ module _ (i : Identity) (n : ℕ) (t s : List ℕ) (k : Cursor) {w : ℕ} (b : w
 -- the whole head
 module _ (i : Identity) (n : ℕ) (t s : List ℕ) (k : Cursor) (z₀ : position k ≡ 0) {r : Field} (p : outcome r ≡ field 1 s (position k)) where
   pub type-cut : {z : Refusal} → r ≡ Refused z → (lengthsOf : ℕ → List ℕ)
-      → headRead (H.Refused z) ≡ headOf (run (read lengthsOf) (headRequests i (modesIn t n)) s 0)
+      → headRead (H.Refused z) ≡ cameTo (run (read lengthsOf) (headRequests i (modesIn t n)) s 0)
   unfolding headRead headReader
   type-cut q lengthsOf = rw (head-by-table lengthsOf s i n t, refused-is (place-as 1 s p z₀) q)
 
   module _ {type : ℕ} {k₁ : Cursor} (q : r ≡ Value type k₁) where
     pub type-wrong : (type ≡ 0 → ⊥) → (lengthsOf : ℕ → List ℕ)
-        → headRead (H.Refused (at 15 k)) ≡ headOf (run (read lengthsOf) (headRequests i (modesIn t n)) s 0)
+        → headRead (H.Refused (at 15 k)) ≡ cameTo (run (read lengthsOf) (headRequests i (modesIn t n)) s 0)
     unfolding headRead headReader
     type-wrong h lengthsOf = rw (head-by-table lengthsOf s i n t, value-is (place-as 1 s p z₀) q, ne-eqb _ _ h, z₀)
 
     pub type-right : type ≡ 0 → {o : Outcome (Head × ℕ)} → o ≡ modeReader i n (blockflagIn t) s (position k₁) → (lengthsOf : ℕ → List ℕ)
-        → o ≡ headOf (run (read lengthsOf) (headRequests i (modesIn t n)) s 0)
+        → o ≡ cameTo (run (read lengthsOf) (headRequests i (modesIn t n)) s 0)
     unfolding headReader
     type-right h e lengthsOf = rw (head-by-table lengthsOf s i n t, value-is (place-as 1 s p z₀) q, eq-eqb _ _ h) e
 

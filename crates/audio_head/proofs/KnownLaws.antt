@@ -18,8 +18,9 @@ use Rattle.bits.proofs.Fields.{field-ok}
 use Rattle.identification.specs.declared.Identity.{Identity}
 use Rattle.mode.specs.Content.{Mode}
 use Rattle.requests.specs.Run.{read, run}
+use Rattle.requests.specs.Refusing.{cameTo}
 use Rattle.audio.specs.declared.Head.{Head}
-use Rattle.audio.specs.Head.{modeAt, headWith, headRequests, headOf}
+use Rattle.audio.specs.Head.{modeAt, headWith, headRequests}
 use Rattle.audio_head.specs.declared.HeadRead.{HeadRead}
 use Rattle.audio_head.specs.declared.HeadRead.the-variants as H
 use Rattle.audio_head.specs.inner.Readers.{flagsReader, modeReader, headReader}
@@ -67,11 +68,11 @@ module _ (i : Identity) (modes : List Mode) (s : List ℕ) where
   reader-known e = let type = then-ok (judged (λ v. eqb v 0) 15 (field 1) s 0) _ e in mode-known (type .0 .1) (type .2)
 
   -- of a run
-  pub head-known : (lengthsOf : ℕ → List ℕ) {x : Head × ℕ} → headOf (run (read lengthsOf) (headRequests i modes) s 0) ≡ ok x → HeadKnown i modes (x .0)
+  pub head-known : (lengthsOf : ℕ → List ℕ) {x : Head × ℕ} → cameTo (run (read lengthsOf) (headRequests i modes) s 0) ≡ ok x → HeadKnown i modes (x .0)
   head-known lengthsOf e = reader-known (sym (head-run lengthsOf s i modes (λ m. modeAt modes m .blockflag) (λ m h. refl)) ∙ e)
 
   -- of the program's answer
   pub value-known : (lengthsOf : ℕ → List ℕ) {r : HeadRead} {h : Head} {c : Cursor}
-      → headRead r ≡ headOf (run (read lengthsOf) (headRequests i modes) s 0) → r ≡ H.Value h c → HeadKnown i modes h
+      → headRead r ≡ cameTo (run (read lengthsOf) (headRequests i modes) s 0) → r ≡ H.Value h c → HeadKnown i modes h
   unfolding headRead
   value-known lengthsOf {r} {h} {c} e q = head-known lengthsOf {x = (h, position c)} (sym e ∙ ap headRead q)

@@ -20,8 +20,9 @@ use Rattle.setup.specs.Layout.{Tables}
 use Rattle.setup.specs.inner.Decode.{decodeRows, decodeSetup}
 use Rattle.requests.specs.Requests.{Requests, number, done, request, bind}
 use Rattle.requests.specs.Run.{continued, read, run}
+use Rattle.requests.specs.Refusing.{cameTo}
 use Rattle.audio.specs.declared.Head.{Head}
-use Rattle.audio.specs.Head.{modeAt, headWith, flagRequests, modeRequests, headRequests, headOf}
+use Rattle.audio.specs.Head.{modeAt, headWith, flagRequests, modeRequests, headRequests}
 use Rattle.audio_head.specs.inner.Readers.{modesIn, blockflagIn, flagsReader, modeReader, headReader}
 
 -- so many items are decoded, and each from its row
@@ -61,27 +62,27 @@ then-same (bad z) f g e = refl
 module _ (lengthsOf : ℕ → List ℕ) (s : List ℕ) where
   -- one field, and the requests that follow it
   field-first : (w : ℕ) (f : ℕ → Requests (Outcome Head)) (k : ℕ)
-      → headOf (run (read lengthsOf) (bind (request (number w)) f) s k) ≡ then (field w s k) (λ x. headOf (run (read lengthsOf) (f (x .0)) s (x .1)))
-  unfolding headOf run request bind read
+      → cameTo (run (read lengthsOf) (bind (request (number w)) f) s k) ≡ then (field w s k) (λ x. cameTo (run (read lengthsOf) (f (x .0)) s (x .1)))
+  unfolding cameTo run request bind read
   field-first w f k = go (field w s k) refl
     where
       go : (o : Outcome (ℕ × ℕ)) → field w s k ≡ o
-          → headOf (continued (number w) k o (λ v n. run (read lengthsOf) (f v) s n)) ≡ then o (λ x. headOf (run (read lengthsOf) (f (x .0)) s (x .1)))
+          → cameTo (continued (number w) k o (λ v n. run (read lengthsOf) (f v) s n)) ≡ then o (λ x. cameTo (run (read lengthsOf) (f (x .0)) s (x .1)))
       go (ok x) e = refl
       go (bad z) e = ap bad (sym (field-bad s k w e .why))
 
   module _ (i : Identity) where
-    flags-run : (mode flag k : ℕ) → headOf (run (read lengthsOf) (flagRequests i mode flag) s k) ≡ flagsReader i mode flag s k
-    unfolding flagRequests flagsReader headOf run
+    flags-run : (mode flag k : ℕ) → cameTo (run (read lengthsOf) (flagRequests i mode flag) s k) ≡ flagsReader i mode flag s k
+    unfolding flagRequests flagsReader cameTo run
     flags-run mode flag k = go (eqb flag 0)
       where
         next : (previous k : ℕ)
-            → headOf (run (read lengthsOf) (bind (request (number 1)) (λ next. done (ok (headWith i mode flag previous next)))) s k)
+            → cameTo (run (read lengthsOf) (bind (request (number 1)) (λ next. done (ok (headWith i mode flag previous next)))) s k)
             ≡ then (field 1 s k) (λ next. ok (headWith i mode flag previous (next .0), next .1))
         next previous k = field-first 1 (λ next. done (ok (headWith i mode flag previous next))) k
 
         go : (t : Bool)
-            → headOf (run (read lengthsOf) (cond t (done (ok (headWith i mode 0 0 0)))
+            → cameTo (run (read lengthsOf) (cond t (done (ok (headWith i mode 0 0 0)))
             (bind (request (number 1)) (λ previous. bind (request (number 1)) (λ next. done (ok (headWith i mode flag previous next)))))) s k)
             ≡ cond t (ok (headWith i mode 0 0 0, k))
             (then (field 1 s k) (λ previous. then (field 1 s (previous .1)) (λ next. ok (headWith i mode flag (previous .0) (next .0), next .1))))
@@ -96,42 +97,42 @@ module _ (lengthsOf : ℕ → List ℕ) (s : List ℕ) where
 
     -- the mode stands at bit 1
     mode-run : (modes : List Mode) (flagOf : ℕ → ℕ) → ((m : ℕ) → m < length modes → modeAt modes m .blockflag ≡ flagOf m) → (k : ℕ) → k ≡ 1
-        → headOf (run (read lengthsOf) (modeRequests i modes) s k) ≡ modeReader i (length modes) flagOf s k
-    unfolding modeRequests modeReader headOf run
+        → cameTo (run (read lengthsOf) (modeRequests i modes) s k) ≡ modeReader i (length modes) flagOf s k
+    unfolding modeRequests modeReader cameTo run
     mode-run modes flagOf same k e = field-first (ilog (length modes - 1)) (chosen modes) k ∙ go (field (ilog (length modes - 1)) s k)
       where
         by-test : (m n : ℕ) (t : Bool) → ltb m (length modes) ≡ t
-            → headOf (run (read lengthsOf) (cond t (flagRequests i m (modeAt modes m .blockflag)) (done (bad (refusal 16 1)))) s n)
+            → cameTo (run (read lengthsOf) (cond t (flagRequests i m (modeAt modes m .blockflag)) (done (bad (refusal 16 1)))) s n)
             ≡ then {A = ℕ × ℕ} (need t (refusal 16 k) (ok (m, n))) (λ x. flagsReader i (x .0) (flagOf (x .0)) s (x .1))
         by-test m n true p = flags-run m (modeAt modes m .blockflag) n ∙ ap (λ (f : ℕ). flagsReader i m f s n) (same m (ltb-true _ _ p))
         by-test m n false p = ap (λ (j : ℕ). bad (refusal 16 j)) (sym e)
 
         go : (o : Outcome (ℕ × ℕ))
-            → then o (λ x. headOf (run (read lengthsOf) (chosen modes (x .0)) s (x .1)))
+            → then o (λ x. cameTo (run (read lengthsOf) (chosen modes (x .0)) s (x .1)))
             ≡ then (then o (λ x. need (ltb (x .0) (length modes)) (refusal 16 k) (ok x))) (λ x. flagsReader i (x .0) (flagOf (x .0)) s (x .1))
         go (ok x) = by-test (x .0) (x .1) (ltb (x .0) (length modes)) refl
         go (bad z) = refl
 
     pub head-run : (modes : List Mode) (flagOf : ℕ → ℕ) → ((m : ℕ) → m < length modes → modeAt modes m .blockflag ≡ flagOf m)
-        → headOf (run (read lengthsOf) (headRequests i modes) s 0) ≡ headReader i (length modes) flagOf s
-    unfolding headRequests headReader headOf run
+        → cameTo (run (read lengthsOf) (headRequests i modes) s 0) ≡ headReader i (length modes) flagOf s
+    unfolding headRequests headReader cameTo run
     head-run modes flagOf same = field-first 1 (λ type. cond (eqb type 0) (modeRequests i modes) (done (bad (refusal 15 0)))) 0 ∙ go (field 1 s 0) refl
       where
         by-test : (n : ℕ) → n ≡ 1 → (v : ℕ) (t : Bool)
-            → headOf (run (read lengthsOf) (cond t (modeRequests i modes) (done (bad (refusal 15 0)))) s n)
+            → cameTo (run (read lengthsOf) (cond t (modeRequests i modes) (done (bad (refusal 15 0)))) s n)
             ≡ then {A = ℕ × ℕ} (need t (refusal 15 0) (ok (v, n))) (λ x. modeReader i (length modes) flagOf s (x .1))
         by-test n e v true = mode-run modes flagOf same n e
         by-test n e v false = refl
 
         go : (o : Outcome (ℕ × ℕ)) → field 1 s 0 ≡ o
-            → then o (λ x. headOf (run (read lengthsOf) (cond (eqb (x .0) 0) (modeRequests i modes) (done (bad (refusal 15 0)))) s (x .1)))
+            → then o (λ x. cameTo (run (read lengthsOf) (cond (eqb (x .0) 0) (modeRequests i modes) (done (bad (refusal 15 0)))) s (x .1)))
             ≡ then (then o (λ x. need (eqb (x .0) 0) (refusal 15 0) (ok x))) (λ x. modeReader i (length modes) flagOf s (x .1))
         go (ok x) e = by-test (x .1) (field-ok s 0 1 e .next) (x .0) (eqb (x .0) 0)
         go (bad z) e = refl
 
 -- THE HEAD BY A TABLE OF MODES
 pub head-by-table : (lengthsOf : ℕ → List ℕ) (s : List ℕ) (i : Identity) (n : ℕ) (t : List ℕ)
-    → headOf (run (read lengthsOf) (headRequests i (modesIn t n)) s 0) ≡ headReader i n (blockflagIn t) s
+    → cameTo (run (read lengthsOf) (headRequests i (modesIn t n)) s 0) ≡ headReader i n (blockflagIn t) s
 unfolding modesIn blockflagIn
 head-by-table lengthsOf s i n t =
     let l = decoded-length 2 decodeMode n t in

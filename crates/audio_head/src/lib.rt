@@ -12,7 +12,8 @@ ghost use mathlib.Core.List.{List};
 ghost use mathlib.Core.Path.{_≡_};
 ghost use Rattle.bits.specs.inner.Cursors.{position};
 ghost use Rattle.requests.specs.Run.{read, run};
-ghost use Rattle.audio.specs.Head.{blockSize, headRequests, headOf};
+ghost use Rattle.requests.specs.Refusing.{cameTo};
+ghost use Rattle.audio.specs.Head.{blockSize, headRequests};
 ghost use Rattle.audio_head.specs.inner.Readers.{modesIn, blockflagIn, flagsReader, modeReader};
 ghost use Rattle.audio_head.specs.inner.Answers.{headRead};
 
@@ -112,7 +113,7 @@ fn read_mode(
 pub fn read_head(packet: &[u8], identity: Identity, mode_count: u32, modes: &[u8]) -> HeadRead
     requires { ⌜ (1 ≤ «mode_count») × («mode_count» ≤ 64) ⌝ }
     ensures { λ r. ⌜ ((lengthsOf : ℕ → List ℕ)
-        → headRead r ≡ headOf (run (read lengthsOf) (headRequests identity (modesIn (now (modes .entry)) «mode_count»)) (now (packet .entry)) 0)) ⌝ }
+        → headRead r ≡ cameTo (run (read lengthsOf) (headRequests identity (modesIn (now (modes .entry)) «mode_count»)) (now (packet .entry)) 0)) ⌝ }
 {
     let start = Cursor::start();
     match start.bit(packet) {

@@ -23,7 +23,8 @@ use Rattle.setup_rows.specs.inner.Rows.{RowsReadable}
 use Rattle.audio.specs.declared.Head.{Head}
 use Rattle.audio.specs.Head.{modeAt}
 use Rattle.audio.specs.Channels.{submapOf, floorNumber, floorsOf, isUsed, coupled, allRequests}
-use Rattle.audio.specs.Packet.{mappingOf, channelFloors, residuesAfter, bodyRequests}
+use Rattle.audio.specs.Packet.{mappingOf, channelFloors, residuesAfter}
+use Rattle.audio.specs.inner.Plain.{plainBody}
 use Rattle.audio_floors.proofs.Agreement.{floors-agree}
 use Rattle.audio_residues.proofs.RequestLaws.{same-residues}
 use Rattle.audio_residues.specs.inner.Reading.{residueNumber}
@@ -64,8 +65,8 @@ module _ {limits : Limits} {channels : ℕ} {t : Tables} {c : Setup} (x : RowsRe
       (λ j k. x .residues (getD (m .submaps) j noSubmap .residue) (s .residue-set-up j k) .content)
 
   -- THE BODY
-  pub body-is : bodyIn (t .books) (t .floors) (t .residues) (t .plans) (t .mappings) number channels (h .blocksize / 2) ≡ bodyRequests channels c h
-  unfolding bodyIn bodyRequests
+  pub body-is : bodyIn (t .books) (t .floors) (t .residues) (t .plans) (t .mappings) number channels (h .blocksize / 2) ≡ plainBody channels c h
+  unfolding bodyIn plainBody
   body-is =
       ap (λ (fs : List Floor). bind (each floorRequests fs) (λ vs. residuesIn (t .books) (t .residues) (t .plans) (t .mappings) number (h .blocksize / 2) vs)) floors-are
       ∙ bind-same (each floorRequests (channelFloors channels c h)) (λ vs. residuesIn (t .books) (t .residues) (t .plans) (t .mappings) number (h .blocksize / 2) vs) (λ vs. residuesAfter c h vs) residues-are
@@ -93,12 +94,12 @@ module _ {limits : Limits} {channels : ℕ} {t : Tables} {c : Setup} (x : RowsRe
       → BodyIs (run (read (lengthsIn (t .books) (t .lengths))) (bodyIn (t .books) (t .floors) (t .residues) (t .plans) (t .mappings) number channels (h .blocksize / 2)) s k)
       (floorsIn (t .mappings) (t .floors) number channels)
       (wholeValues (read (lengthsIn (t .books) (t .lengths))) floorRequests (floorsIn (t .mappings) (t .floors) number channels) s k) channels (h .blocksize / 2) r entry exit list list′
-      → BodyIs (run (read (lengthsOf c)) (bodyRequests channels c h) s k) (channelFloors channels c h)
+      → BodyIs (run (read (lengthsOf c)) (plainBody channels c h) s k) (channelFloors channels c h)
       (wholeValues (read (lengthsOf c)) floorRequests (channelFloors channels c h) s k) channels (h .blocksize / 2) r entry exit list list′
   body-content s k {r} {entry} {exit} {list} {list′} b =
       let body = body-is in
       let floors = floors-are in
       let lens = x .lengths in
-      subst (λ (l : ℕ → List ℕ). BodyIs (run (read l) (bodyRequests channels c h) s k) (channelFloors channels c h) (wholeValues (read l) floorRequests (channelFloors channels c h) s k) channels (h .blocksize / 2) r entry exit list list′) lens
-      (subst (λ (fs : List Floor). BodyIs (run (read (lengthsIn (t .books) (t .lengths))) (bodyRequests channels c h) s k) fs (wholeValues (read (lengthsIn (t .books) (t .lengths))) floorRequests fs s k) channels (h .blocksize / 2) r entry exit list list′) floors
+      subst (λ (l : ℕ → List ℕ). BodyIs (run (read l) (plainBody channels c h) s k) (channelFloors channels c h) (wholeValues (read l) floorRequests (channelFloors channels c h) s k) channels (h .blocksize / 2) r entry exit list list′) lens
+      (subst (λ (fs : List Floor). BodyIs (run (read (lengthsIn (t .books) (t .lengths))) (plainBody channels c h) s k) fs (wholeValues (read (lengthsIn (t .books) (t .lengths))) floorRequests fs s k) channels (h .blocksize / 2) r entry exit list list′) floors
       (subst (λ (q : Requests Unit). BodyIs (run (read (lengthsIn (t .books) (t .lengths))) q s k) (floorsIn (t .mappings) (t .floors) number channels) (wholeValues (read (lengthsIn (t .books) (t .lengths))) floorRequests (floorsIn (t .mappings) (t .floors) number channels) s k) channels (h .blocksize / 2) r entry exit list list′) body b))

@@ -1,6 +1,7 @@
 -- What follows a head that was read by tables that are ready, as the code asks it: one law for each way out. Assumes nothing.
 use Prim.Native.Nat.{ℕ, _+_, _*_, _/_, _≤_, _<_}
 use native.Mathlib.Omega.{arith}
+use mathlib.Core.Bool.{true, false}
 use mathlib.Core.List.{List}
 use mathlib.Core.Path.{_≡_, sym, subst, _∙_}
 use lib.ListN.{length, getD}
@@ -18,9 +19,10 @@ use Rattle.codeword_list.specs.declared.Progress.{Progress}
 use Rattle.audio.specs.declared.Head.{Head}
 use Rattle.audio.specs.declared.Tally.{Tally}
 use Rattle.audio.specs.Head.{modeAt}
-use Rattle.audio.specs.Packet.{channelFloors, bodyRequests}
+use Rattle.audio.specs.Packet.{channelFloors}
 use Rattle.audio.specs.Tally.{counted}
 use Rattle.audio.specs.Call.{roomOf}
+use Rattle.audio.specs.inner.Plain.{plainBody}
 use Rattle.audio_body.specs.declared.BodyRead.{BodyRead}
 use Rattle.audio_settle.specs.declared.Judged.{Judged}
 use Rattle.audio_judge.specs.inner.Ready.{Ready}
@@ -53,7 +55,7 @@ module _ (i : Identity) (t : Tables) (x : Ready i t) (s : List ℕ) (h : Head) (
     )
 
   module _ (tally : Tally) (entry list : List ℕ) {bytes : ℕ} (size : bytes ≡ i .channels * (h .blocksize / 2)) where
-    pub judged-no-room : {r : Judged} → length entry < bytes → r ≡ refusedBy 17 → JudgedIs (i .channels) c (afterHead i c tally s h k (roomOf entry list)) r entry entry list list
+    pub judged-no-room : {r : Judged} → length entry < bytes → r ≡ refusedBy false 17 → JudgedIs (i .channels) c (afterHead i c tally s h k (roomOf entry list)) r entry entry list list
     judged-no-room few a = no-curves-is i c tally s h k entry list (omega arith) a
 
     module _ (fits : bytes ≤ length entry) {n : ℕ} (m : n ≡ getD (t .modes) (modeWidth * h .mode + 1) 0) where
@@ -62,7 +64,7 @@ module _ (i : Identity) (t : Tables) (x : Ready i t) (s : List ℕ) (h : Head) (
           (floorsIn (t .mappings) (t .floors) n (i .channels))
           (wholeValues (read (lengthsIn (t .books) (t .lengths))) floorRequests (floorsIn (t .mappings) (t .floors) n (i .channels)) s k)
           (i .channels) (h .blocksize / 2) y entry exit list list′) where
-        own : BodyIs (run (read (lengthsOf c)) (bodyRequests (i .channels) c h) s k) (channelFloors (i .channels) c h)
+        own : BodyIs (run (read (lengthsOf c)) (plainBody (i .channels) c h) s k) (channelFloors (i .channels) c h)
             (wholeValues (read (lengthsOf c)) floorRequests (channelFloors (i .channels) c h) s k) (i .channels) (h .blocksize / 2) y entry exit list list′
         own =
             body-content (rows i t x) (x .few-entries) h (mode-set-up i t x s h k e) s k
@@ -75,7 +77,7 @@ module _ (i : Identity) (t : Tables) (x : Ready i t) (s : List ℕ) (h : Head) (
         room : i .channels * (h .blocksize / 2) ≤ length entry
         room = omega arith
 
-        pub judged-full : {r : Judged} → y .words ≡ L.Full → r ≡ refusedBy 17 → JudgedIs (i .channels) c (afterHead i c tally s h k (roomOf entry list)) r entry exit list list′
+        pub judged-full : {r : Judged} → y .words ≡ L.Full → r ≡ refusedBy true 17 → JudgedIs (i .channels) c (afterHead i c tally s h k (roomOf entry list)) r entry exit list list′
         judged-full w a = full-is i c tally s h k entry list (size-high i t x s h k e) room own w a
 
         pub judged-whole : {r : Judged} {p : Progress} → y .words ≡ L.Whole p → ((stop : ℕ) → r ≡ finishedBy (counted tally (h .blocksize) stop) h (y .used) (p .count))

@@ -1,5 +1,6 @@
 -- A packet judged, as the code asks it. Assumes nothing.
 use Prim.Native.Nat.{ℕ}
+use mathlib.Core.Bool.{true}
 use mathlib.Core.List.{List}
 use mathlib.Core.Path.{_≡_, sym, ap, _∙_}
 use Rattle.reading.specs.Outcome.{Outcome}
@@ -13,7 +14,7 @@ use Rattle.audio_settle.specs.inner.Judged.{refusedBy, acceptedBy, finishedBy}
 
 -- the tally's step
 module _ (f : ℕ → Outcome (Tally × ℕ)) {c : Counted} (e : (stop : ℕ) → countedAs c ≡ f stop) where
-  pub finish-refused : c ≡ C.Refused → (h : Head) (used : List ℕ) (words : ℕ) {j : Judged} → j ≡ refusedBy 19 → (stop : ℕ) → j ≡ finishedBy (f stop) h used words
+  pub finish-refused : c ≡ C.Refused → (h : Head) (used : List ℕ) (words : ℕ) {j : Judged} → j ≡ refusedBy true 19 → (stop : ℕ) → j ≡ finishedBy (f stop) h used words
   unfolding countedAs
   finish-refused m h used words a stop = a ∙ ap (λ (o : Outcome (Tally × ℕ)). finishedBy o h used words) (ap countedAs (sym m) ∙ e stop)
 

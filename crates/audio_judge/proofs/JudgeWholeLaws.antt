@@ -14,9 +14,10 @@ use Rattle.setup.specs.Content.{Setup, lengthsOf}
 use Rattle.setup.specs.Layout.{Tables}
 use Rattle.setup.specs.inner.Decode.{decodeSetup}
 use Rattle.requests.specs.Run.{read, run}
+use Rattle.requests.specs.Refusing.{cameTo}
 use Rattle.audio.specs.declared.Head.{Head}
 use Rattle.audio.specs.declared.Tally.{Tally}
-use Rattle.audio.specs.Head.{headRequests, headOf}
+use Rattle.audio.specs.Head.{headRequests}
 use Rattle.audio.specs.Packet.{headRun}
 use Rattle.audio.specs.Tally.{tallySound}
 use Rattle.audio.specs.Call.{accepted, roomOf}
@@ -40,9 +41,9 @@ module _ (i : Identity) (t : Tables) (x : Ready i t) where
   c = decodeSetup t
 
   -- the head that was read, by as many modes as there are
-  module _ (s : List ℕ) {n : ℕ} (m : n ≡ getD (t .counts) 4 0) (q : HeadRead) (f : (lens : ℕ → List ℕ) → headRead q ≡ headOf (run (read lens) (headRequests i (modesIn (t .modes) n)) s 0)) where
-    head-is : headRead q ≡ headOf (headRun i c s)
-    head-is = f (lengthsOf c) ∙ ap (λ (l : List Mode). headOf (run (read (lengthsOf c)) (headRequests i l) s 0)) (ap (modesIn (t .modes)) m ∙ sym (modes-decoded t))
+  module _ (s : List ℕ) {n : ℕ} (m : n ≡ getD (t .counts) 4 0) (q : HeadRead) (f : (lens : ℕ → List ℕ) → headRead q ≡ cameTo (run (read lens) (headRequests i (modesIn (t .modes) n)) s 0)) where
+    head-is : headRead q ≡ cameTo (headRun i c s)
+    head-is = f (lengthsOf c) ∙ ap (λ (l : List Mode). cameTo (run (read (lengthsOf c)) (headRequests i l) s 0)) (ap (modesIn (t .modes)) m ∙ sym (modes-decoded t))
 
     pub head-asked : {h : Head} {k : Cursor} → q ≡ H.Value h k → HeadIs i c s h (position k)
     unfolding headRead
@@ -52,15 +53,15 @@ module _ (i : Identity) (t : Tables) (x : Ready i t) where
       is-sound : tallySound i tally ≡ true
       is-sound = sym sound ∙ not-false b left
 
-      pub judged-head-refused : {z : Refusal} {number : ℕ} {r : Judged} → q ≡ H.Refused z → number ≡ z .number → r ≡ refusedBy number
+      pub judged-head-refused : {z : Refusal} {number : ℕ} {r : Judged} → q ≡ H.Refused z → number ≡ z .number → r ≡ refusedBy false number
           → JudgedIs (i .channels) c (accepted i tally (roomOf entry list) s c) r entry entry list list
       unfolding headRead
-      judged-head-refused {z} w d a = head-refused i c tally s entry list is-sound (sym head-is ∙ ap headRead w) (a ∙ ap refusedBy d)
+      judged-head-refused {z} w d a = head-refused i c tally s entry list is-sound (sym head-is ∙ ap headRead w) (a ∙ ap (refusedBy false) d)
 
       pub judged-head-read : {h : Head} {k : Cursor} {r : Judged} {exit list′ : List ℕ} → q ≡ H.Value h k → JudgedIs (i .channels) c (afterHead i c tally s h (position k) (roomOf entry list)) r entry exit list list′
           → JudgedIs (i .channels) c (accepted i tally (roomOf entry list) s c) r entry exit list list′
       judged-head-read w j = head-read i c tally s entry list is-sound (head-asked w) j
 
-  pub judged-unsound : (tally : Tally) (s entry list : List ℕ) {b : Bool} {r : Judged} → b ≡ tallySound i tally → not b ≡ true → r ≡ refusedBy 18
+  pub judged-unsound : (tally : Tally) (s entry list : List ℕ) {b : Bool} {r : Judged} → b ≡ tallySound i tally → not b ≡ true → r ≡ refusedBy false 18
       → JudgedIs (i .channels) c (accepted i tally (roomOf entry list) s c) r entry entry list list
   judged-unsound tally s entry list {b} e n a = tally-refused i c tally s entry list (sym e ∙ not-true b n) a

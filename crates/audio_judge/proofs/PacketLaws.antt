@@ -1,5 +1,5 @@
 -- A packet behind its head, judged: 17 for the curves, the body, 17 for the codewords, the tally's step. Assumes nothing.
-use Prim.Native.Nat.{ℕ, suc, _+_, _*_, _/_, _^_, _≤_, _<_}
+use Prim.Native.Nat.{ℕ, suc, _+_, _*_, _/_, _≤_, _<_}
 use native.Mathlib.Nat.{zero-mul, suc-mul}
 use native.Mathlib.Omega.{arith}
 use borrow.Author.Tests.{lt-leb, le-leb}
@@ -33,17 +33,18 @@ use Rattle.audio.specs.declared.Head.{Head}
 use Rattle.audio.specs.declared.Tally.{Tally}
 use Rattle.audio.specs.Head.{flagRequests, modeRequests, headRequests}
 use Rattle.audio.specs.Channels.{floorNumber, floorsOf, isUsed}
-use Rattle.audio.specs.Packet.{Audio, mappingOf, byChannel, channelFloors, bodyRequests, bodyAt, headRun}
-use Rattle.audio.specs.Tally.{finished, counted}
+use Rattle.audio.specs.Packet.{Audio, mappingOf, byChannel, channelFloors, headRun}
+use Rattle.audio.specs.Tally.{counted}
 use Rattle.audio.specs.Curves.{curveOf, curvesOf}
 use Rattle.audio.specs.Call.{Room, Accepted, judged}
+use Rattle.audio.specs.inner.Plain.{plainBody, plainAt}
 use Rattle.audio.proofs.Cuts.{by-channel-long}
 use Rattle.audio_floors.proofs.Agreement.{flags-agree, whole-few}
 use Rattle.audio_floors.proofs.FloorsLaws.{curve-long}
 use Rattle.audio_body.specs.declared.BodyRead.{BodyRead}
 use Rattle.audio_settle.specs.declared.Judged.{Judged}
 use Rattle.audio_body.specs.inner.Body.{endingWords, BodyIs}
-use Rattle.audio_settle.specs.inner.Judged.{refusedBy, acceptedBy, finishedBy, judgement, curvesBy, isEarly, JudgedIs}
+use Rattle.audio_settle.specs.inner.Judged.{refusedBy, acceptedBy, finishedBy, judgement, curvesBy, JudgedIs}
 use Rattle.audio_body.proofs.BodyWords.{Asks, asks-bind, asks-done, asks-if, asks-request, run-kept}
 
 -- no field of the head is a codeword
@@ -99,28 +100,27 @@ module _ (room : ℕ) (r : Run Unit) where
       go true q none h = let z : _≡_ {A = ℕ} 0 1 = cc in absurd (omega arith)
       go false q v h = q
 
-pub bad-ok : {A : Type 0} {z : Refusal} {a : A} → bad z ≡ ok a → ⊥
+bad-ok : {A : Type 0} {z : Refusal} {a : A} → bad z ≡ ok a → ⊥
 bad-ok e = let z : _≡_ {A = ℕ} 0 1 = cc in omega arith
 
-bad-is : {A : Type 0} {z w : Refusal} → _≡_ {A = Outcome A} (bad z) (bad w) → z ≡ w
-bad-is e = cc
+-- a refusal: what is known of the outputs, whose lengths are the same, and which are the same where nothing was written
+pub refused-is : (channels : ℕ) (c : Setup) {o : Outcome Accepted} {z : Refusal} (w : Bool) {r : Judged} (entry exit list list′ : List ℕ) → o ≡ bad z → r ≡ refusedBy w (z .number)
+    → length exit ≡ length entry → length list′ ≡ length list → (w ≡ false → (exit ≡ entry) × (list′ ≡ list)) → JudgedIs channels c o r entry exit list list′
+refused-is channels c w {r} entry exit list list′ e a l m same =
+    let known : r .written ≡ w = ap (λ (q : Judged). q .written) a in
+    record {
+      answer = a ∙ (λ j. judgement (sym known j) (sym e j));
+      size = rw a (omega arith);
+      curves-long = l;
+      words-long = m;
+      curves = λ x g. absurd (bad-ok (sym e ∙ g));
+      bytes = λ x g. absurd (bad-ok (sym e ∙ g));
+      words = λ x g. absurd (bad-ok (sym e ∙ g));
+      unwritten = λ g. same (sym known ∙ g);
+    }
 
--- the refusals behind the body are not early ones
-late-17 : (z : Refusal) → refusal 17 0 ≡ z → isEarly (z .number) ≡ true → ⊥
-unfolding isEarly
-late-17 z e l = let n : z .number ≡ 17 = ap (λ (q : Refusal). q .number) (sym e) in let b : false ≡ true = rw n at l in let u : _≡_ {A = ℕ} 0 1 = cc in omega arith
-
-late-19 : (z : Refusal) → z .number ≡ 19 → isEarly (z .number) ≡ true → ⊥
-unfolding isEarly
-late-19 z n l = let b : false ≡ true = rw n at l in let u : _≡_ {A = ℕ} 0 1 = cc in omega arith
-
-counted-bad : (t : Tally) (n stop : ℕ) (z : Refusal) → counted t n stop ≡ bad z → z .number ≡ 19
-unfolding counted
-counted-bad t n stop z e = go (ltb (t .samples + finished t n) (2 ^ 64)) (record { blocksize = n; samples = t .samples + finished t n }, finished t n) e
-  where
-    go : (b : Bool) (x : Tally × ℕ) → need {A = Tally × ℕ} b (refusal 19 0) (ok x) ≡ bad z → z .number ≡ 19
-    go true x h = absurd (bad-ok (sym h))
-    go false x h = ap (λ (q : Refusal). q .number) (sym (bad-is h))
+true-false : true ≡ false → ⊥
+true-false e = let z : _≡_ {A = ℕ} 0 1 = cc in omega arith
 
 -- how many there are of each
 curves-bytes : (half : ℕ) (fs : List Floor) (vs : List FloorRead) → length vs ≡ length fs → length (curvesOf half fs vs) ≡ length fs * half
@@ -137,16 +137,16 @@ curves-bytes half (f ∷ fs) (v ∷ vs) e =
 
 module _ (i : Identity) (c : Setup) (t : Tally) (s : List ℕ) (h : Head) (k : ℕ) where
   abbrev whole : Audio
-  whole = bodyAt (i .channels) c s (headRun i c s .items) h k
+  whole = plainAt (i .channels) c s (headRun i c s .items) h k
 
   abbrev body : Run Unit
-  body = run (read (lengthsOf c)) (bodyRequests (i .channels) c h) s k
+  body = run (read (lengthsOf c)) (plainBody (i .channels) c h) s k
 
   abbrev floors : List FloorRead
   floors = wholeValues (read (lengthsOf c)) floorRequests (channelFloors (i .channels) c h) s k
 
   packet-words : residueWords (whole .items) ≡ residueWords (body .items)
-  unfolding bodyAt
+  unfolding plainAt
   packet-words =
       words-append (headRun i c s .items) (body .items)
       ∙ ap (λ (l : List Item). l ++ residueWords (body .items)) (run-kept (read (lengthsOf c)) s false (headRequests i (c .modes)) 0 (head-asks i (c .modes)))
@@ -182,12 +182,12 @@ module _ (i : Identity) (c : Setup) (t : Tally) (s : List ℕ) (h : Head) (k : �
     stepped = then (counted t (h .blocksize) (body .position)) (λ x. ok (record { packet = whole; tally = x .0; samples = x .1 }))
 
     no-curves : length entry < i .channels * (h .blocksize / 2) → outcome ≡ bad (refusal 17 0)
-    unfolding judged bodyAt
+    unfolding judged plainAt
     no-curves few = rw (lt-leb (i .channels * (h .blocksize / 2)) (length entry) few) refl
 
     module _ (fits : i .channels * (h .blocksize / 2) ≤ length entry) where
       by-room : outcome ≡ need (leb (length (residueWords (body .items))) (length list)) (refusal 17 0) stepped
-      unfolding judged bodyAt
+      unfolding judged plainAt
       by-room = rw (le-leb (i .channels * (h .blocksize / 2)) (length entry) fits) (ap (λ (l : List Item). need (leb (length l) (length list)) (refusal 17 0) stepped) packet-words)
 
       no-words : leb (length (residueWords (body .items))) (length list) ≡ false → outcome ≡ bad (refusal 17 0)
@@ -196,23 +196,8 @@ module _ (i : Identity) (c : Setup) (t : Tally) (s : List ℕ) (h : Head) (k : �
       all-words : leb (length (residueWords (body .items))) (length list) ≡ true → outcome ≡ stepped
       all-words e = by-room ∙ ap (λ (b : Bool). need b (refusal 17 0) stepped) e
 
-    -- refusal 17 settles nothing of the outputs but their lengths
-    refused-is : {exit list′ : List ℕ} {r : Judged} → outcome ≡ bad (refusal 17 0) → r ≡ refusedBy 17 → length exit ≡ length entry → length list′ ≡ length list
-        → JudgedIs (i .channels) c outcome r entry exit list list′
-    refused-is e a l m =
-        record {
-          answer = a ∙ ap judgement (sym e);
-          size = rw a (omega arith);
-          curves-long = l;
-          words-long = m;
-          curves = λ x g. absurd (bad-ok (sym e ∙ g));
-          bytes = λ x g. absurd (bad-ok (sym e ∙ g));
-          words = λ x g. absurd (bad-ok (sym e ∙ g));
-          early = λ z g l. absurd (late-17 z (bad-is (sym e ∙ g)) l);
-        }
-
-    pub no-curves-is : {r : Judged} → length entry < i .channels * (h .blocksize / 2) → r ≡ refusedBy 17 → JudgedIs (i .channels) c outcome r entry entry list list
-    no-curves-is few a = refused-is (no-curves few) a refl refl
+    pub no-curves-is : {r : Judged} → length entry < i .channels * (h .blocksize / 2) → r ≡ refusedBy false 17 → JudgedIs (i .channels) c outcome r entry entry list list
+    no-curves-is few a = refused-is (i .channels) c false entry entry list list (no-curves few) a refl refl (λ _. (refl, refl))
 
     module _ (high : h .blocksize ≤ 8192) (fits : i .channels * (h .blocksize / 2) ≤ length entry) {exit list′ : List ℕ} {x : BodyRead}
         (b : BodyIs body (channelFloors (i .channels) c h) floors (i .channels) (h .blocksize / 2) x entry exit list list′) where
@@ -222,15 +207,19 @@ module _ (i : Identity) (c : Setup) (t : Tally) (s : List ℕ) (h : Head) (k : �
       words-long : length list′ ≡ length list
       words-long = ap length (b .words) ∙ length-sets list 0 (map listed (residueWords (body .items)))
 
-      pub full-is : {r : Judged} → x .words ≡ L.Full → r ≡ refusedBy 17 → JudgedIs (i .channels) c outcome r entry exit list list′
+      -- a refusal behind the body settles nothing of the outputs but their lengths
+      behind-is : {z : Refusal} {r : Judged} → outcome ≡ bad z → r ≡ refusedBy true (z .number) → JudgedIs (i .channels) c outcome r entry exit list list′
+      behind-is e a = refused-is (i .channels) c true entry exit list list′ e a curves-long words-long (λ g. absurd (true-false g))
+
+      pub full-is : {r : Judged} → x .words ≡ L.Full → r ≡ refusedBy true 17 → JudgedIs (i .channels) c outcome r entry exit list list′
       unfolding endingOf
-      full-is e a = refused-is (no-words fits (full-fits-not (length list) body (ap endingOf (sym e) ∙ b .ending))) a curves-long words-long
+      full-is e a = behind-is (no-words fits (full-fits-not (length list) body (ap endingOf (sym e) ∙ b .ending))) a
 
       -- so many codewords, all of which have room
       read-is : {r : Judged} {n : ℕ} → (leb (length (residueWords (body .items))) (length list) ≡ true) × (n ≡ length (residueWords (body .items)))
           → ((stop : ℕ) → r ≡ finishedBy (counted t (h .blocksize) stop) h (x .used) n) → JudgedIs (i .channels) c outcome r entry exit list list′
-      unfolding bodyAt
-      read-is {r} {n} f a = go (counted t (h .blocksize) (body .position)) refl (all-words fits (f .0)) (a (body .position))
+      unfolding plainAt
+      read-is {r} {n} f a = go (counted t (h .blocksize) (body .position)) (all-words fits (f .0)) (a (body .position))
         where
           used-are : x .used ≡ pad 255 (map (λ g. one (isUsed g)) (byChannel (i .channels) floors))
           used-are = b .used ∙ sym (flags-agree 255 (i .channels) floors few-floors)
@@ -238,29 +227,19 @@ module _ (i : Identity) (c : Setup) (t : Tally) (s : List ℕ) (h : Head) (k : �
           same : (y : Accepted) → whole ≡ y .packet → curvesOf (h .blocksize / 2) (channelFloors (i .channels) c h) (byChannel (i .channels) floors) ≡ curvesBy (i .channels) c y
           same y e = ap (λ (q : Audio). curvesOf (q .head .blocksize / 2) (channelFloors (i .channels) c (q .head)) (q .floors)) e
 
-          go : (o : Outcome (Tally × ℕ)) → counted t (h .blocksize) (body .position) ≡ o → outcome ≡ then o (λ y. ok (record { packet = whole; tally = y .0; samples = y .1 })) → r ≡ finishedBy o h (x .used) n
+          go : (o : Outcome (Tally × ℕ)) → outcome ≡ then o (λ y. ok (record { packet = whole; tally = y .0; samples = y .1 })) → r ≡ finishedBy o h (x .used) n
               → JudgedIs (i .channels) c outcome r entry exit list list′
-          go (bad z) w e d =
+          go (bad z) e d = behind-is e d
+          go (ok y) e d =
               record {
-                answer = d ∙ ap judgement (sym e);
-                size = rw d (omega arith);
-                curves-long = curves-long;
-                words-long = words-long;
-                curves = λ y g. absurd (bad-ok (sym e ∙ g));
-                bytes = λ y g. absurd (bad-ok (sym e ∙ g));
-                words = λ y g. absurd (bad-ok (sym e ∙ g));
-                early = λ y g l. absurd (late-19 y (sym (ap (λ (q : Refusal). q .number) (bad-is (sym e ∙ g))) ∙ counted-bad t (h .blocksize) (body .position) z w) l);
-              }
-          go (ok y) w e d =
-              record {
-                answer = d ∙ (λ j. acceptedBy h (used-are j) ((f .1 ∙ ap length (sym packet-words)) j) (y .1) (y .0)) ∙ ap judgement (sym e);
+                answer = d ∙ (λ j. acceptedBy h (used-are j) ((f .1 ∙ ap length (sym packet-words)) j) (y .1) (y .0)) ∙ ap (judgement (r .written)) (sym e);
                 size = rw d high;
                 curves-long = curves-long;
                 words-long = words-long;
                 curves = λ v g. b .curves ∙ ap (sets entry 0) (same v (ap (λ (q : Accepted). q .packet) (ok-is (sym e ∙ g))));
                 bytes = λ v g. ap (λ (q : Audio). length (curvesOf (q .head .blocksize / 2) (channelFloors (i .channels) c (q .head)) (q .floors))) (sym (ap (λ (q : Accepted). q .packet) (ok-is (sym e ∙ g)))) ∙ whole-bytes ∙ ap (λ (q : Accepted). i .channels * (q .packet .head .blocksize / 2)) (ok-is (sym e ∙ g));
                 words = λ v g. b .words ∙ ap (λ (l : List Item). sets list 0 (map listed l)) (sym packet-words ∙ ap (λ (q : Accepted). residueWords (q .packet .items)) (ok-is (sym e ∙ g)));
-                early = λ z g l. absurd (bad-ok (sym g ∙ e));
+                unwritten = λ g. absurd (true-false (sym (ap (λ (q : Judged). q .written) d) ∙ g));
               }
 
       pub whole-is : {r : Judged} {p : Progress} → x .words ≡ L.Whole p → ((stop : ℕ) → r ≡ finishedBy (counted t (h .blocksize) stop) h (x .used) (p .count))

@@ -23,9 +23,9 @@ ghost use Rattle.audio.specs.Call.{accepted, roomOf};
 ghost use Rattle.audio_judge.specs.inner.Ready.{Ready, lentTables};
 ghost use Rattle.audio_settle.specs.inner.Judged.{finishedBy, refusedBy, afterHead, HeadIs, JudgedIs};
 
-// A refusal.
-fn refused(refusal: u32) -> Judged
-    ensures { λ r. ⌜ r ≡ refusedBy refusal ⌝ }
+// A refusal, and whether the outputs were written to before it.
+fn refused(written: bool, refusal: u32) -> Judged
+    ensures { λ r. ⌜ r ≡ refusedBy written refusal ⌝ }
 {
     let head = Head {
         mode: 0,
@@ -42,6 +42,7 @@ fn refused(refusal: u32) -> Judged
     Judged {
         accepted: false,
         refusal,
+        written,
         head,
         used,
         words: 0,
@@ -56,10 +57,11 @@ fn finish(tally: Tally, head: Head, used: [u8; 255], words: usize) -> Judged
 {
     let blocksize = head.blocksize;
     match audio_tally::count(tally, blocksize) {
-        Counted::Refused => refused(19),
+        Counted::Refused => refused(true, 19),
         Counted::Value(after, samples) => Judged {
             accepted: true,
             refusal: 0,
+            written: true,
             head,
             used,
             words,
@@ -109,7 +111,7 @@ fn judge_body(
     let channels = identity.channels;
     let blocksize = head.blocksize;
     if curves.len() < curve_bytes(channels, blocksize) {
-        return refused(17);
+        return refused(false, 17);
     }
     let mapping = mapping_of(modes, head.mode);
     let read = read_body(
@@ -133,7 +135,7 @@ fn judge_body(
     match ending {
         ListRead::Whole(progress) => finish(tally, head, used, progress.count),
         ListRead::Cut(progress) => finish(tally, head, used, progress.count),
-        ListRead::Full => refused(17),
+        ListRead::Full => refused(true, 17),
     }
 }
 
@@ -162,11 +164,11 @@ pub fn judge(
         r (now (curves .entry)) (now (curves .exit)) (now (words .entry)) (now (words .exit)) ⌝ }
 {
     if !audio_tally::is_sound(identity, tally) {
-        return refused(18);
+        return refused(false, 18);
     }
     let mode_count = get_u32(counts, 4);
     match audio_head::read_head(packet, identity, mode_count, modes) {
-        HeadRead::Refused(refusal) => refused(number_of(refusal)),
+        HeadRead::Refused(refusal) => refused(false, number_of(refusal)),
         HeadRead::Value(head, from) => judge_body(
             tally,
             identity,

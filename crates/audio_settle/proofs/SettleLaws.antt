@@ -2,11 +2,9 @@
 use Prim.Native.Nat.{ℕ, zero, _-_, _*_, _/_, _≤_, _<_}
 use native.Mathlib.Omega.{arith}
 use native.Mathlib.Nat.{mul-le-mul-right}
-use mathlib.Core.Bool.{Bool, true, false, cond}
+use mathlib.Core.Bool.{Bool, true, false}
 use mathlib.Core.List.{List}
 use mathlib.Core.Path.{_≡_, refl, ap, sym, _∙_}
-use borrow.Author.Tests.{lt-ltb, le-ltb}
-use lib.Dec.{eqb}
 use lib.ListN.{length, replicate, length-map, List·getD-eq-default}
 use lib.Seq.{sets}
 use Rattle.reading.specs.Outcome.{Outcome, ok, bad}
@@ -20,7 +18,7 @@ use Rattle.audio.specs.declared.Window.{Window}
 use Rattle.audio.specs.Head.{window}
 use Rattle.audio.specs.Call.{Accepted, refused, Left, answerOf, answered, roomOf, leftOf}
 use Rattle.audio_settle.specs.declared.Judged.{Judged}
-use Rattle.audio_settle.specs.inner.Judged.{curvesBy, wordsBy, JudgedIs, ZeroFrom, answerBy, isEarly, acceptedLeft, earlyLeft, refusedLeft, settled}
+use Rattle.audio_settle.specs.inner.Judged.{judgement, curvesBy, wordsBy, JudgedIs, ZeroFrom, answerBy, acceptedLeft, earlyLeft, refusedLeft, settled}
 use Rattle.audio_settle.proofs.ClearLaws.{front-cleared, front-padded}
 
 -- channels times half a block are few
@@ -52,15 +50,6 @@ pub early-made : {n : ℕ} {t : Tally} (curves words : List ℕ) (curvesEnd word
     → words′ ≡ sets words 0 (replicate (wordsEnd - 0) 0) → a ≡ refused n → leftOf a t curves′ words′ ≡ earlyLeft n t curves words curvesEnd wordsEnd
 early-made {n} {t} curves words curvesEnd wordsEnd e f g = λ j. record { answer = g j; curves = e j; codewords = f j; tally = t }
 
--- the first 17 numbers, and 18
-pub early-low : {n : ℕ} → n < 17 → true ≡ isEarly n
-unfolding isEarly
-early-low {n} h = rw (lt-ltb n 17 h)
-
-pub early-high : {n : ℕ} → 17 ≤ n → {b : Bool} → b ≡ eqb n 18 → b ≡ isEarly n
-unfolding isEarly
-early-high {n} h e = rw (le-ltb n 17 h) e
-
 pub accept-made : (i : Identity) (r : Judged) (curves words : List ℕ) (curvesEnd wordsEnd : ℕ) {curves′ words′ : List ℕ} {a : AudioAnswer} {bytes : ℕ} → bytes ≡ i .channels * (r .head .blocksize / 2)
     → curves′ ≡ sets curves bytes (replicate (curvesEnd - bytes) 0) → words′ ≡ sets words (r .words) (replicate (wordsEnd - r .words) 0) → a ≡ answerBy i r
     → leftOf a (r .tally) curves′ words′ ≡ acceptedLeft i r curves words curvesEnd wordsEnd
@@ -73,15 +62,14 @@ module _ (i : Identity) (t : Tally) (r : Judged) (curves words : List ℕ) (curv
   unfolding settled
   settle-accepted e a = rw e a
 
-  pub settle-early : r .accepted ≡ false → {b : Bool} → b ≡ isEarly (r .refusal) → b ≡ true → l ≡ earlyLeft (r .refusal) t curves words curvesEnd wordsEnd
-      → l ≡ settled i t r curves words curvesEnd wordsEnd
+  pub settle-refused : r .accepted ≡ false → r .written ≡ true → l ≡ refusedLeft (r .refusal) t curves words → l ≡ settled i t r curves words curvesEnd wordsEnd
   unfolding settled
-  settle-early e f g a = rw (e, ← f, g) a
+  settle-refused e f a = rw (e, f) a
 
-  pub settle-refused : r .accepted ≡ false → {b : Bool} → b ≡ isEarly (r .refusal) → b ≡ false → l ≡ refusedLeft (r .refusal) t curves words
+  pub settle-early : r .accepted ≡ false → r .written ≡ false → l ≡ earlyLeft (r .refusal) t curves words curvesEnd wordsEnd
       → l ≡ settled i t r curves words curvesEnd wordsEnd
   unfolding settled
-  settle-refused e f g a = rw (e, ← f, g) a
+  settle-early e f a = rw (e, f) a
 
 -- WHAT IS LEFT IS WHAT THE CALL'S DEFINITION SAYS, where both outputs held nothing from a place on
 module _ (i : Identity) (c : Setup) (t : Tally) (entry list : List ℕ) (curvesEnd wordsEnd : ℕ) (zc : ZeroFrom curvesEnd entry) (zw : ZeroFrom wordsEnd list) where
@@ -102,19 +90,18 @@ module _ (i : Identity) (c : Setup) (t : Tally) (entry list : List ℕ) (curvesE
       ∙ ap (λ (n : ℕ). sets (sets list 0 ws) n (replicate (wordsEnd - n) 0)) (sym long)
       ∙ front-padded list ws wordsEnd (zw .zero) in
       rw (j .answer) (λ k. record { answer = answerOf i x; curves = curves k; codewords = words k; tally = x .tally })
-  settled-is (bad z) {r} {exit} {list′} j = rw (j .answer) (pick (isEarly (z .number)) refl)
+  settled-is (bad z) {r} {exit} {list′} j = pick (r .written) refl (j .answer)
     where
-      pick : (b : Bool) → isEarly (z .number) ≡ b
-          → cond b (earlyLeft (z .number) t exit list′ curvesEnd wordsEnd) (refusedLeft (z .number) t exit list′) ≡ refusedLeft (z .number) t entry list
-      pick true e =
-          let same = j .early z refl e in
+      pick : (b : Bool) → r .written ≡ b → r ≡ judgement b (bad z) → settled i t r exit list′ curvesEnd wordsEnd ≡ refusedLeft (z .number) t entry list
+      pick false e f =
+          let same = j .unwritten e in
           let curves : sets exit 0 (replicate (curvesEnd - 0) 0) ≡ replicate (length entry) 0 = rw (same .0) (front-cleared entry curvesEnd (zc .zero)) in
           let words : sets list′ 0 (replicate (wordsEnd - 0) 0) ≡ replicate (length list) 0 = rw (same .1) (front-cleared list wordsEnd (zw .zero)) in
-          λ k. record { answer = refused (z .number); curves = curves k; codewords = words k; tally = t }
-      pick false e =
+          rw f (λ k. record { answer = refused (z .number); curves = curves k; codewords = words k; tally = t })
+      pick true e f =
           let curves = j .curves-long in
           let words = j .words-long in
-          λ k. record { answer = refused (z .number); curves = replicate (curves k) 0; codewords = replicate (words k) 0; tally = t }
+          rw f (λ k. record { answer = refused (z .number); curves = replicate (curves k) 0; codewords = replicate (words k) 0; tally = t })
 
 -- nothing lies past an output's end
 pub zero-past : (l : List ℕ) → ZeroFrom (length l) l

@@ -13,13 +13,15 @@ use reading::buffers::clear_u32;
 ghost use mathlib.Core.Path.{_≡_};
 ghost use Prim.Native.Nat.{_≤_};
 ghost use Rattle.audio.specs.Call.{refused, leftOf};
-ghost use Rattle.audio_settle.specs.inner.Judged.{answerBy, isEarly, acceptedLeft, earlyLeft, refusedLeft, settled};
+ghost use Rattle.audio_settle.specs.inner.Judged.{answerBy, acceptedLeft, earlyLeft, refusedLeft, settled};
 
 // What judging a packet comes to.
 pub struct Judged {
     // Whether the packet is accepted; else 01's number of the refusal, and all below is zero.
     pub accepted: bool,
     pub refusal: u32,
+    // Whether anything was written to the outputs; a refusal may come before that.
+    pub written: bool,
     pub head: Head,
     // For each channel 1 where its floor is used; zeros behind the last channel.
     pub used: [u8; 255],
@@ -86,17 +88,7 @@ pub fn refuse(refusal: u32, tally: Tally, curves: &mut [u8], words: &mut [u32]) 
     AudioLeft { tally, answer }
 }
 
-// Whether a refusal comes before anything is written to the outputs: the head's and 18 do, 17 and 19 may come behind the body.
-fn is_early(refusal: u32) -> bool
-    ensures { λ r. ⌜ r ≡ isEarly refusal ⌝ }
-{
-    if refusal < 17 {
-        return true;
-    }
-    refusal == 18
-}
-
-// An early refusal: what an earlier packet left, up to `curves_end` and `words_end`, is cleared.
+// A refusal before anything was written: what an earlier packet left, up to `curves_end` and `words_end`, is cleared.
 fn refuse_early(
     refusal: u32,
     tally: Tally,
@@ -155,8 +147,8 @@ pub fn settle(
         return accept(identity, judged, curves, words, curves_end, words_end);
     }
     let refusal = judged.refusal;
-    if is_early(refusal) {
-        return refuse_early(refusal, tally, curves, words, curves_end, words_end);
+    if judged.written {
+        return refuse(refusal, tally, curves, words);
     }
-    refuse(refusal, tally, curves, words)
+    refuse_early(refusal, tally, curves, words, curves_end, words_end)
 }

@@ -20,12 +20,12 @@ use Rattle.floor_requests.specs.Requests.{FloorRead}
 use Rattle.residue_requests.specs.Listed.{residueWords}
 use Rattle.audio.specs.declared.Head.{Head}
 use Rattle.audio.specs.declared.Tally.{Tally}
-use Rattle.audio.specs.Head.{headOf}
 use Rattle.audio.specs.Channels.{floorNumber, floorsOf}
-use Rattle.audio.specs.Packet.{Audio, mappingOf, channelFloors, bodyAt, headRun, audio}
+use Rattle.audio.specs.Packet.{Audio, mappingOf, channelFloors, bodyAt, audio}
 use Rattle.audio.specs.Tally.{tallySound, counted}
 use Rattle.audio.specs.Curves.{curveOf, curvesOf}
 use Rattle.audio.specs.Call.{Room, Accepted, judged, accepted}
+use Rattle.audio.proofs.Accepted.{packet-read}
 use Rattle.audio_floors.proofs.FloorsLaws.{curve-long}
 use Rattle.audio_settle.specs.inner.Judged.{curvesBy}
 use Rattle.audio_judge.specs.inner.Ready.{Ready}
@@ -42,14 +42,14 @@ judged-packet channels t room a x e =
 
 pub block-high : (i : Identity) (t : Tables) → Ready i t → (tally : Tally) (room : Room) (s : List ℕ) (x : Accepted) → accepted i tally room s (decodeSetup t) ≡ ok x
     → x .packet .head .blocksize ≤ 8192
-unfolding accepted audio bodyAt
+unfolding accepted bodyAt
 block-high i t ready tally room s x e =
     let sound = need-ok (tallySound i tally) (refusal 18 0) _ e in
     let read = then-ok (audio i (decodeSetup t) s) _ (sound .1) in
-    let h = then-ok (headOf (headRun i (decodeSetup t) s)) _ (read .1) in
+    let h = packet-read i (decodeSetup t) s (read .1) in
     let same : read .0 ≡ x .packet = judged-packet (i .channels) tally room (read .0) x (read .2) in
     let high = size-high i t ready s (h .0 .0) (h .0 .1) (h .1) in
-    subst (λ (a : Audio). a .head .blocksize ≤ 8192) (ok-is (h .2) ∙ same) high
+    subst (λ (a : Audio). a .head .blocksize ≤ 8192) (h .2 ∙ same) high
 
 curves-few : (half : ℕ) (fs : List Floor) (vs : List FloorRead) → length (curvesOf half fs vs) ≤ length fs * half
 unfolding curvesOf

@@ -1,16 +1,20 @@
 -- Worked examples.
 use Prim.Native.Nat.{ℕ}
+use mathlib.Core.Bool.{cond}
 use mathlib.Core.List.{List, [], _∷_}
 use mathlib.Core.Option.{none, some}
 use mathlib.Core.Path.{_≡_, refl}
+use lib.Dec.{eqb}
 use Rattle.reading.specs.Least.{lowest}
+use Rattle.reading.specs.Outcome.{refusal, Outcome, ok, bad}
 use Rattle.reading.specs.Reader.{mapped}
 use Rattle.bits.specs.Field.{bitAt, valueAt, field}
 use Rattle.codeword_assignment.specs.Book.{used, isUsed, isLone, firstUsed}
 use Rattle.codeword.specs.Codeword.{codeword}
-use Rattle.requests.specs.Requests.{Place, number, word, floor, class, vector, request, bind, many, each}
+use Rattle.requests.specs.Requests.{Place, number, word, floor, class, vector, Requests, done, request, bind, many, each}
 use Rattle.requests.specs.Run.{read, item, ended, run}
 use Rattle.requests.specs.Values.{wholeValues}
+use Rattle.requests.specs.Refusing.{andThen, inTurn, valuesOf, cameTo}
 
 -- every book has a sole used entry, its second, which takes no bits (000, 3.2.1)
 abbrev lengthsOf : ℕ → List ℕ
@@ -38,6 +42,25 @@ pub record RunVectors : Type 0 where
       run (read lengthsOf) (bind (request (word 3 (vector first))) (λ _. bind (request (number 9)) (λ _. request (word 5 (vector first))))) (9 ∷ []) 0
       ≡ ended (item (word 3 (vector first)) 1 ∷ []) 0 none
 
+-- a number of w bits, which refuses 3 with number 21
+abbrev notThree : ℕ → Requests (Outcome ℕ)
+notThree w = bind (request (number w)) (λ v. cond (eqb v 3) (done (bad (refusal 21 0))) (done (ok v)))
+
+pub record RefusingVectors : Type 0 where
+  -- numbers of 2, 2 and 4 bits, of which the second is 3: it was read, the third is not asked for, and the first stands
+  pub refused :
+      run (read lengthsOf) (inTurn notThree (2 ∷ 2 ∷ 4 ∷ [])) (0b10011101 ∷ []) 0
+      ≡ ended (item (number 2) 1 ∷ item (number 2) 3 ∷ []) 4 (some (bad (refusal 21 0)))
+  pub comes-to-refusal : cameTo (run (read lengthsOf) (inTurn notThree (2 ∷ 2 ∷ 4 ∷ [])) (0b10011101 ∷ []) 0) ≡ bad (refusal 21 0)
+  pub stands-before-refusal : valuesOf (wholeValues (read lengthsOf) notThree (2 ∷ 2 ∷ 4 ∷ []) (0b10011101 ∷ []) 0) ≡ 1 ∷ []
+  -- none is 3; and a cut, which is refusal 1 at the first bit of what is cut
+  pub whole : cameTo (run (read lengthsOf) (inTurn notThree (2 ∷ 2 ∷ 4 ∷ [])) (0b10010001 ∷ []) 0) ≡ ok (1 ∷ 0 ∷ 9 ∷ [], 8)
+  pub cut : cameTo (run (read lengthsOf) (inTurn notThree (2 ∷ 2 ∷ 5 ∷ [])) (0b10010001 ∷ []) 0) ≡ bad (refusal 1 4)
+
 pub runs : RunVectors
 unfolding wholeValues run read request bind many each field valueAt bitAt codeword mapped used isUsed isLone firstUsed lowest
 runs = record { cut = refl; counted = refl; whole-before-cut = refl; sole = refl; sole-after-cut = refl }
+
+pub refusing : RefusingVectors
+unfolding wholeValues run read request bind field valueAt bitAt mapped andThen inTurn valuesOf cameTo
+refusing = record { refused = refl; comes-to-refusal = refl; stands-before-refusal = refl; whole = refl; cut = refl }

@@ -16,11 +16,8 @@ same-length-2 c = search needs
 returns : tie.Need-returns
 returns c = search settle-accepted
 
-is-early-requires : tie.Need-is-early-requires
-is-early-requires c κs = search needs
-
-refuse-early-requires : tie.Need-refuse-early-requires
-refuse-early-requires c κs = search needs
+refuse-requires : tie.Need-refuse-requires
+refuse-requires c κs = search needs
 
 same-length-3 : tie.Need-same-length-3
 same-length-3 c = search needs
@@ -29,10 +26,10 @@ same-length-4 : tie.Need-same-length-4
 same-length-4 c = search needs
 
 returns-2 : tie.Need-returns-2
-returns-2 c = search settle-early
+returns-2 c = search settle-refused
 
-refuse-requires : tie.Need-refuse-requires
-refuse-requires c κs = search needs
+refuse-early-requires : tie.Need-refuse-early-requires
+refuse-early-requires c κs = search needs
 
 same-length-5 : tie.Need-same-length-5
 same-length-5 c = search needs
@@ -41,7 +38,7 @@ same-length-6 : tie.Need-same-length-6
 same-length-6 c = search needs
 
 returns-3 : tie.Need-returns-3
-returns-3 c = search settle-refused
+returns-3 c = search settle-early
 
 pub settle-spec : {M : Type 1} → statement M
 settle-spec =
@@ -51,12 +48,11 @@ settle-spec =
     same-length
     same-length-2
     returns
-    is-early-requires
-    refuse-early-requires
+    refuse-requires
     same-length-3
     same-length-4
     returns-2
-    refuse-requires
+    refuse-early-requires
     same-length-5
     same-length-6
     returns-3)

@@ -1,33 +1,35 @@
 -- What judging an audio packet comes to in the program, and what it leaves in the lent outputs. Assumes nothing: these are definitions.
 use Prim.Native.Nat.{ℕ, _*_, _-_, _/_, _≤_}
-use mathlib.Core.Bool.{Bool, true, false, cond, _||_}
+use mathlib.Core.Bool.{Bool, true, false, cond}
 use mathlib.Core.List.{List, map}
 use mathlib.Core.Path.{_≡_}
-use lib.Dec.{eqb, ltb}
 use lib.ListN.{length, getD, replicate}
 use lib.Seq.{sets}
 use Rattle.reading.specs.Least.{one}
-use Rattle.reading.specs.Outcome.{Refusal, Outcome, ok, bad}
+use Rattle.reading.specs.Outcome.{Outcome, ok, bad}
 use Rattle.reading.specs.Pad.{pad}
 use Rattle.identification.specs.declared.Identity.{Identity}
 use Rattle.setup.specs.Content.{Setup}
+use Rattle.requests.specs.Refusing.{cameTo}
 use Rattle.residue_requests.specs.Listed.{residueWords, listed}
 use Rattle.audio.specs.declared.Head.{Head}
 use Rattle.audio.specs.declared.Tally.{Tally}
 use Rattle.audio.specs.declared.AudioAnswer.{AudioAnswer}
-use Rattle.audio.specs.Head.{headOf, window}
+use Rattle.audio.specs.Head.{window}
 use Rattle.audio.specs.Channels.{isUsed}
-use Rattle.audio.specs.Packet.{channelFloors, bodyAt, headRun}
+use Rattle.audio.specs.Packet.{channelFloors, headRun}
 use Rattle.audio.specs.Curves.{curvesOf}
 use Rattle.audio.specs.Call.{Room, Accepted, judged, refused, Left}
+use Rattle.audio.specs.inner.Plain.{plainAt}
 use Rattle.audio_settle.specs.declared.Judged.{Judged}
 
--- a refusal as the program holds it
-abbrev pub refusedBy : ℕ → Judged
-refusedBy n =
+-- a refusal as the program holds it, and whether the outputs were written to before it
+abbrev pub refusedBy : Bool → ℕ → Judged
+refusedBy written n =
     record {
       accepted = false;
       refusal = n;
+      written = written;
       head = record { mode = 0; blockflag = 0; blocksize = 0; previous = 0; next = 0 };
       used = replicate 255 0;
       words = 0;
@@ -38,17 +40,17 @@ refusedBy n =
 -- an acceptance
 abbrev pub acceptedBy : Head → List ℕ → ℕ → ℕ → Tally → Judged
 acceptedBy h used words samples t =
-    record { accepted = true; refusal = 0; head = h; used = used; words = words; samples = samples; tally = t }
+    record { accepted = true; refusal = 0; written = true; head = h; used = used; words = words; samples = samples; tally = t }
 
 -- a packet that was read, with the tally's step
 abbrev pub finishedBy : Outcome (Tally × ℕ) → Head → List ℕ → ℕ → Judged
 finishedBy (ok x) h used words = acceptedBy h used words (x .1) (x .0)
-finishedBy (bad z) h used words = refusedBy (z .number)
+finishedBy (bad z) h used words = refusedBy true (z .number)
 
-abbrev pub judgement : Outcome Accepted → Judged
-judgement (ok x) =
+abbrev pub judgement : Bool → Outcome Accepted → Judged
+judgement written (ok x) =
     acceptedBy (x .packet .head) (pad 255 (map (λ f. one (isUsed f)) (x .packet .floors))) (length (residueWords (x .packet .items))) (x .samples) (x .tally)
-judgement (bad z) = refusedBy (z .number)
+judgement written (bad z) = refusedBy written (z .number)
 
 -- its curves and its codewords, for so many channels by a content
 abbrev pub curvesBy : ℕ → Setup → Accepted → List ℕ
@@ -57,14 +59,10 @@ curvesBy channels c x = curvesOf (x .packet .head .blocksize / 2) (channelFloors
 abbrev pub wordsBy : Accepted → List ℕ
 wordsBy x = map listed (residueWords (x .packet .items))
 
--- the refusals that come before anything is written: the head's (1, 15, 16), and 18
-unfoldable pub isEarly : ℕ → Bool
-isEarly n = ltb n 17 || eqb n 18
-
--- a packet that came to o, read into lent outputs: accepted, its curves and codewords stand at their fronts. An early refusal leaves them as they were, another
--- says nothing of what they hold
+-- a packet that came to o, read into lent outputs: accepted, its curves and codewords stand at their fronts. A refusal before anything was written leaves them as
+-- they were, another says nothing of what they hold
 pub record JudgedIs (channels : ℕ) (c : Setup) (o : Outcome Accepted) (r : Judged) (entry exit : List ℕ) (list list′ : List ℕ) : Type 0 where
-  pub answer : r ≡ judgement o
+  pub answer : r ≡ judgement (r .written) o
   -- Vorbis I's greatest block
   pub size : r .head .blocksize ≤ 8192
   pub curves-long : length exit ≡ length entry
@@ -72,15 +70,15 @@ pub record JudgedIs (channels : ℕ) (c : Setup) (o : Outcome Accepted) (r : Jud
   pub curves : (x : Accepted) → o ≡ ok x → exit ≡ sets entry 0 (curvesBy channels c x)
   pub bytes : (x : Accepted) → o ≡ ok x → length (curvesBy channels c x) ≡ channels * (x .packet .head .blocksize / 2)
   pub words : (x : Accepted) → o ≡ ok x → list′ ≡ sets list 0 (wordsBy x)
-  pub early : (z : Refusal) → o ≡ bad z → isEarly (z .number) ≡ true → (exit ≡ entry) × (list′ ≡ list)
+  pub unwritten : r .written ≡ false → (exit ≡ entry) × (list′ ≡ list)
 
 -- what follows a head that was read up to bit k
 abbrev pub afterHead : Identity → Setup → Tally → List ℕ → Head → ℕ → Room → Outcome Accepted
-afterHead i c t s h k room = judged (i .channels) t room (bodyAt (i .channels) c s (headRun i c s .items) h k)
+afterHead i c t s h k room = judged (i .channels) t room (plainAt (i .channels) c s (headRun i c s .items) h k)
 
 -- a head that was read, with the position behind it
 abbrev pub HeadIs : Identity → Setup → List ℕ → Head → ℕ → Type 0
-HeadIs i c s h k = headOf (headRun i c s) ≡ ok (h, k)
+HeadIs i c s h k = cameTo (headRun i c s) ≡ ok (h, k)
 
 -- the places of an output from one on hold nothing
 pub record ZeroFrom (place : ℕ) (l : List ℕ) : Type 0 where
@@ -116,7 +114,7 @@ abbrev pub refusedLeft : ℕ → Tally → List ℕ → List ℕ → Left
 refusedLeft n t curves words =
     record { answer = refused n; curves = replicate (length curves) 0; codewords = replicate (length words) 0; tally = t }
 
--- an early refusal's, cleared up to a place each
+-- that of a refusal before anything was written, cleared up to a place each
 abbrev pub earlyLeft : ℕ → Tally → List ℕ → List ℕ → ℕ → ℕ → Left
 earlyLeft n t curves words curvesEnd wordsEnd =
     record { answer = refused n; curves = sets curves 0 (replicate (curvesEnd - 0) 0); codewords = sets words 0 (replicate (wordsEnd - 0) 0); tally = t }
@@ -124,4 +122,4 @@ earlyLeft n t curves words curvesEnd wordsEnd =
 unfoldable pub settled : Identity → Tally → Judged → List ℕ → List ℕ → ℕ → ℕ → Left
 settled i t r curves words curvesEnd wordsEnd =
     cond (r .accepted) (acceptedLeft i r curves words curvesEnd wordsEnd)
-    (cond (isEarly (r .refusal)) (earlyLeft (r .refusal) t curves words curvesEnd wordsEnd) (refusedLeft (r .refusal) t curves words))
+    (cond (r .written) (refusedLeft (r .refusal) t curves words) (earlyLeft (r .refusal) t curves words curvesEnd wordsEnd))

@@ -1,0 +1,2 @@
+-- Statements that proofs of several crates share. No public contract rests on how they are worded.
+pub mod Plain
