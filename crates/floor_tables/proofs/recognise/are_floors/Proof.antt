@@ -1,5 +1,5 @@
 -- `floor_tables::recognise::are_floors` meets its contract. Assumes nothing.
-use Rattle.floor_tables.proofs.Tested.{table-short, table-rows, table-end}
+use Rattle.floor_tables.proofs.FloorLaws.{table-short, table-rows, table-end}
 use borrow.Author.Needs.{needs}
 use Rattle.floor_tables.proofs.recognise.are_floors.Statement.{statement}
 use Rattle.floor_tables.proofs.recognise.are_floors.Tie as tie

@@ -1,5 +1,5 @@
 -- `floor_tables::recognise::are_partitions` meets its contract. Assumes nothing.
-use Rattle.floor_tables.proofs.TestLaws.{partitions-many, partitions-not, partitions-end}
+use Rattle.floor_tables.proofs.FloorLaws.{partitions-many, partitions-not, partitions-end}
 use borrow.Author.Needs.{needs}
 use Rattle.floor_tables.proofs.recognise.are_partitions.Statement.{statement}
 use Rattle.floor_tables.proofs.recognise.are_partitions.Tie as tie

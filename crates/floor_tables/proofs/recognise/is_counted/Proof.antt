@@ -1,6 +1,6 @@
 -- `floor_tables::recognise::is_counted` meets its contract. Assumes nothing.
 use native.Mathlib.Omega.{arith}
-use Rattle.floor_tables.proofs.TestLaws.{count-many, count-few, count-end}
+use Rattle.floor_tables.proofs.FloorLaws.{count-many, count-few, count-end}
 use borrow.Author.Needs.{needs}
 use Rattle.floor_tables.proofs.recognise.is_counted.Statement.{statement}
 use Rattle.floor_tables.proofs.recognise.is_counted.Tie as tie

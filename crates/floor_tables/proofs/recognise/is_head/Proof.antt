@@ -1,6 +1,6 @@
 -- `floor_tables::recognise::is_head` meets its contract. Assumes nothing.
 use native.Mathlib.Omega.{arith}
-use Rattle.floor_tables.proofs.TestLaws.{head-low, head-high, head-range, head-end}
+use Rattle.floor_tables.proofs.FloorLaws.{head-low, head-high, head-range, head-end}
 use borrow.Author.Needs.{needs}
 use Rattle.floor_tables.proofs.recognise.is_head.Statement.{statement}
 use Rattle.floor_tables.proofs.recognise.is_head.Tie as tie
