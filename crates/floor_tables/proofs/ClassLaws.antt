@@ -1,76 +1,49 @@
 -- The tests of a class's row, as the code asks them: one law for each way out of a function. Assumes nothing.
 use Prim.Native.Nat.{ℕ, suc, _+_, _^_, _≤_, _<_}
-use native.Mathlib.Decide.{decLt}
 use native.Mathlib.Numerals.{add-one}
 use native.Mathlib.Omega.{arith}
-use borrow.Author.Needs.{needs}
 use borrow.Author.Tests.{le-leb}
 use mathlib.Core.Bool.{Bool, true, false, not}
 use mathlib.Core.List.{List, [], _∷_}
-use mathlib.Core.Logic.{_↔_}
+use mathlib.Core.Logic.{_↔_, ⊎-elim}
 use mathlib.Core.Path.{_≡_, refl, sym, ap, _∙_}
 use lib.Dec.{leb, ltb, leb·suc-suc}
-use lib.ListN.{length, getD, take, replicate, length-replicate}
+use lib.ListN.{length, getD, take, length-replicate}
 use lib.Pow.{pow-mono}
 use lib.Seq.{slice, length-take-le}
 use Rattle.reading.specs.Lists.{all}
 use Rattle.reading.specs.Pad.{pad}
 use Rattle.reading.specs.Encoding.{Each}
-use Rattle.reading.proofs.Least.{and-split}
-use Rattle.reading.proofs.Encodes.{iff-false, iff-true, refuted, shown}
+use Rattle.reading.proofs.Least.{and-split, lt-or-le}
+use Rattle.reading.proofs.Encodes.{iff-false, refuted, shown}
 use Rattle.reading.proofs.Pads.{length-pad}
 use Rattle.numbers.proofs.ListLaws.{take-pad}
-use Rattle.floor_class.specs.Content.{Class}
 use Rattle.floor_class.specs.Layout.{classRow}
 use Rattle.floor_class.specs.inner.Valid.{ValidClass}
 use Rattle.floor_class.proofs.Decoded.{ClassStored, class-long, class-stored}
 use Rattle.floor_class.proofs.ValidLaws.{master-most}
-use Rattle.floor_tables.specs.inner.Parts.{ClassStands, classOfMaster, classOfBook, BooksStand}
-use Rattle.floor_tables.proofs.Places.{slice-front, slice-rest, slice-long, slice-next, slice-stored, stored-whole, all-zeros, padded-tested}
+use Rattle.floor_tables.specs.inner.Parts.{ValidClassRow, classOfMaster, classOfBook, ValidBooks}
+use Rattle.floor_tables.proofs.Places.{slice-front, slice-long, slice-next, slice-stored, stored-whole, all-zeros, padded-tested}
 
 -- ---- the master book
 
 few-bits : (subclasses : ℕ) → 2 ^ subclasses ≤ 8 → subclasses ≤ 3
-few-bits subclasses h = go (decLt subclasses 4)
-  where
-    go : Dec (subclasses < 4) → subclasses ≤ 3
-    go (yes k) = omega arith
-    go (no k) = let p : 2 ^ 4 ≤ 2 ^ subclasses = pow-mono {i = 4} {j = subclasses} (omega arith) in absurd (omega arith)
+few-bits subclasses h = ⊎-elim (λ (k : subclasses < 4). omega arith) (λ (k : 4 ≤ subclasses). let p : 2 ^ 4 ≤ 2 ^ subclasses = pow-mono k in absurd (omega arith)) (lt-or-le subclasses 4)
 
--- what is asked of it
-module _ (books subclasses master : ℕ) (few : subclasses ≤ 3) (most : master ≤ books) where
-  pub master-valid : (subclasses ≡ 0 → master ≡ 0) → ((subclasses ≡ 0 → ⊥) → 1 ≤ master) → ValidClass books (classOfMaster subclasses master)
-  master-valid none some =
-      record {
-        carried = record {
-          dimensions = record { low = omega arith; high = omega arith };
-          subclasses = few;
-          no-master = none;
-          some-master = some;
-          count = length-replicate (2 ^ subclasses) 0;
-          books = all-zeros (λ b. leb b 255) refl (2 ^ subclasses);
-        };
-        rules = record { master = le-leb master books most; subclasses = all-zeros (λ b. leb b books) (le-leb 0 books (omega arith)) (2 ^ subclasses) };
-      }
-
-module _ (books subclasses master : ℕ) (few : 2 ^ subclasses ≤ 8) where
-  pub master-high : books < master → (false ≡ true) ↔ ValidClass books (classOfMaster subclasses master)
-  master-high h = iff-false (λ v. let k = master-most v in omega arith)
-
-  module _ (most : master ≤ books) where
-    pub no-bits-none : subclasses ≡ 0 → master ≡ 0 → (true ≡ true) ↔ ValidClass books (classOfMaster subclasses master)
-    no-bits-none e f = iff-true (master-valid books subclasses master (few-bits subclasses few) most (λ z. f) (λ n. absurd (n e)))
-
-    pub no-bits-some : subclasses ≡ 0 → (master ≡ 0 → ⊥) → (false ≡ true) ↔ ValidClass books (classOfMaster subclasses master)
-    no-bits-some e f = iff-false (λ v. f (v .carried .no-master e))
-
-    pub bits-none : (subclasses ≡ 0 → ⊥) → master < 1 → (false ≡ true) ↔ ValidClass books (classOfMaster subclasses master)
-    bits-none n h = iff-false (λ v. let k = v .carried .some-master n in omega arith)
-
-    pub bits-some : (subclasses ≡ 0 → ⊥) → 1 ≤ master → (true ≡ true) ↔ ValidClass books (classOfMaster subclasses master)
-    bits-some n h = iff-true (master-valid books subclasses master (few-bits subclasses few) most (λ z. absurd (n z)) (λ z. h))
-
-pub ruleset master-laws = (needs, master-high, no-bits-none, no-bits-some, bits-none, bits-some)
+pub master-valid : (books subclasses master : ℕ) → 2 ^ subclasses ≤ 8 → master ≤ books → (subclasses ≡ 0 → master ≡ 0) → ((subclasses ≡ 0 → ⊥) → 1 ≤ master)
+    → ValidClass books (classOfMaster subclasses master)
+master-valid books subclasses master few most none some =
+    record {
+      carried = record {
+        dimensions = record { low = omega arith; high = omega arith };
+        subclasses = few-bits subclasses few;
+        no-master = none;
+        some-master = some;
+        count = length-replicate (2 ^ subclasses) 0;
+        books = all-zeros (λ b. leb b 255) refl (2 ^ subclasses);
+      };
+      rules = record { master = le-leb master books most; subclasses = all-zeros (λ b. leb b books) (le-leb 0 books (omega arith)) (2 ^ subclasses) };
+    }
 
 -- ---- the subclass books
 
@@ -120,16 +93,16 @@ module _ (books : ℕ) (t : List ℕ) (at count : ℕ) (room : at + 8 ≤ length
       let q : b ≡ all (λ v. leb v most) (take count (slice at (at + 8) t)) = p ∙ below-next most (slice at (at + count) t) ∙ ap (all (λ v. leb v most)) (sym front) in
       ((λ s. sym q ∙ s), (λ s. q ∙ s))
 
-  pub books-unset : not b₁ ≡ true → (false ≡ true) ↔ BooksStand books count (slice at (at + 8) t)
+  pub books-unset : not b₁ ≡ true → (false ≡ true) ↔ ValidBooks books count (slice at (at + 8) t)
   books-unset n = iff-false (λ s. refuted (tested books p₁) n (books-meet books (take count (slice at (at + 8) t)) (s .valid) .0))
 
   module _ (y₁ : not b₁ ≡ false) {b₂ : Bool} (p₂ : b₂ ≡ all (λ v. ltb v 256) (slice at (at + count) t)) where
-    pub books-large : not b₂ ≡ true → (false ≡ true) ↔ BooksStand books count (slice at (at + 8) t)
+    pub books-large : not b₂ ≡ true → (false ≡ true) ↔ ValidBooks books count (slice at (at + 8) t)
     books-large n = iff-false (λ s. refuted (tested 255 p₂) n (books-meet books (take count (slice at (at + 8) t)) (s .valid) .1))
 
-    pub books-end : not b₂ ≡ false → {b₃ : Bool} → b₃ ≡ all (λ v. ltb v 1) (slice (at + count) (at + 8) t) → (b₃ ≡ true) ↔ BooksStand books count (slice at (at + 8) t)
+    pub books-end : not b₂ ≡ false → {b₃ : Bool} → b₃ ≡ all (λ v. ltb v 1) (slice (at + count) (at + 8) t) → (b₃ ≡ true) ↔ ValidBooks books count (slice at (at + 8) t)
     books-end y₂ p₃ =
-        let z = padded-tested t at count (at + count) (at + 8) refl p₃ 8 refl room few in (
+        let z = padded-tested t at count (at + 8) p₃ 8 refl room in (
           (λ e. record { valid = books-valid books (take count (slice at (at + 8) t)) (shown (tested books p₁) y₁) (shown (tested 255 p₂) y₂); holds = z .0 e }),
           (λ s. z .1 (s .holds)),
         )
@@ -137,39 +110,38 @@ module _ (books : ℕ) (t : List ℕ) (at count : ℕ) (room : at + 8 ≤ length
 -- ---- a class
 
 module _ (books : ℕ) (t : List ℕ) (at : ℕ) (room : at + 11 ≤ length t) {d : ℕ} (q₀ : d ≡ getD t at 0) where
-  stored : (r : ClassStands books t at) → ClassStored t at (r .item)
+  stored : (r : ValidClassRow books t at) → ClassStored t at (r .item)
   stored r = let l = class-long (r .item) in class-stored (r .item) (slice-stored t at (at + 11) (r .written) (omega arith) room)
 
-  pub class-low : d < 1 → (false ≡ true) ↔ ClassStands books t at
+  pub class-low : d < 1 → (false ≡ true) ↔ ValidClassRow books t at
   class-low h = iff-false (λ r. let k = r .valid .carried .dimensions .low in let s = stored r .dimensions in omega arith)
 
-  pub class-high : 8 < d → (false ≡ true) ↔ ClassStands books t at
+  pub class-high : 8 < d → (false ≡ true) ↔ ValidClassRow books t at
   class-high h = iff-false (λ r. let k = r .valid .carried .dimensions .high in let s = stored r .dimensions in omega arith)
 
   module _ (y₀ : 1 ≤ d) (y₁ : d ≤ 8) {e : ℕ} (q₁ : e ≡ getD t (at + 1) 0) where
-    pub class-many : 3 < e → (false ≡ true) ↔ ClassStands books t at
+    pub class-many : 3 < e → (false ≡ true) ↔ ValidClassRow books t at
     class-many h = iff-false (λ r. let k = r .valid .carried .subclasses in let s = stored r .subclasses in omega arith)
 
     module _ (y₂ : e ≤ 3) {e′ : ℕ} (w : e′ ≡ e) {m : ℕ} (q₂ : m ≡ getD t (at + 2) 0) {b : Bool} (p : (b ≡ true) ↔ ValidClass books (classOfMaster e′ m)) where
-      pub class-master-not : not b ≡ true → (false ≡ true) ↔ ClassStands books t at
+      pub class-master-not : not b ≡ true → (false ≡ true) ↔ ValidClassRow books t at
       class-master-not n =
           iff-false (λ r.
           let v = r .valid in
           let s = stored r in
-          refuted p n (rw (w ∙ q₁ ∙ s .subclasses, q₂ ∙ s .master) (master-valid books _ _ (v .carried .subclasses) (master-most v) (v .carried .no-master) (v .carried .some-master))))
+          refuted p n (rw (w ∙ q₁ ∙ s .subclasses, q₂ ∙ s .master) (master-valid books _ _ (pow-mono (v .carried .subclasses)) (master-most v) (v .carried .no-master) (v .carried .some-master))))
 
       module _ (y₃ : not b ≡ false) {x n : ℕ} (g : x ≡ 2 ^ e) (h : n ≡ x) where
-        places : slice (at + 3) (at + 3 + 8) t ≡ slice (at + 3) (at + 11) t
-        places = let k : at + 3 + 8 ≡ at + 11 = omega arith in ap (λ (k : ℕ). slice (at + 3) k t) k
-
         heads : slice at (at + 11) t ≡ d ∷ e ∷ m ∷ slice (at + 3) (at + 3 + 8) t
         heads =
-            slice-next t at (at + 1) (at + 11) refl (omega arith) room
-            ∙ ap (λ (l : List ℕ). getD t at 0 ∷ l) (slice-next t (at + 1) (at + 2) (at + 11) (omega arith) (omega arith) room)
-            ∙ ap (λ (l : List ℕ). getD t at 0 ∷ getD t (at + 1) 0 ∷ l) (slice-next t (at + 2) (at + 3) (at + 11) (omega arith) (omega arith) room)
-            ∙ (λ j. sym q₀ j ∷ sym q₁ j ∷ sym q₂ j ∷ sym places j)
+            let s : at + 11 ≡ at + 3 + 8 = omega arith in
+            ap (λ (k : ℕ). slice at k t) s
+            ∙ slice-next t at (at + 1) (at + 3 + 8) refl (omega arith) (omega arith)
+            ∙ (λ j. sym q₀ j ∷ slice-next t (at + 1) (at + 2) (at + 3 + 8) (omega arith) (omega arith) (omega arith) j)
+            ∙ (λ j. d ∷ sym q₁ j ∷ slice-next t (at + 2) (at + 3) (at + 3 + 8) (omega arith) (omega arith) (omega arith) j)
+            ∙ (λ j. d ∷ e ∷ sym q₂ j ∷ slice (at + 3) (at + 3 + 8) t)
 
-        pub class-end : {b₂ : Bool} → (b₂ ≡ true) ↔ BooksStand books n (slice (at + 3) (at + 3 + 8) t) → (b₂ ≡ true) ↔ ClassStands books t at
+        pub class-end : {b₂ : Bool} → (b₂ ≡ true) ↔ ValidBooks books n (slice (at + 3) (at + 3 + 8) t) → (b₂ ≡ true) ↔ ValidClassRow books t at
         unfolding classRow
         class-end p₂ =
             let cells = slice (at + 3) (at + 3 + 8) t in

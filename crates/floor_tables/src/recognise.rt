@@ -17,18 +17,17 @@ ghost use mathlib.Core.Path.{_≡_};
 ghost use mathlib.Core.Bool.{true};
 ghost use mathlib.Core.Logic.{_↔_};
 ghost use Prim.Native.Nat.{ℕ, _+_, _*_, _≤_};
-ghost use lib.ListN.{length, getD, take};
-ghost use Rattle.reading.specs.Encoding.{Encodes};
+ghost use lib.ListN.{length, getD, drop};
+ghost use Rattle.reading.specs.Encoding.{Zeros, Encodes};
 ghost use Rattle.floor.specs.Layout.{floorWidth, floorsNeed, partitionsRoom, floorRow};
-ghost use Rattle.floor.specs.inner.Pieces.{Partitions};
 ghost use Rattle.floor.specs.inner.Valid.{ValidFloor};
-ghost use Rattle.floor_tables.specs.inner.Parts.{FloorStands, partitionPlaces, ClassesStand, CountStands, HeadStands};
+ghost use Rattle.floor_tables.specs.inner.Parts.{ValidFloorRow, ValidPartitions, ValidClasses, ValidCount, ValidHead};
 ghost use Rattle.floor_tables.specs.inner.Recognised.{FloorsRecognised};
 
 // Whether the partitions of the floor at place `at` stand.
 fn are_partitions(floors: &[u16], at: usize) -> bool
     requires { ⌜ (at ≤ 17451) × (at + floorWidth ≤ length (now floors)) ⌝ }
-    ensures { λ r. ⌜ (r ≡ true) ↔ Partitions (getD (now (floors .entry)) at 0) (partitionPlaces (now (floors .entry)) at) ⌝ }
+    ensures { λ r. ⌜ (r ≡ true) ↔ ValidPartitions (now (floors .entry)) at ⌝ }
 {
     let count = number(floors, at);
     if 31 < count {
@@ -48,7 +47,7 @@ fn are_partitions(floors: &[u16], at: usize) -> bool
 // Whether its classes stand.
 fn are_named(floors: &[u16], at: usize, book_count: usize) -> bool
     requires { ⌜ (at ≤ 17451) × («book_count» ≤ 256) × (at + floorWidth ≤ length (now floors)) ⌝ }
-    ensures { λ r. ⌜ (r ≡ true) ↔ ClassesStand «book_count» (now (floors .entry)) at ⌝ }
+    ensures { λ r. ⌜ (r ≡ true) ↔ ValidClasses «book_count» (now (floors .entry)) at ⌝ }
 {
     let count = number(floors, at + 1);
     if 16 < count {
@@ -76,7 +75,7 @@ fn are_named(floors: &[u16], at: usize, book_count: usize) -> bool
 // Whether its count of X values stands.
 fn is_counted(floors: &[u16], at: usize) -> bool
     requires { ⌜ (at ≤ 17451) × (at + floorWidth ≤ length (now floors)) × (getD (now floors) at 0 ≤ partitionsRoom) ⌝ }
-    ensures { λ r. ⌜ (r ≡ true) ↔ CountStands (now (floors .entry)) at ⌝ }
+    ensures { λ r. ⌜ (r ≡ true) ↔ ValidCount (now (floors .entry)) at ⌝ }
 {
     let values = number(floors, at + 4);
     if 65 < values {
@@ -96,7 +95,7 @@ fn is_counted(floors: &[u16], at: usize) -> bool
 // Whether its multiplier, range bits and count of X values stand.
 fn is_head(floors: &[u16], at: usize) -> bool
     requires { ⌜ (at ≤ 17451) × (at + floorWidth ≤ length (now floors)) × (getD (now floors) at 0 ≤ partitionsRoom) ⌝ }
-    ensures { λ r. ⌜ (r ≡ true) ↔ HeadStands (now (floors .entry)) at ⌝ }
+    ensures { λ r. ⌜ (r ≡ true) ↔ ValidHead (now (floors .entry)) at ⌝ }
 {
     let multiplier = number(floors, at + 2);
     if multiplier < 1 {
@@ -113,9 +112,9 @@ fn is_head(floors: &[u16], at: usize) -> bool
 
 // Whether its X list stands, and so its whole row where its other parts do.
 fn is_list(floors: &[u16], at: usize) -> bool
-    requires { ⌜ (at ≤ 17451) × (at + floorWidth ≤ length (now floors)) × HeadStands (now floors) at ⌝ }
-    ensures { λ r. ⌜ ((books : ℕ) → Partitions (getD (now (floors .entry)) at 0) (partitionPlaces (now (floors .entry)) at)
-        → ClassesStand books (now (floors .entry)) at → ((r ≡ true) ↔ FloorStands books (now (floors .entry)) at)) ⌝ }
+    requires { ⌜ (at ≤ 17451) × (at + floorWidth ≤ length (now floors)) × ValidHead (now floors) at ⌝ }
+    ensures { λ r. ⌜ ((books : ℕ) → ValidPartitions (now (floors .entry)) at → ValidClasses books (now (floors .entry)) at
+        → ((r ≡ true) ↔ ValidFloorRow books (now (floors .entry)) at)) ⌝ }
 {
     let range = wide_u16(numbers::power(buffers::get_u16(floors, at + 3) as u32));
     let end = at + X_LIST_PLACE + number(floors, at + 4);
@@ -137,7 +136,7 @@ fn is_list(floors: &[u16], at: usize) -> bool
 // Whether the row of a floor begins at place `at`.
 fn is_floor(floors: &[u16], at: usize, book_count: usize) -> bool
     requires { ⌜ (at ≤ 17451) × («book_count» ≤ 256) × (at + floorWidth ≤ length (now floors)) ⌝ }
-    ensures { λ r. ⌜ (r ≡ true) ↔ FloorStands «book_count» (now (floors .entry)) at ⌝ }
+    ensures { λ r. ⌜ (r ≡ true) ↔ ValidFloorRow «book_count» (now (floors .entry)) at ⌝ }
 {
     if !are_partitions(floors, at) {
         return false;
@@ -151,10 +150,11 @@ fn is_floor(floors: &[u16], at: usize, book_count: usize) -> bool
     is_list(floors, at)
 }
 
-// Whether the rows of `count` floors lie from the front on.
+// Whether the rows of `count` floors lie from the front on. What lies behind them is not looked at.
 fn are_rows(floors: &[u16], count: usize, book_count: usize) -> bool
     requires { ⌜ (count ≤ 64) × («book_count» ≤ 256) × (floorsNeed ≤ length (now floors)) ⌝ }
-    ensures { λ r. ⌜ (r ≡ true) ↔ Encodes floorRow (ValidFloor «book_count») count (take (floorWidth * count) (now (floors .entry))) ⌝ }
+    ensures { λ r. ⌜ Encodes floorRow (ValidFloor «book_count») count (now (floors .entry))
+        ↔ ((r ≡ true) × Zeros (drop (floorWidth * count) (now (floors .entry)))) ⌝ }
 {
     let mut f: usize = 0;
     while f < count {

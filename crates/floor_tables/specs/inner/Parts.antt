@@ -1,5 +1,5 @@
--- Parts of a table of floors as the recogniser judges them, all by the content's own rules (Valid, Carried; crates/rules): a row is that of a content that meets
--- every rule, and a part of a row is judged as that part of the least content that has it.
+-- Rows of a table of floors and parts of rows, as the recogniser judges them. Every rule is the content's own (Valid, Carried; crates/rules): a row is that
+-- of a content that meets every rule, and a part of a row is judged as that part of the least content that has it.
 use Prim.Native.Nat.{ℕ, _+_, _^_}
 use mathlib.Core.Bool.{true}
 use mathlib.Core.List.{List, [], _∷_}
@@ -16,13 +16,13 @@ use Rattle.floor.specs.Content.{Floor}
 use Rattle.floor.specs.Carried.{CarriedFloor}
 use Rattle.floor.specs.Layout.{floorWidth, partitionsPlace, classesPlace, xListPlace, floorRow}
 use Rattle.floor.specs.inner.Valid.{ValidFloor}
-use Rattle.floor.specs.inner.Pieces.{classesTo, valuesTo}
+use Rattle.floor.specs.inner.Pieces.{classesTo, valuesTo, Partitions}
 
 -- ---- a class
 
--- the row of a class that is right for `books` codebooks lies from place `at` on
-abbrev pub ClassStands : ℕ → List ℕ → ℕ → Type 0
-ClassStands books t at = RowOf classRow (ValidClass books) (slice at (at + classWidth) t)
+-- the row of a class that meets every rule, where `books` codebooks are set up, lies from place `at` on
+abbrev pub ValidClassRow : ℕ → List ℕ → ℕ → Type 0
+ValidClassRow books t at = RowOf classRow (ValidClass books) (slice at (at + classWidth) t)
 
 -- the class of one dimension that has these subclass bits and this master book, and no subclass book
 abbrev pub classOfMaster : ℕ → ℕ → Class
@@ -33,15 +33,15 @@ abbrev pub classOfBook : ℕ → Class
 classOfBook book = record { dimensions = 1; subclasses = 0; master = 0; books = book ∷ [] }
 
 -- `count` subclass books fill their places from the front, and zeros follow
-pub record BooksStand (books count : ℕ) (places : List ℕ) : Type 0 where
+pub record ValidBooks (books count : ℕ) (places : List ℕ) : Type 0 where
   pub valid : Each (λ b. ValidClass books (classOfBook b)) (take count places)
   pub holds : places ≡ pad subclassBooksRoom (take count places)
 
 -- ---- a floor
 
--- the row of a floor that is right for `books` codebooks lies from place `at` on
-abbrev pub FloorStands : ℕ → List ℕ → ℕ → Type 0
-FloorStands books t at = RowOf floorRow (ValidFloor books) (slice at (at + floorWidth) t)
+-- the row of a floor that meets every rule lies from place `at` on
+abbrev pub ValidFloorRow : ℕ → List ℕ → ℕ → Type 0
+ValidFloorRow books t at = RowOf floorRow (ValidFloor books) (slice at (at + floorWidth) t)
 
 -- the places of its partitions, and of its classes
 abbrev pub partitionPlaces : List ℕ → ℕ → List ℕ
@@ -50,8 +50,12 @@ partitionPlaces t at = slice (at + partitionsPlace) (at + classesPlace) t
 abbrev pub classPlaces : List ℕ → ℕ → List ℕ
 classPlaces t at = slice (at + classesPlace) (at + xListPlace) t
 
+-- its partitions
+abbrev pub ValidPartitions : List ℕ → ℕ → Type 0
+ValidPartitions t at = Partitions (getD t at 0) (partitionPlaces t at)
+
 -- its classes: as many as its partitions name
-pub record ClassesStand (books : ℕ) (t : List ℕ) (at : ℕ) : Type 0 where
+pub record ValidClasses (books : ℕ) (t : List ℕ) (at : ℕ) : Type 0 where
   pub count : getD t (at + 1) 0 ≡ classesTo (partitionPlaces t at) (getD t at 0)
   pub classes : Encodes classRow (ValidClass books) (getD t (at + 1) 0) (classPlaces t at)
 
@@ -60,7 +64,7 @@ abbrev pub valuesAt : List ℕ → ℕ → ℕ
 valuesAt t at = valuesTo (classPlaces t at) (partitionPlaces t at) (getD t at 0)
 
 -- its count of X values: the two implied ones, and those (12)
-pub record CountStands (t : List ℕ) (at : ℕ) : Type 0 where
+pub record ValidCount (t : List ℕ) (at : ℕ) : Type 0 where
   pub values : getD t (at + 4) 0 ≡ 2 + valuesAt t at
   pub few : Rule.meets12 (Rule.explicit (valuesAt t at)) ≡ true
 
@@ -69,6 +73,6 @@ abbrev pub floorOfEnds : ℕ → ℕ → Floor
 floorOfEnds multiplier rangebits = record { partitions = []; classes = []; multiplier = multiplier; rangebits = rangebits; xs = [] }
 
 -- its multiplier, range bits and count of X values
-pub record HeadStands (t : List ℕ) (at : ℕ) : Type 0 where
+pub record ValidHead (t : List ℕ) (at : ℕ) : Type 0 where
   pub carried : CarriedFloor (floorOfEnds (getD t (at + 2) 0) (getD t (at + 3) 0))
-  pub count : CountStands t at
+  pub count : ValidCount t at

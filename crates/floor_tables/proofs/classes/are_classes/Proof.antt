@@ -8,14 +8,14 @@ use Rattle.reading.proofs.Encodes.{Left, rows-start}
 use Rattle.floor_class.specs.Layout.{classRow}
 use Rattle.floor_class.specs.inner.Valid.{ValidClass}
 use Rattle.floor_class.proofs.Decoded.{class-long}
-use Rattle.floor_tables.proofs.Places.{rows-found, rows-refuted, rows-shown}
+use Rattle.floor_tables.proofs.Places.{slice-long, slice-within, rows-found, rows-refuted, rows-shown}
 use borrow.Author.Needs.{needs}
 use Rattle.floor_tables.proofs.classes.are_classes.Statement.{statement}
 use Rattle.floor_tables.proofs.classes.are_classes.Tie as tie
 
 abbrev Inv-loop : tie.InvT-loop
-Inv-loop floors at count books c₀ c = (at ≤ 20000) × (11 * count ≤ 176) × (books ≤ 256) × (at + 11 * count ≤ length floors) × (c ≤ count)
-    × Left classRow (ValidClass books) 11 class-long count (slice at (at + 11 * count) floors) c
+Inv-loop floors at count books c₀ c = (at ≤ 20000) × (11 * count ≤ 176) × (books ≤ 256) × (at + 176 ≤ length floors) × (c ≤ count)
+    × Left classRow (ValidClass books) 11 class-long count (slice at (at + 176) floors) c
 
 abbrev μ-loop : tie.MeasureT-loop
 μ-loop floors at count books c₀ c = count - c
@@ -34,8 +34,10 @@ is-class-requires c κs = search needs
 
 returns : tie.Need-returns Inv-loop μ-loop
 returns c =
+    let start = c .before .before .before .before .before .args in
     let here = c .before .before .before .loop in
-    rows-refuted classRow _ 11 class-long _ _ _ _ refl (omega arith) (here .c) (here .inv .5) (omega arith) refl (c .before .is-class .ensures) (c .if1 .taken)
+    let row = slice-within (start .floors .now) (start .at) (11 * here .c) 11 (start .at + 176) (omega arith) in
+    rows-refuted classRow _ 11 class-long _ _ (here .c) (here .inv .5) (omega arith) row (c .before .is-class .ensures) (c .if1 .taken)
 
 add-c : tie.Need-add-c Inv-loop μ-loop
 add-c c = search needs
@@ -45,15 +47,17 @@ loop-less c = search needs
 
 loop-again : tie.Need-loop-again Inv-loop μ-loop
 loop-again c =
+    let start = c .before .before .before .before .before .args in
     let here = c .before .before .before .loop in
-    let later = rows-shown classRow _ 11 class-long _ _ _ _ refl (omega arith) (here .c) (here .inv .5) (omega arith) refl (c .before .is-class .ensures) (c .if1 .left) in
+    let long = slice-long (start .floors .now) (start .at) 176 (start .at + 176) refl (omega arith) in
+    let row = slice-within (start .floors .now) (start .at) (11 * here .c) 11 (start .at + 176) (omega arith) in
+    let later = rows-shown classRow _ 11 class-long _ _ (here .c) (here .inv .5) (omega arith) row (c .before .is-class .ensures) (omega arith) (c .if1 .left) in
     (search needs, search needs, search needs, search needs, omega arith, later)
 
 returns-2 : tie.Need-returns-2 Inv-loop μ-loop
 returns-2 c =
-    let start = c .before .before .before .args in
     let here = c .before .loop in
-    rows-found classRow _ 11 class-long (start .floors .now) (start .at) (start .count) (start .at + 11 * start .count) refl (omega arith) (here .c) (here .inv .5) (omega arith) (omega arith)
+    rows-found classRow _ 11 class-long _ _ (here .c) (here .inv .5) (omega arith) (omega arith)
 
 pub are-classes-spec : {M : Type 1} → statement M
 are-classes-spec =
