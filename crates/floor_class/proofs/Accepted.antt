@@ -36,13 +36,13 @@ class-valid books s k {x} e =
       carried = record {
         dimensions = record { low = omega arith; high = omega arith };
         subclasses = omega arith;
-        no-master = mf .none;
-        some-master = mf .some;
+        no-master = mf .0;
+        some-master = mf .1;
         count = many-number (subclassBook books) s (2 ^ u .0 .0) (m .0 .1) (l .1);
         books = many-all (λ b. leb b 255) (subclassBook books) s (λ j y g. below-256 j (judged-ok (λ b. leb b books) 11 (field 8) s j g .0)) (2 ^ u .0 .0) (m .0 .1) (l .1);
       };
       rules = record {
-        master = le-leb (m .0 .0) books (mf .most);
+        master = le-leb (m .0 .0) books (mf .2);
         subclasses = many-all (λ b. leb b books) (subclassBook books) s (λ j y g. judged-ok (λ b. leb b books) 11 (field 8) s j g .1) (2 ^ u .0 .0) (m .0 .1) (l .1);
       };
     })

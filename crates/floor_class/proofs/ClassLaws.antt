@@ -33,7 +33,6 @@ use Rattle.numbers.proofs.Collected.{collected, rows-cell, wrote-as}
 use Rattle.floor_class.specs.Layout.{classRow}
 use Rattle.floor_class.specs.Reading.{masterBook, subclassBook, class}
 use Rattle.floor_class.specs.inner.Pieces.{classRowOf}
-use Rattle.floor_class.specs.inner.Valid.{MasterFits}
 
 abbrev at : ℕ → Cursor → Refusal
 at n c = record { number = n; place = c }
@@ -58,22 +57,24 @@ module _ (books subclasses : ℕ) (s : List ℕ) (k : Cursor) where
       unfolding masterBook outcome mapped
       master-set h = rw (ne-eqb _ _ some, value-is p q, lt-ltb _ _ h, add-one)
 
--- which master books are accepted
-pub master-ok : (books subclasses : ℕ) (s : List ℕ) (k : ℕ) {m n : ℕ} → masterBook books subclasses s k ≡ ok (m, n) → MasterFits books subclasses m
+-- which master books are accepted: none without subclass bits, some with them, and one that is set up
+pub master-ok : (books subclasses : ℕ) (s : List ℕ) (k : ℕ) {m n : ℕ} → masterBook books subclasses s k ≡ ok (m, n)
+    → (subclasses ≡ 0 → m ≡ 0) × ((subclasses ≡ 0 → ⊥) → 1 ≤ m) × (m ≤ books)
 unfolding masterBook
 master-ok books subclasses s k {m} {n} e = go (eqb subclasses 0) refl e
   where
-    go : (b : Bool) → eqb subclasses 0 ≡ b → cond b (ok (0, k)) (mapped suc (judged (λ v. ltb v books) 11 (field 8) s k)) ≡ ok (m, n) → MasterFits books subclasses m
+    go : (b : Bool) → eqb subclasses 0 ≡ b → cond b (ok (0, k)) (mapped suc (judged (λ v. ltb v books) 11 (field 8) s k)) ≡ ok (m, n)
+        → (subclasses ≡ 0 → m ≡ 0) × ((subclasses ≡ 0 → ⊥) → 1 ≤ m) × (m ≤ books)
     go true p q =
         let t : _≡_ {A = ℕ × ℕ} (0, k) (m, n) = cc in
         let z : 0 ≡ m = ap (λ (x : ℕ × ℕ). x .0) t in
-        record { none = λ h. sym z; some = λ h. absurd (h (eqb-true _ _ p)); most = omega arith }
+        ((λ h. sym z), (λ h. absurd (h (eqb-true _ _ p))), omega arith)
     go false p q =
         let a = mapped-ok suc (judged (λ v. ltb v books) 11 (field 8) s k) q in
         let j = judged-ok (λ v. ltb v books) 11 (field 8) s k (a .1) in
         let l : a .0 < books = ltb-true (a .0) books (j .1) in
         let x : suc (a .0) ≡ m = a .2 in
-        record { none = λ h. absurd (eqb-false _ _ p h); some = λ h. omega arith; most = omega arith }
+        ((λ h. absurd (eqb-false _ _ p h)), (λ h. omega arith), omega arith)
 
 -- a subclass book
 module _ (books : ℕ) (s : List ℕ) (k : Cursor) {r : Field} (p : outcome r ≡ field 8 s (position k)) where
@@ -151,7 +152,7 @@ module _ (books : ℕ) (s : List ℕ) (k : Cursor) (entry : List ℕ) (i : ℕ) 
 
           module _ {m : ℕ} {k₃ : Cursor} (q₃ : r₃ ≡ Value m k₃) where
             pub master-most : books ≤ 256 → m ≤ 256
-            master-most h = let f = master-ok books e s (position k₂) (value-is p₃ q₃) in let g = f .most in omega arith
+            master-most h = let f = master-ok books e s (position k₂) (value-is p₃ q₃) in let g = f .2 in omega arith
 
             same-row : (o : Outcome (List ℕ × ℕ)) (t : Table)
                 → into1 (putRow (classRowOf (d + 1) e m)) o t ≡ into1 (putRow classRow) (then o (λ list. ok (record { dimensions = d + 1; subclasses = e; master = m; books = list .0 }, list .1))) t
