@@ -13,6 +13,7 @@ use lib.Pow.{pow-mono}
 use lib.Seq.{slice, length-take-le}
 use Rattle.reading.specs.Lists.{all}
 use Rattle.reading.specs.Pad.{pad}
+use Rattle.reading.specs.Counted.{Counted}
 use Rattle.reading.specs.Encoding.{Each}
 use Rattle.reading.proofs.Least.{and-split, lt-or-le}
 use Rattle.reading.proofs.Encodes.{iff-false, refuted, shown}
@@ -25,6 +26,9 @@ use Rattle.floor_class.proofs.ValidLaws.{master-most}
 use Rattle.floor_tables.specs.inner.Parts.{ValidClassRow, classOfMaster, classOfBook, ValidBooks}
 use Rattle.floor_tables.proofs.Places.{slice-front, slice-long, slice-next, slice-stored, stored-whole, all-zeros, padded-tested}
 
+one : Counted 8 1
+one = record { low = omega arith; high = omega arith }
+
 -- ---- the master book
 
 few-bits : (subclasses : ℕ) → 2 ^ subclasses ≤ 8 → subclasses ≤ 3
@@ -35,7 +39,7 @@ pub master-valid : (books subclasses master : ℕ) → 2 ^ subclasses ≤ 8 → 
 master-valid books subclasses master few most none some =
     record {
       carried = record {
-        dimensions = record { low = omega arith; high = omega arith };
+        dimensions = one;
         subclasses = few-bits subclasses few;
         no-master = none;
         some-master = some;
@@ -56,14 +60,7 @@ module _ (books : ℕ) where
   unfolding all
   book-valid h k =
       record {
-        carried = record {
-          dimensions = record { low = omega arith; high = omega arith };
-          subclasses = omega arith;
-          no-master = λ z. refl;
-          some-master = λ z. absurd (z refl);
-          count = refl;
-          books = rw k;
-        };
+        carried = record { dimensions = one; subclasses = omega arith; no-master = λ z. refl; some-master = λ z. absurd (z refl); count = refl; books = rw k };
         rules = record { master = le-leb 0 books (omega arith); subclasses = rw h };
       }
 

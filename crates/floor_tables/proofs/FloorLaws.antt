@@ -33,7 +33,7 @@ use Rattle.floor.proofs.RowLaws.{class-count-most, classes-counted, values-coun
 use Rattle.floor.proofs.Decoded.{floor-long, FloorStored, floor-stored}
 use Rattle.floor.proofs.ValidLaws.{values-few, classes-meet}
 use Rattle.floor_row.proofs.Laws.{x-list-is}
-use Rattle.floor_tables.specs.inner.Parts.{ValidFloorRow, partitionPlaces, classPlaces, ValidPartitions, ValidClasses, valuesAt, ValidCount, floorOfEnds, ValidHead}
+use Rattle.floor_tables.specs.inner.Parts.{ValidFloorRow, partitionPlaces, classPlaces, ValidPartitions, ValidClasses, valuesAt, ValidCount, floorOfEnds, ValidHead, DecidesRow}
 use Rattle.floor_tables.specs.inner.Recognised.{FloorsRecognised}
 use Rattle.floor_tables.proofs.Places.{slice-front, slice-long, slice-next, slice-both, slice-stored, stored-whole, zeros-tested, padded-tested}
 
@@ -104,16 +104,7 @@ list-inside room r q₄ = let k = count-most (r .count) in omega arith
 pub ends-carried : {m b : ℕ} → Counted 4 m → b ≤ 15 → CarriedFloor (floorOfEnds m b)
 unfolding all classCount valueCount Each
 ends-carried count bits =
-    record {
-      partitions = omega arith;
-      classes-named = refl;
-      class-count = refl;
-      classes = tt;
-      multiplier = count;
-      rangebits = bits;
-      value-count = refl;
-      in-range = refl;
-    }
+    record { partitions = omega arith; classes-named = refl; class-count = refl; classes = tt; multiplier = count; rangebits = bits; value-count = refl; in-range = refl }
 
 -- ---- a floor
 
@@ -177,7 +168,7 @@ module _ (books : ℕ) (t : List ℕ) (at : ℕ) (room : at + 277 ≤ length t) 
           pub floor-head : not b₃ ≡ true → (false ≡ true) ↔ ValidFloorRow books t at
           floor-head n = iff-false (λ r. refuted p₃ n (row-head r))
 
-          pub floor-end : {b₄ : Bool} → ((books : ℕ) → ValidPartitions t at → ValidClasses books t at → ((b₄ ≡ true) ↔ ValidFloorRow books t at)) → (b₄ ≡ true) ↔ ValidFloorRow books t at
+          pub floor-end : {b₄ : Bool} → DecidesRow b₄ t at → (b₄ ≡ true) ↔ ValidFloorRow books t at
           floor-end p₄ = p₄ books (shown p₁ y₁) (shown p₂ y₂)
 
 -- ---- the X list
@@ -232,9 +223,6 @@ module _ (books : ℕ) (t : List ℕ) (at : ℕ) (room : at + 277 ≤ length t) 
 
 module _ (t : List ℕ) (at : ℕ) (room : at + 277 ≤ length t) (head : ValidHead t at) {b : ℕ} (q₃ : b ≡ getD t (at + 3) 0) {x n : ℕ} (power : x ≡ 2 ^ b) (wide : n ≡ x)
     {v : ℕ} (q₄ : v ≡ getD t (at + 4) 0) {f : ℕ} (q₅ : f ≡ getD t (at + 212) 0) where
-  abbrev Decides : Bool → Type 0
-  Decides d = (books : ℕ) → ValidPartitions t at → ValidClasses books t at → ((d ≡ true) ↔ ValidFloorRow books t at)
-
   range : n ≡ 2 ^ getD t (at + 3) 0
   range = wide ∙ power ∙ ap (λ (e : ℕ). 2 ^ e) q₃
 
@@ -262,15 +250,15 @@ module _ (t : List ℕ) (at : ℕ) (room : at + 277 ≤ length t) (head : ValidH
     range-of : n ≡ 2 ^ r .item .rangebits
     range-of = range ∙ ap (λ (e : ℕ). 2 ^ e) (stored books t at room r .rangebits)
 
-  pub list-first : 0 < f → Decides false
+  pub list-first : 0 < f → DecidesRow false t at
   list-first h books P C = iff-false (λ r. let e : f ≡ 0 = ap (λ (l : List ℕ). getD l 0 0) (same r) in omega arith)
 
   module _ (y₀ : f ≤ 0) {g : ℕ} (q₆ : g ≡ getD t (at + 213) 0) where
-    pub list-second : (n ≡ g → ⊥) → Decides false
+    pub list-second : (n ≡ g → ⊥) → DecidesRow false t at
     list-second h books P C = iff-false (λ r. h (range-of r ∙ sym (ap (λ (l : List ℕ). getD l 1 0) (same r)) ∙ sym q₆))
 
     module _ (y₁ : n ≡ g) {b₁ : Bool} (p₁ : b₁ ≡ all (λ w. ltb w n) (slice (at + 214) (at + 212 + v) t)) where
-      pub list-range : not b₁ ≡ true → Decides false
+      pub list-range : not b₁ ≡ true → DecidesRow false t at
       list-range z books P C =
           iff-false (λ r. true-not-false b₁ (p₁ ∙ (λ j. all (λ w. ltb w (range-of r j)) (ap (drop 2) (same r) j)) ∙ r .valid .carried .in-range) (not-true b₁ z))
 
@@ -281,14 +269,14 @@ module _ (t : List ℕ) (at : ℕ) (room : at + 277 ≤ length t) (head : ValidH
         padded : (b₂ ≡ true) ↔ (slice (at + 212) (at + 277) t ≡ pad 65 (slice (at + 212) (at + 212 + v) t))
         padded = rw front at (padded-tested t (at + 212) v (at + 277) p₂ 65 (omega arith) room)
 
-        pub list-trailing : not b₂ ≡ true → Decides false
+        pub list-trailing : not b₂ ≡ true → DecidesRow false t at
         list-trailing z books P C =
             iff-false (λ r.
             let X = xList (r .item .rangebits) (r .item .xs) in
             let l = length-pad 65 X in
             refuted padded z (stored-whole t (at + 212) (at + 277) (stored books t at room r .list) (omega arith) ∙ ap (pad 65) (sym (of-row r))))
 
-        pub list-end : not b₂ ≡ false → {d : Bool} → d ≡ distinct (slice (at + 212) (at + 212 + v) t) → Decides d
+        pub list-end : not b₂ ≡ false → {d : Bool} → d ≡ distinct (slice (at + 212) (at + 212 + v) t) → DecidesRow d t at
         list-end z {d} w books P C =
             let xs = slice (at + 214) (at + 212 + v) t in
             let s = some in

@@ -39,7 +39,7 @@ module _ (t : List ℕ) where
   pub slice-long : (at n to : ℕ) → to ≡ at + n → to ≤ length t → length (slice at to t) ≡ n
   slice-long at n to e h = length-slice at to t h ∙ omega arith
 
-  -- its first number, and its first numbers
+  -- its first number, and its numbers up to a place
   pub slice-next : (at next to : ℕ) → next ≡ at + 1 → at < to → to ≤ length t → slice at to t ≡ getD t at 0 ∷ slice next to t
   slice-next at next to e h k = rw (e, add-one) (slice-cons at to t 0 h k)
 

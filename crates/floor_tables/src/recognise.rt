@@ -16,12 +16,12 @@ use reading::widths::wide_u32;
 ghost use mathlib.Core.Path.{_≡_};
 ghost use mathlib.Core.Bool.{true};
 ghost use mathlib.Core.Logic.{_↔_};
-ghost use Prim.Native.Nat.{ℕ, _+_, _*_, _≤_};
+ghost use Prim.Native.Nat.{_+_, _*_, _≤_};
 ghost use lib.ListN.{length, getD, drop};
 ghost use Rattle.reading.specs.Encoding.{Zeros, Encodes};
 ghost use Rattle.floor.specs.Layout.{floorWidth, floorsNeed, partitionsRoom, floorRow};
 ghost use Rattle.floor.specs.inner.Valid.{ValidFloor};
-ghost use Rattle.floor_tables.specs.inner.Parts.{ValidFloorRow, ValidPartitions, ValidClasses, ValidCount, ValidHead};
+ghost use Rattle.floor_tables.specs.inner.Parts.{ValidFloorRow, ValidPartitions, ValidClasses, ValidCount, ValidHead, DecidesRow};
 ghost use Rattle.floor_tables.specs.inner.Recognised.{FloorsRecognised};
 
 // Whether the partitions of the floor at place `at` stand.
@@ -113,8 +113,7 @@ fn is_head(floors: &[u16], at: usize) -> bool
 // Whether its X list stands, and so its whole row where its other parts do.
 fn is_list(floors: &[u16], at: usize) -> bool
     requires { ⌜ (at ≤ 17451) × (at + floorWidth ≤ length (now floors)) × ValidHead (now floors) at ⌝ }
-    ensures { λ r. ⌜ ((books : ℕ) → ValidPartitions (now (floors .entry)) at → ValidClasses books (now (floors .entry)) at
-        → ((r ≡ true) ↔ ValidFloorRow books (now (floors .entry)) at)) ⌝ }
+    ensures { λ r. ⌜ DecidesRow r (now (floors .entry)) at ⌝ }
 {
     let range = wide_u16(numbers::power(buffers::get_u16(floors, at + 3) as u32));
     let end = at + X_LIST_PLACE + number(floors, at + 4);

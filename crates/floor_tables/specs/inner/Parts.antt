@@ -1,8 +1,9 @@
 -- Rows of a table of floors and parts of rows, as the recogniser judges them. Every rule is the content's own (Valid, Carried; crates/rules): a row is that
 -- of a content that meets every rule, and a part of a row is judged as that part of the least content that has it.
 use Prim.Native.Nat.{ℕ, _+_, _^_}
-use mathlib.Core.Bool.{true}
+use mathlib.Core.Bool.{Bool, true}
 use mathlib.Core.List.{List, [], _∷_}
+use mathlib.Core.Logic.{_↔_}
 use mathlib.Core.Path.{_≡_}
 use lib.ListN.{getD, take, replicate}
 use lib.Seq.{slice}
@@ -76,3 +77,7 @@ floorOfEnds multiplier rangebits = record { partitions = []; classes = []; multi
 pub record ValidHead (t : List ℕ) (at : ℕ) : Type 0 where
   pub carried : CarriedFloor (floorOfEnds (getD t (at + 2) 0) (getD t (at + 3) 0))
   pub count : ValidCount t at
+
+-- an answer that says whether the row lies there, where its partitions and its classes do
+abbrev pub DecidesRow : Bool → List ℕ → ℕ → Type 0
+DecidesRow r t at = (books : ℕ) → ValidPartitions t at → ValidClasses books t at → ((r ≡ true) ↔ ValidFloorRow books t at)
