@@ -1,5 +1,5 @@
 -- An accepted class meets every rule. Assumes nothing.
-use Prim.Native.Nat.{ℕ, zero, suc, _+_, _^_, _<_}
+use Prim.Native.Nat.{ℕ, zero, suc, _+_, _^_, _<_, _≤_}
 use native.Mathlib.Omega.{arith}
 use borrow.Author.Tests.{le-leb, ltb-true, eqb-true, eqb-false}
 use mathlib.Core.Bool.{true, Bool, false, cond}
@@ -16,24 +16,26 @@ use Rattle.bits.specs.Field.{field}
 use Rattle.bits.proofs.Fields.{field-ok}
 use Rattle.floor.specs.Content.{Class}
 use Rattle.floor.specs.ClassReading.{masterBook, subclassBook, class}
-use Rattle.floor.specs.inner.Valid.{ValidClass, MasterFits}
+use Rattle.floor.specs.inner.Valid.{ValidClass}
 
--- which master books are accepted
-pub master-ok : (books subclasses : ℕ) (s : List ℕ) (k : ℕ) {m n : ℕ} → masterBook books subclasses s k ≡ ok (m, n) → MasterFits books subclasses m
+-- which master books are accepted: none without subclass bits, some with them, and one that is set up
+pub master-ok : (books subclasses : ℕ) (s : List ℕ) (k : ℕ) {m n : ℕ} → masterBook books subclasses s k ≡ ok (m, n)
+    → (subclasses ≡ 0 → m ≡ 0) × ((subclasses ≡ 0 → ⊥) → 1 ≤ m) × (m ≤ books)
 unfolding masterBook
 master-ok books subclasses s k {m} {n} e = go (eqb subclasses 0) refl e
   where
-    go : (b : Bool) → eqb subclasses 0 ≡ b → cond b (ok (0, k)) (mapped suc (judged (λ v. ltb v books) 11 (field 8) s k)) ≡ ok (m, n) → MasterFits books subclasses m
+    go : (b : Bool) → eqb subclasses 0 ≡ b → cond b (ok (0, k)) (mapped suc (judged (λ v. ltb v books) 11 (field 8) s k)) ≡ ok (m, n)
+        → (subclasses ≡ 0 → m ≡ 0) × ((subclasses ≡ 0 → ⊥) → 1 ≤ m) × (m ≤ books)
     go true p q =
         let t : _≡_ {A = ℕ × ℕ} (0, k) (m, n) = cc in
         let z : 0 ≡ m = ap (λ (x : ℕ × ℕ). x .0) t in
-        record { none = λ h. sym z; some = λ h. absurd (h (eqb-true _ _ p)); most = omega arith }
+        ((λ h. sym z), (λ h. absurd (h (eqb-true _ _ p))), omega arith)
     go false p q =
         let a = mapped-ok suc (judged (λ v. ltb v books) 11 (field 8) s k) q in
         let j = judged-ok (λ v. ltb v books) 11 (field 8) s k (a .1) in
         let l : a .0 < books = ltb-true (a .0) books (j .1) in
         let x : suc (a .0) ≡ m = a .2 in
-        record { none = λ h. absurd (eqb-false _ _ p h); some = λ h. omega arith; most = omega arith }
+        ((λ h. absurd (eqb-false _ _ p h)), (λ h. omega arith), omega arith)
 
 pub class-valid : (books : ℕ) (s : List ℕ) (k : ℕ) {x : Class × ℕ} → class books s k ≡ ok x → ValidClass books (x .0)
 unfolding class subclassBook
@@ -53,13 +55,13 @@ class-valid books s k {x} e =
       carried = record {
         dimensions = record { low = omega arith; high = omega arith };
         subclasses = omega arith;
-        no-master = mf .none;
-        some-master = mf .some;
+        no-master = mf .0;
+        some-master = mf .1;
         count = many-number (subclassBook books) s (2 ^ u .0 .0) (m .0 .1) (l .1);
         books = many-all (λ b. leb b 255) (subclassBook books) s (λ j y g. below-256 j (judged-ok (λ b. leb b books) 11 (field 8) s j g .0)) (2 ^ u .0 .0) (m .0 .1) (l .1);
       };
       rules = record {
-        master = le-leb (m .0 .0) books (mf .most);
+        master = le-leb (m .0 .0) books (mf .2);
         subclasses = many-all (λ b. leb b books) (subclassBook books) s (λ j y g. judged-ok (λ b. leb b books) 11 (field 8) s j g .1) (2 ^ u .0 .0) (m .0 .1) (l .1);
       };
     })

@@ -4,16 +4,13 @@ use borrow.Author.Tests.{leb-true}
 use lib.ListN.{length}
 use Rattle.reading.specs.Encoding.{Each}
 use Rattle.reading.proofs.EachLaws.{each-both}
-use Rattle.floor.specs.inner.Valid.{ValidClass, ValidFloor, MasterFits}
+use Rattle.floor.specs.inner.Valid.{ValidClass, ValidFloor}
 use Rattle.floor.specs.Content.{Floor, Class}
 
 module _ {books : ℕ} {c : Class} (v : ValidClass books c) where
   -- the master book is set up (11)
   pub master-most : c .master ≤ books
   master-most = leb-true (c .master) books (v .rules .master)
-
-  pub master-fits : MasterFits books (c .subclasses) (c .master)
-  master-fits = record { none = v .carried .no-master; some = v .carried .some-master; most = master-most }
 
 module _ {books : ℕ} {f : Floor} (v : ValidFloor books f) where
   -- at most 63 X values are read (12)

@@ -131,7 +131,7 @@ module _ (books : ℕ) (s : List ℕ) (k : Cursor) (entry : List ℕ) (i : ℕ) 
 
           module _ {m : ℕ} {k₃ : Cursor} (q₃ : r₃ ≡ Value m k₃) where
             pub master-most : books ≤ 256 → m ≤ 256
-            master-most h = let f = master-ok books e s (position k₂) (value-is p₃ q₃) in let g = f .most in omega arith
+            master-most h = let f = master-ok books e s (position k₂) (value-is p₃ q₃) in let g = f .2 in omega arith
 
             same-row : (o : Outcome (List ℕ × ℕ)) (t : Table)
                 → into1 (putRow (classRowOf (d + 1) e m)) o t ≡ into1 (putRow classRow) (then o (λ list. ok (record { dimensions = d + 1; subclasses = e; master = m; books = list .0 }, list .1))) t

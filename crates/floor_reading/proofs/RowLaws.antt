@@ -35,11 +35,11 @@ use Rattle.floor.specs.Layout.{classRow, floorRow}
 use Rattle.floor.specs.ClassReading.{class}
 use Rattle.floor.specs.XListReading.{Ends, ends}
 use Rattle.floor.specs.Reading.{floorType, floor1, floor, floorFrom}
-use Rattle.floor.specs.inner.Counts.{classesTo, valuesTo}
+use Rattle.floor.specs.inner.Counts.{classesTo, valuesTo, Partitions}
 use Rattle.floor.proofs.XListAccepted.{EndsFit, ends-fit}
 use Rattle.floor.proofs.CountLaws.{classes-counted, class-count-most, values-counted}
 use Rattle.floor_x_list.specs.inner.Pieces.{EndsRead, endsRead, endsInBuffer}
-use Rattle.floor_reading.specs.inner.Pieces.{rowOf, Partitions}
+use Rattle.floor_reading.specs.inner.Pieces.{rowOf}
 
 -- the row is stored in two runs: the 5 counts with the 31 places for partitions, then the rest
 pub two-runs-at : (entry : List ℕ) (at : ℕ) (first second third : List ℕ) {middle last : List ℕ} → length first ≡ 5 → length second ≡ 31

@@ -23,8 +23,8 @@ ghost use Rattle.bits.specs.inner.Cursors.{position, outcome, Wrote};
 ghost use Rattle.floor.specs.XListReading.{ends};
 ghost use Rattle.floor.specs.Layout.{floorRow, partitionsRoom, classesRoom, floorWidth, floorsNeed};
 ghost use Rattle.floor.specs.Reading.{floorType, floor1, floor, floorFrom};
-ghost use Rattle.floor.specs.inner.Counts.{classesTo, valuesTo};
-ghost use Rattle.floor_reading.specs.inner.Pieces.{rowOf, Partitions};
+ghost use Rattle.floor.specs.inner.Counts.{classesTo, valuesTo, Partitions};
+ghost use Rattle.floor_reading.specs.inner.Pieces.{rowOf};
 
 // The type field: 0 is refusal 14, above 1 is 10.
 pub fn read_type(packet: &[u8], from: Cursor) -> Field

@@ -1,5 +1,3 @@
-pub mod ClassTestLaws
-pub mod Runs
-pub mod ClassTested
-pub mod TestLaws
-pub mod Tested
+pub mod Places
+pub mod ClassLaws
+pub mod FloorLaws

@@ -2,11 +2,11 @@
 use reading::buffers;
 use reading::widths::wide_u16;
 ghost use mathlib.Core.Path.{_≡_};
-ghost use mathlib.Core.Bool.{true};
-ghost use mathlib.Core.Logic.{_↔_};
-ghost use Prim.Native.Nat.{_<_};
-ghost use lib.ListN.{getD};
-ghost use Rattle.floor_tables.specs.inner.ClassRules.{Below};
+ghost use Prim.Native.Nat.{_<_, _≤_};
+ghost use lib.Dec.{ltb};
+ghost use lib.ListN.{length, getD};
+ghost use lib.Seq.{slice};
+ghost use Rattle.reading.specs.Lists.{all};
 
 // A place of the table.
 pub fn number(floors: &[u16], at: usize) -> usize
@@ -15,9 +15,10 @@ pub fn number(floors: &[u16], at: usize) -> usize
     wide_u16(buffers::get_u16(floors, at))
 }
 
-// Whether every number from place `from` up to `to` is below the limit. Past the end there are zeros.
+// Whether every number from place `from` up to `to` is below the limit.
 pub fn are_below(floors: &[u16], from: usize, to: usize, limit: usize) -> bool
-    ensures { λ r. ⌜ (r ≡ true) ↔ Below (now (floors .entry)) from to limit ⌝ }
+    requires { ⌜ to ≤ length (now floors) ⌝ }
+    ensures { λ r. ⌜ r ≡ all (λ v. ltb v limit) (slice from to (now (floors .entry))) ⌝ }
 {
     let mut i = from;
     while i < to {

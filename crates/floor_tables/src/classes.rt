@@ -7,13 +7,18 @@ use reading::widths::wide_u16;
 ghost use mathlib.Core.Path.{_≡_};
 ghost use mathlib.Core.Bool.{true};
 ghost use mathlib.Core.Logic.{_↔_};
-ghost use Prim.Native.Nat.{_≤_};
-ghost use Rattle.floor.specs.inner.Valid.{MasterFits};
-ghost use Rattle.floor_tables.specs.inner.ClassRules.{BookRules, ClassRules, ClassesRules};
+ghost use Prim.Native.Nat.{_+_, _*_, _^_, _≤_};
+ghost use lib.ListN.{length, drop};
+ghost use lib.Seq.{slice};
+ghost use Rattle.reading.specs.Encoding.{Zeros, Encodes};
+ghost use Rattle.floor.specs.Layout.{classWidth, subclassBooksRoom, classRow, classesRoom};
+ghost use Rattle.floor.specs.inner.Valid.{ValidClass};
+ghost use Rattle.floor_tables.specs.inner.Parts.{ValidClassRow, classOfMaster, ValidBooks};
 
 // Whether there is a master book exactly where there are subclass bits, and it is set up.
 fn is_master(book_count: usize, subclasses: usize, master: usize) -> bool
-    ensures { λ r. ⌜ (r ≡ true) ↔ MasterFits «book_count» subclasses master ⌝ }
+    requires { ⌜ 2 ^ subclasses ≤ subclassBooksRoom ⌝ }
+    ensures { λ r. ⌜ (r ≡ true) ↔ ValidClass «book_count» (classOfMaster subclasses master) ⌝ }
 {
     if book_count < master {
         return false;
@@ -32,8 +37,8 @@ fn is_master(book_count: usize, subclasses: usize, master: usize) -> bool
 
 // Whether the subclass books of a class lie from place `at` on, `count` of them, and zeros behind.
 fn are_books(floors: &[u16], at: usize, book_count: usize, count: usize) -> bool
-    requires { ⌜ (at ≤ 65535) × («book_count» ≤ 256) × (count ≤ 8) ⌝ }
-    ensures { λ r. ⌜ (r ≡ true) ↔ BookRules «book_count» (now (floors .entry)) at count ⌝ }
+    requires { ⌜ (at ≤ 65535) × («book_count» ≤ 256) × (count ≤ subclassBooksRoom) × (at + subclassBooksRoom ≤ length (now floors)) ⌝ }
+    ensures { λ r. ⌜ (r ≡ true) ↔ ValidBooks «book_count» count (slice at (at + subclassBooksRoom) (now (floors .entry))) ⌝ }
 {
     if !are_below(floors, at, at + count, book_count + 1) {
         return false;
@@ -46,8 +51,8 @@ fn are_books(floors: &[u16], at: usize, book_count: usize, count: usize) -> bool
 
 // Whether the row of a class begins at place `at`.
 fn is_class(floors: &[u16], at: usize, book_count: usize) -> bool
-    requires { ⌜ (at ≤ 65524) × («book_count» ≤ 256) ⌝ }
-    ensures { λ r. ⌜ (r ≡ true) ↔ ClassRules «book_count» (now (floors .entry)) at ⌝ }
+    requires { ⌜ (at ≤ 65524) × («book_count» ≤ 256) × (at + classWidth ≤ length (now floors)) ⌝ }
+    ensures { λ r. ⌜ (r ≡ true) ↔ ValidClassRow «book_count» (now (floors .entry)) at ⌝ }
 {
     let dimensions = number(floors, at);
     if dimensions < 1 {
@@ -71,10 +76,11 @@ fn is_class(floors: &[u16], at: usize, book_count: usize) -> bool
     )
 }
 
-// Whether the rows of `count` classes lie from place `at` on.
+// Whether the rows of `count` classes lie from place `at` on. What lies behind them is not looked at.
 pub fn are_classes(floors: &[u16], at: usize, count: usize, book_count: usize) -> bool
-    requires { ⌜ (at ≤ 20000) × (count ≤ 16) × («book_count» ≤ 256) ⌝ }
-    ensures { λ r. ⌜ (r ≡ true) ↔ ClassesRules «book_count» (now (floors .entry)) at count ⌝ }
+    requires { ⌜ (at ≤ 20000) × (classWidth * count ≤ classesRoom) × («book_count» ≤ 256) × (at + classesRoom ≤ length (now floors)) ⌝ }
+    ensures { λ r. ⌜ Encodes classRow (ValidClass «book_count») count (slice at (at + classesRoom) (now (floors .entry)))
+        ↔ ((r ≡ true) × Zeros (drop (classWidth * count) (slice at (at + classesRoom) (now (floors .entry))))) ⌝ }
 {
     let mut c: usize = 0;
     while c < count {

@@ -16,16 +16,18 @@ use reading::widths::wide_u32;
 ghost use mathlib.Core.Path.{_≡_};
 ghost use mathlib.Core.Bool.{true};
 ghost use mathlib.Core.Logic.{_↔_};
-ghost use Prim.Native.Nat.{_+_, _≤_};
-ghost use lib.ListN.{length, getD};
-ghost use Rattle.floor_tables.specs.inner.Rules.{PartitionRules, NamedRules, CountRules, HeadRules, ListRules, FloorRules, FloorsRules};
+ghost use Prim.Native.Nat.{_+_, _*_, _≤_};
+ghost use lib.ListN.{length, getD, drop};
+ghost use Rattle.reading.specs.Encoding.{Zeros, Encodes};
+ghost use Rattle.floor.specs.Layout.{floorWidth, floorsNeed, partitionsRoom, floorRow};
+ghost use Rattle.floor.specs.inner.Valid.{ValidFloor};
+ghost use Rattle.floor_tables.specs.inner.Parts.{ValidFloorRow, ValidPartitions, ValidClasses, ValidCount, ValidHead, DecidesRow};
 ghost use Rattle.floor_tables.specs.inner.Recognised.{FloorsRecognised};
-ghost use Rattle.floor.specs.Layout.{floorWidth, floorsNeed};
 
 // Whether the partitions of the floor at place `at` stand.
 fn are_partitions(floors: &[u16], at: usize) -> bool
-    requires { ⌜ at ≤ 17451 ⌝ }
-    ensures { λ r. ⌜ (r ≡ true) ↔ PartitionRules (now (floors .entry)) at ⌝ }
+    requires { ⌜ (at ≤ 17451) × (at + floorWidth ≤ length (now floors)) ⌝ }
+    ensures { λ r. ⌜ (r ≡ true) ↔ ValidPartitions (now (floors .entry)) at ⌝ }
 {
     let count = number(floors, at);
     if 31 < count {
@@ -45,7 +47,7 @@ fn are_partitions(floors: &[u16], at: usize) -> bool
 // Whether its classes stand.
 fn are_named(floors: &[u16], at: usize, book_count: usize) -> bool
     requires { ⌜ (at ≤ 17451) × («book_count» ≤ 256) × (at + floorWidth ≤ length (now floors)) ⌝ }
-    ensures { λ r. ⌜ (r ≡ true) ↔ NamedRules «book_count» (now (floors .entry)) at ⌝ }
+    ensures { λ r. ⌜ (r ≡ true) ↔ ValidClasses «book_count» (now (floors .entry)) at ⌝ }
 {
     let count = number(floors, at + 1);
     if 16 < count {
@@ -72,8 +74,8 @@ fn are_named(floors: &[u16], at: usize, book_count: usize) -> bool
 
 // Whether its count of X values stands.
 fn is_counted(floors: &[u16], at: usize) -> bool
-    requires { ⌜ (at ≤ 17451) × (at + floorWidth ≤ length (now floors)) × (getD (now floors) at 0 ≤ 31) ⌝ }
-    ensures { λ r. ⌜ (r ≡ true) ↔ CountRules (now (floors .entry)) at ⌝ }
+    requires { ⌜ (at ≤ 17451) × (at + floorWidth ≤ length (now floors)) × (getD (now floors) at 0 ≤ partitionsRoom) ⌝ }
+    ensures { λ r. ⌜ (r ≡ true) ↔ ValidCount (now (floors .entry)) at ⌝ }
 {
     let values = number(floors, at + 4);
     if 65 < values {
@@ -92,8 +94,8 @@ fn is_counted(floors: &[u16], at: usize) -> bool
 
 // Whether its multiplier, range bits and count of X values stand.
 fn is_head(floors: &[u16], at: usize) -> bool
-    requires { ⌜ (at ≤ 17451) × (at + floorWidth ≤ length (now floors)) × (getD (now floors) at 0 ≤ 31) ⌝ }
-    ensures { λ r. ⌜ (r ≡ true) ↔ HeadRules (now (floors .entry)) at ⌝ }
+    requires { ⌜ (at ≤ 17451) × (at + floorWidth ≤ length (now floors)) × (getD (now floors) at 0 ≤ partitionsRoom) ⌝ }
+    ensures { λ r. ⌜ (r ≡ true) ↔ ValidHead (now (floors .entry)) at ⌝ }
 {
     let multiplier = number(floors, at + 2);
     if multiplier < 1 {
@@ -108,10 +110,10 @@ fn is_head(floors: &[u16], at: usize) -> bool
     is_counted(floors, at)
 }
 
-// Whether its X list stands.
+// Whether its X list stands, and so its whole row where its other parts do.
 fn is_list(floors: &[u16], at: usize) -> bool
-    requires { ⌜ (at ≤ 17451) × (at + floorWidth ≤ length (now floors)) × (getD (now floors) (at + 3) 0 ≤ 15) × (getD (now floors) (at + 4) 0 ≤ 65) ⌝ }
-    ensures { λ r. ⌜ (r ≡ true) ↔ ListRules (now (floors .entry)) at ⌝ }
+    requires { ⌜ (at ≤ 17451) × (at + floorWidth ≤ length (now floors)) × ValidHead (now floors) at ⌝ }
+    ensures { λ r. ⌜ DecidesRow r (now (floors .entry)) at ⌝ }
 {
     let range = wide_u16(numbers::power(buffers::get_u16(floors, at + 3) as u32));
     let end = at + X_LIST_PLACE + number(floors, at + 4);
@@ -133,7 +135,7 @@ fn is_list(floors: &[u16], at: usize) -> bool
 // Whether the row of a floor begins at place `at`.
 fn is_floor(floors: &[u16], at: usize, book_count: usize) -> bool
     requires { ⌜ (at ≤ 17451) × («book_count» ≤ 256) × (at + floorWidth ≤ length (now floors)) ⌝ }
-    ensures { λ r. ⌜ (r ≡ true) ↔ FloorRules «book_count» (now (floors .entry)) at ⌝ }
+    ensures { λ r. ⌜ (r ≡ true) ↔ ValidFloorRow «book_count» (now (floors .entry)) at ⌝ }
 {
     if !are_partitions(floors, at) {
         return false;
@@ -147,10 +149,11 @@ fn is_floor(floors: &[u16], at: usize, book_count: usize) -> bool
     is_list(floors, at)
 }
 
-// Whether the rows of `count` floors lie from the front on.
+// Whether the rows of `count` floors lie from the front on. What lies behind them is not looked at.
 fn are_rows(floors: &[u16], count: usize, book_count: usize) -> bool
     requires { ⌜ (count ≤ 64) × («book_count» ≤ 256) × (floorsNeed ≤ length (now floors)) ⌝ }
-    ensures { λ r. ⌜ (r ≡ true) ↔ FloorsRules «book_count» (now (floors .entry)) count ⌝ }
+    ensures { λ r. ⌜ Encodes floorRow (ValidFloor «book_count») count (now (floors .entry))
+        ↔ ((r ≡ true) × Zeros (drop (floorWidth * count) (now (floors .entry)))) ⌝ }
 {
     let mut f: usize = 0;
     while f < count {

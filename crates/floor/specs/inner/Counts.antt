@@ -1,8 +1,14 @@
--- How many classes and X values a floor has, counted from the front of its partitions: as far as a place, which is what a loop has counted.
-use Prim.Native.Nat.{ℕ, zero, suc, _+_, _*_, max}
+-- How many classes and X values a floor has, counted from the front of its partitions, as far as a place, which is what a loop has counted; and a buffer or a
+-- part of a row that holds partitions.
+use Prim.Native.Nat.{ℕ, zero, suc, _+_, _*_, max, _≤_}
 use mathlib.Core.List.{List}
-use lib.ListN.{getD}
-use Rattle.floor.specs.Layout.{classWidth}
+use mathlib.Core.Bool.{true}
+use mathlib.Core.Path.{_≡_}
+use lib.ListN.{getD, length, take}
+use lib.Dec.{ltb}
+use Rattle.reading.specs.Lists.{all}
+use Rattle.reading.specs.Pad.{pad}
+use Rattle.floor.specs.Layout.{classWidth, partitionsRoom}
 
 -- the count of classes that the first n partitions name
 unfoldable pub classesTo : List ℕ → ℕ → ℕ
@@ -13,3 +19,10 @@ classesTo partitions (suc n) = max (classesTo partitions n) (suc (getD partition
 unfoldable pub valuesTo : List ℕ → List ℕ → ℕ → ℕ
 valuesTo classes partitions zero = 0
 valuesTo classes partitions (suc n) = valuesTo classes partitions n + getD classes (classWidth * getD partitions n 0) 0
+
+-- a buffer that holds `count` partitions, each of a class below 16
+pub record Partitions (count : ℕ) (buffer : List ℕ) : Type 0 where
+  pub few : count ≤ 31
+  pub long : length (take count buffer) ≡ count
+  pub holds : buffer ≡ pad partitionsRoom (take count buffer)
+  pub named : all (λ c. ltb c 16) (take count buffer) ≡ true

@@ -1,17 +1,10 @@
 -- Which classes and which floors meet every rule, where `books` codebooks are set up: those that a packet can carry and that meet the rules by number, 11 of each class
 -- and 12. Refusals 10 and 14 judge a floor's type, which a content has not.
-use Prim.Native.Nat.{ℕ, _≤_}
-use mathlib.Core.Path.{_≡_}
+use Prim.Native.Nat.{ℕ}
 use Rattle.reading.specs.Encoding.{Each}
 use Rattle.floor.specs.Rules.{Class11, Rule12}
 use Rattle.floor.specs.Content.{Floor, Class}
 use Rattle.floor.specs.Carried.{CarriedFloor, CarriedClass}
-
--- a master book exactly where there are subclass bits: its number plus one, 0 where there is none
-pub record MasterFits (books subclasses master : ℕ) : Type 0 where
-  pub none : subclasses ≡ 0 → master ≡ 0
-  pub some : (subclasses ≡ 0 → ⊥) → 1 ≤ master
-  pub most : master ≤ books
 
 pub record ValidClass (books : ℕ) (c : Class) : Type 0 where
   pub carried : CarriedClass c

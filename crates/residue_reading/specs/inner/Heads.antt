@@ -7,6 +7,7 @@ use Rattle.residue.specs.inner.Heads.{headOf}
 use Rattle.residue_reading.specs.declared.head.HeadRead.{HeadRead}
 use Rattle.residue_reading.specs.declared.head.HeadRead.the-variants.{Value, Refused}
 
+-- the fields and the position behind them, or the refusal
 unfoldable pub headRead : HeadRead → Outcome (Head × ℕ)
 headRead (Value h c) = ok (headOf h, position c)
 headRead (Refused z) = bad (refusalOf z)

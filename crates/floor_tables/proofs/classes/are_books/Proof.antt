@@ -1,5 +1,5 @@
 -- `floor_tables::classes::are_books` meets its contract. Assumes nothing.
-use Rattle.floor_tables.proofs.ClassTestLaws.{books-unset, books-large, books-end}
+use Rattle.floor_tables.proofs.ClassLaws.{books-unset, books-large, books-end}
 use borrow.Author.Needs.{needs}
 use Rattle.floor_tables.proofs.classes.are_books.Statement.{statement}
 use Rattle.floor_tables.proofs.classes.are_books.Tie as tie

@@ -1,21 +1,27 @@
 -- `floor_tables::classes::are_classes` meets its contract. Assumes nothing.
-use Prim.Native.Nat.{_≤_, _-_}
+use Prim.Native.Nat.{_+_, _*_, _≤_, _-_}
 use mathlib.Core.Path.{refl}
 use native.Mathlib.Omega.{arith}
-use Rattle.floor_tables.specs.inner.ClassRules.{ClassesRules}
-use Rattle.floor_tables.proofs.ClassTestLaws.{classes-start, classes-not, classes-more, classes-all}
+use lib.ListN.{length}
+use lib.Seq.{slice}
+use Rattle.reading.proofs.Encodes.{Left, rows-start}
+use Rattle.floor.specs.Layout.{classRow}
+use Rattle.floor.specs.inner.Valid.{ValidClass}
+use Rattle.floor.proofs.ClassDecoded.{class-long}
+use Rattle.floor_tables.proofs.Places.{slice-long, slice-within, rows-found, rows-refuted, rows-shown}
 use borrow.Author.Needs.{needs}
 use Rattle.floor_tables.proofs.classes.are_classes.Statement.{statement}
 use Rattle.floor_tables.proofs.classes.are_classes.Tie as tie
 
 abbrev Inv-loop : tie.InvT-loop
-Inv-loop floors at count books c₀ c = (at ≤ 20000) × (count ≤ 16) × (books ≤ 256) × (c ≤ count) × ClassesRules books floors at c
+Inv-loop floors at count books c₀ c = (at ≤ 20000) × (11 * count ≤ 176) × (books ≤ 256) × (at + 176 ≤ length floors) × (c ≤ count)
+    × Left classRow (ValidClass books) 11 class-long count (slice at (at + 176) floors) c
 
 abbrev μ-loop : tie.MeasureT-loop
 μ-loop floors at count books c₀ c = count - c
 
 loop-holds : tie.Need-loop-holds Inv-loop μ-loop
-loop-holds c = (search needs, search needs, search needs, search needs, classes-start _ _ _)
+loop-holds c = (search needs, search needs, search needs, search needs, search needs, rows-start classRow _ 11 class-long _ _)
 
 mul-is-class : tie.Need-mul-is-class Inv-loop μ-loop
 mul-is-class c = search needs
@@ -27,7 +33,11 @@ is-class-requires : tie.Need-is-class-requires Inv-loop μ-loop
 is-class-requires c κs = search needs
 
 returns : tie.Need-returns Inv-loop μ-loop
-returns c = classes-not _ _ _ (c .before .before .before .loop .c) refl (c .before .is-class .ensures) _ (omega arith) (c .if1 .taken)
+returns c =
+    let start = c .before .before .before .before .before .args in
+    let here = c .before .before .before .loop in
+    let row = slice-within (start .floors .now) (start .at) (11 * here .c) 11 (start .at + 176) (omega arith) in
+    rows-refuted classRow _ 11 class-long _ _ (here .c) (here .inv .5) (omega arith) row (c .before .is-class .ensures) (c .if1 .taken)
 
 add-c : tie.Need-add-c Inv-loop μ-loop
 add-c c = search needs
@@ -36,10 +46,18 @@ loop-less : tie.Need-loop-less Inv-loop μ-loop
 loop-less c = search needs
 
 loop-again : tie.Need-loop-again Inv-loop μ-loop
-loop-again c = (search needs, search needs, search needs, omega arith, classes-more _ _ _ (c .before .before .before .loop .c) refl (c .before .is-class .ensures) (c .if1 .left) (c .before .before .before .loop .inv .4))
+loop-again c =
+    let start = c .before .before .before .before .before .args in
+    let here = c .before .before .before .loop in
+    let long = slice-long (start .floors .now) (start .at) 176 (start .at + 176) refl (omega arith) in
+    let row = slice-within (start .floors .now) (start .at) (11 * here .c) 11 (start .at + 176) (omega arith) in
+    let later = rows-shown classRow _ 11 class-long _ _ (here .c) (here .inv .5) (omega arith) row (c .before .is-class .ensures) (omega arith) (c .if1 .left) in
+    (search needs, search needs, search needs, search needs, omega arith, later)
 
 returns-2 : tie.Need-returns-2 Inv-loop μ-loop
-returns-2 c = classes-all _ _ _ (c .before .loop .c) _ (omega arith) (c .before .loop .inv .4)
+returns-2 c =
+    let here = c .before .loop in
+    rows-found classRow _ 11 class-long _ _ (here .c) (here .inv .5) (omega arith) (omega arith)
 
 pub are-classes-spec : {M : Type 1} → statement M
 are-classes-spec =

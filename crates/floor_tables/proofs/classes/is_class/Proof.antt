@@ -1,5 +1,5 @@
 -- `floor_tables::classes::is_class` meets its contract. Assumes nothing.
-use Rattle.floor_tables.proofs.ClassTestLaws.{class-test-laws, class-low, class-high, class-many, class-master-not, class-end}
+use Rattle.floor_tables.proofs.ClassLaws.{class-low, class-high, class-many, class-master-not, class-end, bits-few, power-few}
 use borrow.Author.Needs.{needs}
 use Rattle.floor_tables.proofs.classes.is_class.Statement.{statement}
 use Rattle.floor_tables.proofs.classes.is_class.Tie as tie
@@ -32,7 +32,7 @@ number-requires-2 : tie.Need-number-requires-2
 number-requires-2 c κs = search needs
 
 is-master-requires : tie.Need-is-master-requires
-is-master-requires c κs = search needs
+is-master-requires c κs = search (needs, bits-few)
 
 returns-4 : tie.Need-returns-4
 returns-4 c = search class-master-not
@@ -50,7 +50,7 @@ wide-u16-requires-2 : tie.Need-wide-u16-requires-2
 wide-u16-requires-2 c κs = search needs
 
 are-books-requires : tie.Need-are-books-requires
-are-books-requires c κs = search class-test-laws
+are-books-requires c κs = search (needs, power-few)
 
 returns-5 : tie.Need-returns-5
 returns-5 c = search class-end

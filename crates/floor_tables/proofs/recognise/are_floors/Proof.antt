@@ -1,11 +1,13 @@
 -- `floor_tables::recognise::are_floors` meets its contract. Assumes nothing.
-use Rattle.floor_tables.proofs.Tested.{table-short, table-rows, table-end}
+use native.Mathlib.Omega.{arith}
+use Rattle.reading.proofs.Encodes.{iff-false}
+use Rattle.floor_tables.proofs.FloorLaws.{table-rows, table-end}
 use borrow.Author.Needs.{needs}
 use Rattle.floor_tables.proofs.recognise.are_floors.Statement.{statement}
 use Rattle.floor_tables.proofs.recognise.are_floors.Tie as tie
 
 returns : tie.Need-returns
-returns c = search table-short
+returns c = iff-false (λ s. let r = s .room in omega arith)
 
 wide-u32-requires : tie.Need-wide-u32-requires
 wide-u32-requires c κs = search needs

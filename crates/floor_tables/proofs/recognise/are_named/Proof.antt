@@ -1,6 +1,6 @@
 -- `floor_tables::recognise::are_named` meets its contract. Assumes nothing.
 use native.Mathlib.Omega.{arith}
-use Rattle.floor_tables.proofs.TestLaws.{named-other, named-not, named-end, named-laws}
+use Rattle.floor_tables.proofs.FloorLaws.{named-many, named-other, named-not, named-end}
 use borrow.Author.Needs.{needs}
 use Rattle.floor_tables.proofs.recognise.are_named.Statement.{statement}
 use Rattle.floor_tables.proofs.recognise.are_named.Tie as tie
@@ -12,7 +12,7 @@ number-requires : tie.Need-number-requires
 number-requires c κs = search needs
 
 returns : tie.Need-returns
-returns c = search named-laws
+returns c = search named-many
 
 add-class-count : tie.Need-add-class-count
 add-class-count c = search needs
@@ -39,7 +39,7 @@ class-count-requires : tie.Need-class-count-requires
 class-count-requires c κs = search needs
 
 returns-2 : tie.Need-returns-2
-returns-2 c = named-other _ (c .before .before .before .before .before .before .before .args .floors .now) (c .before .before .before .before .before .before .before .args .at) (c .before .before .before .before .before .number .ensures .0) (omega arith) (c .before .before .number2 .ensures .0) (c .before .class-count .ensures) (c .if2 .taken)
+returns-2 c = named-other _ (c .before .before .before .before .before .before .before .args .floors .now) (c .before .before .before .before .before .before .before .args .at) (omega arith) (c .before .before .before .before .before .number .ensures .0) (c .before .before .number2 .ensures .0) (c .before .class-count .ensures) (c .if2 .taken)
 
 add-are-classes : tie.Need-add-are-classes
 add-are-classes c = search needs
@@ -51,7 +51,7 @@ returns-3 : tie.Need-returns-3
 returns-3 c =
     let counted = c .before .before .before in
     let start = counted .before .before .before .before .before .before in
-    named-not _ (start .args .floors .now) (start .args .at) (counted .before .before .before .before .number .ensures .0) (omega arith) (counted .before .number2 .ensures .0) (counted .class-count .ensures) (c .before .before .if2 .left) (c .before .are-classes .ensures) (c .if3 .taken)
+    named-not _ (start .args .floors .now) (start .args .at) (omega arith) (counted .before .before .before .before .number .ensures .0) (counted .before .number2 .ensures .0) (counted .class-count .ensures) (c .before .before .if2 .left) (c .before .are-classes .ensures) (c .if3 .taken)
 
 add-are-below : tie.Need-add-are-below
 add-are-below c = search needs
@@ -72,7 +72,7 @@ returns-4 : tie.Need-returns-4
 returns-4 c =
     let counted = c .before .before .before .before in
     let start = counted .before .before .before .before .before .before in
-    named-end _ (start .args .floors .now) (start .args .at) (counted .before .before .before .before .number .ensures .0) (omega arith) (counted .before .number2 .ensures .0) (counted .class-count .ensures) (c .before .before .before .if2 .left) (c .before .before .are-classes .ensures) (c .before .if3 .left) (c .are-below .ensures)
+    named-end _ (start .args .floors .now) (start .args .at) (omega arith) (counted .before .before .before .before .number .ensures .0) (counted .before .number2 .ensures .0) (counted .class-count .ensures) (c .before .before .before .if2 .left) (c .before .before .are-classes .ensures) (c .before .if3 .left) (c .are-below .ensures)
 
 pub are-named-spec : {M : Type 1} → statement M
 are-named-spec =

@@ -1,5 +1,7 @@
 -- `floor_tables::recognise::are_partitions` meets its contract. Assumes nothing.
-use Rattle.floor_tables.proofs.TestLaws.{partitions-many, partitions-not, partitions-end}
+use native.Mathlib.Omega.{arith}
+use Rattle.reading.proofs.Encodes.{iff-false}
+use Rattle.floor_tables.proofs.FloorLaws.{partitions-not, partitions-end}
 use borrow.Author.Needs.{needs}
 use Rattle.floor_tables.proofs.recognise.are_partitions.Statement.{statement}
 use Rattle.floor_tables.proofs.recognise.are_partitions.Tie as tie
@@ -8,7 +10,7 @@ number-requires : tie.Need-number-requires
 number-requires c κs = search needs
 
 returns : tie.Need-returns
-returns c = search partitions-many
+returns c = iff-false (λ r. let k = r .few in omega arith)
 
 add-are-below : tie.Need-add-are-below
 add-are-below c = search needs

@@ -1,6 +1,7 @@
 -- `floor_tables::recognise::is_counted` meets its contract. Assumes nothing.
 use native.Mathlib.Omega.{arith}
-use Rattle.floor_tables.proofs.TestLaws.{count-many, count-few, count-end}
+use Rattle.reading.proofs.Encodes.{iff-false}
+use Rattle.floor_tables.proofs.FloorLaws.{count-most, count-end}
 use borrow.Author.Needs.{needs}
 use Rattle.floor_tables.proofs.recognise.is_counted.Statement.{statement}
 use Rattle.floor_tables.proofs.recognise.is_counted.Tie as tie
@@ -12,10 +13,10 @@ number-requires : tie.Need-number-requires
 number-requires c κs = search needs
 
 returns : tie.Need-returns
-returns c = count-many _ _ (c .before .number .ensures .0) (omega arith)
+returns c = iff-false (λ r. let k = count-most r in omega arith)
 
 returns-2 : tie.Need-returns-2
-returns-2 c = count-few _ _ (c .before .before .number .ensures .0) (omega arith)
+returns-2 c = iff-false (λ r. let k = r .values in omega arith)
 
 add-value-count : tie.Need-add-value-count
 add-value-count c = search needs

@@ -1,6 +1,7 @@
 -- `floor_tables::recognise::is_floor` meets its contract. Assumes nothing.
-use Rattle.floor_tables.proofs.TestLaws.{head-range-known, head-values-known, floor-test-laws, floor-partitions, floor-classes, floor-head, floor-end}
+use Rattle.floor_tables.proofs.FloorLaws.{floor-few, floor-partitions, floor-classes, floor-head, floor-end}
 use borrow.Author.Needs.{needs}
+use Rattle.reading.proofs.Encodes.{shown}
 use Rattle.floor_tables.proofs.recognise.is_floor.Statement.{statement}
 use Rattle.floor_tables.proofs.recognise.is_floor.Tie as tie
 
@@ -17,13 +18,13 @@ returns-2 : tie.Need-returns-2
 returns-2 c = search floor-classes
 
 is-head-requires : tie.Need-is-head-requires
-is-head-requires c κs = search floor-test-laws
+is-head-requires c κs = search (needs, floor-few)
 
 returns-3 : tie.Need-returns-3
 returns-3 c = search floor-head
 
 is-list-requires : tie.Need-is-list-requires
-is-list-requires c κs = (search needs, search needs, head-range-known (c .before .is-head .ensures) (c .if3 .left), head-values-known (c .before .is-head .ensures) (c .if3 .left))
+is-list-requires c κs = (search needs, search needs, shown (c .before .is-head .ensures) (c .if3 .left))
 
 returns-4 : tie.Need-returns-4
 returns-4 c = search floor-end

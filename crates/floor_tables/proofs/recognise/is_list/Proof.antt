@@ -1,5 +1,5 @@
 -- `floor_tables::recognise::is_list` meets its contract. Assumes nothing.
-use Rattle.floor_tables.proofs.TestLaws.{list-first, list-second, list-range, list-trailing, list-end}
+use Rattle.floor_tables.proofs.FloorLaws.{list-inside, list-first, list-second, list-range, list-trailing, list-end}
 use borrow.Author.Needs.{needs}
 use Rattle.floor_tables.proofs.recognise.is_list.Statement.{statement}
 use Rattle.floor_tables.proofs.recognise.is_list.Tie as tie
@@ -53,7 +53,7 @@ add-are-below : tie.Need-add-are-below
 add-are-below c = search needs
 
 are-below-requires : tie.Need-are-below-requires
-are-below-requires c κs = search needs
+are-below-requires c κs = search (needs, list-inside)
 
 returns-3 : tie.Need-returns-3
 returns-3 c = search list-range
@@ -71,7 +71,7 @@ add-are-distinct : tie.Need-add-are-distinct
 add-are-distinct c = search needs
 
 are-distinct-requires : tie.Need-are-distinct-requires
-are-distinct-requires c κs = search needs
+are-distinct-requires c κs = search (needs, list-inside)
 
 returns-5 : tie.Need-returns-5
 returns-5 c = search list-end
