@@ -1,6 +1,6 @@
 -- Which classes and floors a packet can carry, whatever the rules say of them: numbers that fit their fields, and as many as the numbers before say (004).
-use Prim.Native.Nat.{_^_, _≤_}
-use mathlib.Core.Bool.{true}
+use Prim.Native.Nat.{ℕ, _^_, _≤_}
+use mathlib.Core.Bool.{Bool, true}
 use mathlib.Core.List.{map}
 use mathlib.Core.Path.{_≡_}
 use lib.Dec.{ltb, leb}
@@ -19,10 +19,17 @@ pub record CarriedClass (c : Class) : Type 0 where
   pub count : length (c .books) ≡ 2 ^ c .subclasses
   pub books : all (λ b. leb b 255) (c .books) ≡ true
 
+-- how many partitions a floor can have, and the numbers of classes (004, steps 2 to 4): fields of 5 and of 4 bits
+abbrev pub mostPartitions : ℕ
+mostPartitions = 31
+
+abbrev pub isClassNumber : ℕ → Bool
+isClassNumber c = ltb c 16
+
 -- a floor (004): classes up to the greatest that a partition names, and an X value for each dimension of each partition's class
 pub record CarriedFloor (f : Floor) : Type 0 where
-  pub partitions : length (f .partitions) ≤ 31
-  pub classes-named : all (λ c. ltb c 16) (f .partitions) ≡ true
+  pub partitions : length (f .partitions) ≤ mostPartitions
+  pub classes-named : all isClassNumber (f .partitions) ≡ true
   pub class-count : length (f .classes) ≡ classCount (f .partitions)
   pub classes : Each CarriedClass (f .classes)
   pub multiplier : Counted 4 (f .multiplier)

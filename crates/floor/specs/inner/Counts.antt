@@ -5,9 +5,9 @@ use mathlib.Core.List.{List}
 use mathlib.Core.Bool.{true}
 use mathlib.Core.Path.{_≡_}
 use lib.ListN.{getD, length, take}
-use lib.Dec.{ltb}
 use Rattle.reading.specs.Lists.{all}
 use Rattle.reading.specs.Pad.{pad}
+use Rattle.floor.specs.Carried.{mostPartitions, isClassNumber}
 use Rattle.floor.specs.Layout.{classWidth, partitionsRoom}
 
 -- the count of classes that the first n partitions name
@@ -20,9 +20,9 @@ unfoldable pub valuesTo : List ℕ → List ℕ → ℕ → ℕ
 valuesTo classes partitions zero = 0
 valuesTo classes partitions (suc n) = valuesTo classes partitions n + getD classes (classWidth * getD partitions n 0) 0
 
--- a buffer that holds `count` partitions, each of a class below 16
+-- a buffer that holds `count` partitions, as many as a packet can carry and of classes that it can name
 pub record Partitions (count : ℕ) (buffer : List ℕ) : Type 0 where
-  pub few : count ≤ 31
+  pub few : count ≤ mostPartitions
   pub long : length (take count buffer) ≡ count
   pub holds : buffer ≡ pad partitionsRoom (take count buffer)
-  pub named : all (λ c. ltb c 16) (take count buffer) ≡ true
+  pub named : all isClassNumber (take count buffer) ≡ true
