@@ -1,5 +1,5 @@
 -- LENGTHS THAT WERE READ are one for each entry, none above 32; and where they were entered, the verdict accepts them. By induction
--- on the runs, by filling's Known, and by rules 7 and 8. Assumes nothing.
+-- on the runs, by what many readings of one kind give, and by rules 7 and 8. Assumes nothing.
 use Prim.Native.Nat.{ℕ, zero, suc, _+_, _-_, _≤_}
 use native.Mathlib.Omega.{arith}
 use borrow.Author.Tests.{leb-true, le-leb, eqb-true}

@@ -1,4 +1,4 @@
--- Statements that functions of this crate and their proofs share. No public contract rests on how they are worded.
+-- Statements that proofs of several crates share. No public contract rests on how they are worded.
 pub mod LengthsParts
 pub mod LookupParts
 pub mod Parts

@@ -1,4 +1,4 @@
--- The fields before the plan as the program holds them: what reading them answers, and their numbers as a row.
+-- The fields before the plan as the program holds them, and their numbers as a row.
 use Prim.Native.Nat.{ℕ}
 use mathlib.Core.List.{List, [], _∷_}
 use Rattle.residue.specs.Reading.{Head}
