@@ -1,11 +1,11 @@
--- `taking::take_record` meets its contract, by TakingLaws: one law for each way that the bytes can go on. Assumes nothing.
+-- `take_record` meets its contract, by TakingLaws: one law for each way that the bytes can go on. Assumes nothing.
 use mathlib.Core.Path.{sym, _∙_, ap}
 use Rattle.record_progress.specs.declared.Progress.{Progress}
 use native.Mathlib.Omega.{arith}
 use borrow.Author.Needs.{needs}
 use Rattle.record_progress.proofs.TakingLaws.{front-rest, kept-same, waits-taken, waits-stands, waits-moves, skips-inside, skips-taken, skips-stands, skips-moves}
-use Rattle.voicelog.proofs.taking.take_record.Statement.{statement}
-use Rattle.voicelog.proofs.taking.take_record.Tie as tie
+use Rattle.record_taking.proofs.take_record.Statement.{statement}
+use Rattle.record_taking.proofs.take_record.Tie as tie
 
 pass-over-requires : tie.Need-pass-over-requires
 pass-over-requires c κs = (c .before .before .before .before .before .before .before .before .before .before .before .before .before .before .before .before .before .pre .1, c .before .if1 .taken)

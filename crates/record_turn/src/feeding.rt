@@ -2,7 +2,7 @@
 ghost use mathlib.Core.Path.{_≡_};
 ghost use Prim.Native.Nat.{_+_, _≤_, _<_};
 ghost use lib.ListN.{length, take};
-ghost use Rattle.voicelog.specs.inner.Fed.{moved, RoomMade};
+ghost use Rattle.record_turn.specs.inner.Turns.{moved, RoomMade};
 
 // Where the bytes begin that are not yet taken, and where those end that were read.
 pub struct Span {

@@ -1,13 +1,13 @@
--- `running::read_on` meets its contract, by RunningLaws. Assumes nothing.
+-- `read_on` meets its contract, by TurnLaws. Assumes nothing.
 use native.Mathlib.Omega.{arith}
 use mathlib.Core.Path.{sym, _∙_}
 use lib.Seq.{length-take-le}
-use Rattle.voicelog.proofs.FeedingLaws.{still-lt}
-use Rattle.voicelog.proofs.RunningLaws.{reads-room, reads-last, stopped-turned, going-turned, read-behind}
+use Rattle.record_turn.proofs.FeedingLaws.{still-lt}
+use Rattle.record_turn.proofs.TurnLaws.{reads-room, reads-last, stopped-turned, going-turned, read-behind}
 use lib.ListN.{take, drop}
 use borrow.Author.Needs.{needs}
-use Rattle.voicelog.proofs.running.read_on.Statement.{statement}
-use Rattle.voicelog.proofs.running.read_on.Tie as tie
+use Rattle.record_turn.proofs.read_on.Statement.{statement}
+use Rattle.record_turn.proofs.read_on.Tie as tie
 
 make-room-requires : tie.Need-make-room-requires
 make-room-requires c κs = reads-room (c .before .before .before .pre .0) (c .before .before .before .pre .1)

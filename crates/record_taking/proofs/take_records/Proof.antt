@@ -1,4 +1,4 @@
--- `taking::take_records` meets its contract, by TakingLaws. The invariant: what was taken so far is one taking, and another record may be taken. Assumes nothing.
+-- `take_records` meets its contract, by TakingLaws. The invariant: what was taken so far is one taking, and another record may be taken. Assumes nothing.
 use mathlib.Core.Path.{refl, _∙_}
 use Prim.Native.Nat.{_-_}
 use native.Mathlib.Omega.{arith}
@@ -6,8 +6,8 @@ use borrow.Author.Tests.{not-false}
 use lib.ListN.{length}
 use Rattle.setup.specs.Layout.{tables}
 use Rattle.record_progress.proofs.TakingLaws.{taken-none, taken-then, taken-length, stands-long, Going, turn-less, turn-room}
-use Rattle.voicelog.proofs.taking.take_records.Statement.{statement}
-use Rattle.voicelog.proofs.taking.take_records.Tie as tie
+use Rattle.record_taking.proofs.take_records.Statement.{statement}
+use Rattle.record_taking.proofs.take_records.Tie as tie
 
 abbrev Inv-loop : tie.InvT-loop
 Inv-loop input counts₀ books₀ lengths₀ codewords₀ multiplicands₀ floors₀ residues₀ plans₀ mappings₀ modes₀ curves₀ words₀ lines₀ at₀ counts books lengths codewords multiplicands floors residues plans mappings modes curves words lines at =

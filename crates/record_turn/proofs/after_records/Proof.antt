@@ -1,12 +1,12 @@
--- `running::after_records` meets its contract, by RunningLaws. Assumes nothing.
+-- `after_records` meets its contract, by TurnLaws. Assumes nothing.
 use native.Mathlib.Omega.{arith}
 use mathlib.Core.Path.{sym}
 use lib.Seq.{length-take-le}
-use Rattle.voicelog.proofs.RunningLaws.{reads-order, stopped-turned, going-turned, turned-more}
+use Rattle.record_turn.proofs.TurnLaws.{reads-order, stopped-turned, going-turned, turned-more}
 use mathlib.Core.List.{[], append-nil}
 use borrow.Author.Needs.{needs}
-use Rattle.voicelog.proofs.running.after_records.Statement.{statement}
-use Rattle.voicelog.proofs.running.after_records.Tie as tie
+use Rattle.record_turn.proofs.after_records.Statement.{statement}
+use Rattle.record_turn.proofs.after_records.Tie as tie
 
 slice-reshare-prefix-write-all : tie.Need-slice-reshare-prefix-write-all
 slice-reshare-prefix-write-all c = search needs

@@ -1,8 +1,8 @@
 -- `feeding::make_room` meets its contract, by FeedingLaws: nothing is left, there is room, or the bytes are moved. Assumes nothing.
-use Rattle.voicelog.proofs.FeedingLaws.{none-left, room-there, room-moved}
+use Rattle.record_turn.proofs.FeedingLaws.{none-left, room-there, room-moved}
 use borrow.Author.Needs.{needs}
-use Rattle.voicelog.proofs.feeding.make_room.Statement.{statement}
-use Rattle.voicelog.proofs.feeding.make_room.Tie as tie
+use Rattle.record_turn.proofs.feeding.make_room.Statement.{statement}
+use Rattle.record_turn.proofs.feeding.make_room.Tie as tie
 
 returns : tie.Need-returns
 returns c = none-left (c .before .before .pre) (c .if1 .taken)

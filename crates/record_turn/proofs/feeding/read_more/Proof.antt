@@ -3,10 +3,10 @@ use native.Mathlib.Omega.{arith}
 use borrow.Rule.Slice.PartMut.{putMid, take-put}
 use Prim.Native.Nat.{_-_}
 use lib.ListN.{length}
-use Rattle.voicelog.proofs.FeedingLaws.{count-inside}
+use Rattle.record_turn.proofs.FeedingLaws.{count-inside}
 use borrow.Author.Needs.{needs}
-use Rattle.voicelog.proofs.feeding.read_more.Statement.{statement}
-use Rattle.voicelog.proofs.feeding.read_more.Tie as tie
+use Rattle.record_turn.proofs.feeding.read_more.Statement.{statement}
+use Rattle.record_turn.proofs.feeding.read_more.Tie as tie
 
 sub-read : tie.Need-sub-read
 sub-read c = search needs

@@ -6,7 +6,7 @@ use mathlib.Core.List.{List, _∷_, _++_}
 use mathlib.Core.Path.{_≡_, refl, sym, _∙_, ap}
 use lib.ListN.{length, getD, set, take, drop, length-append, length-drop}
 use lib.Seq.{length-take-le, take-suc, drop-cons, append-snoc, set-at, getD-append-add, getD-drop, slice-empty, take-all, take-at}
-use Rattle.voicelog.specs.inner.Fed.{moved, RoomMade}
+use Rattle.record_turn.specs.inner.Turns.{moved, RoomMade}
 
 module _ (d : List ℕ) (f n i : ℕ) (fits : f + n ≤ length d) (h : i < n) where
   part : List ℕ

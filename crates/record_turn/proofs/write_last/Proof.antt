@@ -1,10 +1,10 @@
--- `running::write_last` is safe and ends. Assumes nothing.
+-- `write_last` is safe and ends. Assumes nothing.
 use mathlib.Core.Path.{sym}
 use lib.Seq.{length-take-le}
-use Rattle.voicelog.proofs.FeedingLaws.{still-le}
+use Rattle.record_turn.proofs.FeedingLaws.{still-le}
 use borrow.Author.Needs.{needs}
-use Rattle.voicelog.proofs.running.write_last.Statement.{statement}
-use Rattle.voicelog.proofs.running.write_last.Tie as tie
+use Rattle.record_turn.proofs.write_last.Statement.{statement}
+use Rattle.record_turn.proofs.write_last.Tie as tie
 
 put-last-requires : tie.Need-put-last-requires
 put-last-requires c κs = search needs

@@ -3,10 +3,10 @@ use Prim.Native.Nat.{_-_, _≤_}
 use native.Mathlib.Omega.{arith}
 use mathlib.Core.Path.{_≡_, refl, _∙_, ap}
 use lib.ListN.{length, length-set}
-use Rattle.voicelog.specs.inner.Fed.{moved}
-use Rattle.voicelog.proofs.FeedingLaws.{moved-none, moved-turn}
-use Rattle.voicelog.proofs.feeding.move_front.Statement.{statement}
-use Rattle.voicelog.proofs.feeding.move_front.Tie as tie
+use Rattle.record_turn.specs.inner.Turns.{moved}
+use Rattle.record_turn.proofs.FeedingLaws.{moved-none, moved-turn}
+use Rattle.record_turn.proofs.feeding.move_front.Statement.{statement}
+use Rattle.record_turn.proofs.feeding.move_front.Tie as tie
 
 abbrev Inv-loop : tie.InvT-loop
 Inv-loop input₀ from count i₀ input i = (input ≡ moved input₀ from i) × (i ≤ count) × (length input ≡ length input₀)

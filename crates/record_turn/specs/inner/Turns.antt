@@ -4,11 +4,9 @@ use mathlib.Core.Bool.{true, false}
 use mathlib.Core.List.{List, _++_}
 use mathlib.Core.Path.{_≡_}
 use lib.ListN.{length, take, drop}
-use Rattle.limits.specs.Standard.{standard}
-use Rattle.setup.specs.Layout.{Tables, hasRoom}
 use Rattle.record_progress.specs.inner.Taken.{Room, Stands}
-use Rattle.voicelog.specs.declared.feeding.Span.{Span}
-use Rattle.voicelog.specs.declared.running.Turn.{Turn}
+use Rattle.record_turn.specs.declared.feeding.Span.{Span}
+use Rattle.record_turn.specs.declared.Turn.{Turn}
 use Rattle.record_progress.specs.declared.Progress.{Progress}
 
 -- a list with so many of its places from one on moved to its front
@@ -21,14 +19,6 @@ pub record RoomMade (input : List ℕ) (from to : ℕ) (r : Span) (input′ : Li
   pub room : r .to < length input′
   pub same : drop (r .from) (take (r .to) input′) ≡ drop from (take to input)
   pub long : length input′ ≡ length input
-
--- the memory that the tool lends
-pub record Lent (t : Tables) (curves words input lines : List ℕ) : Type 0 where
-  pub tables : hasRoom standard t ≡ true
-  pub of-curves : length curves ≡ 32768
-  pub of-words : length words ≡ 16384
-  pub of-input : length input ≡ 65536
-  pub of-lines : length lines ≡ 65536
 
 -- records were taken from the first `to` bytes
 pub record Reads (p : Progress) (to : ℕ) (input lines : List ℕ) : Type 0 where

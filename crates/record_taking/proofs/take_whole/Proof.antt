@@ -1,9 +1,9 @@
--- `taking::take_whole` meets its contract, by TakingLaws. Assumes nothing.
+-- `take_whole` meets its contract, by TakingLaws. Assumes nothing.
 use native.Mathlib.Omega.{arith}
 use borrow.Author.Needs.{needs}
 use Rattle.record_progress.proofs.TakingLaws.{whole-there, whole-taken, whole-stands}
-use Rattle.voicelog.proofs.taking.take_whole.Statement.{statement}
-use Rattle.voicelog.proofs.taking.take_whole.Tie as tie
+use Rattle.record_taking.proofs.take_whole.Statement.{statement}
+use Rattle.record_taking.proofs.take_whole.Tie as tie
 
 add-from : tie.Need-add-from
 add-from c =
