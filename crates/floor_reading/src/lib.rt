@@ -73,18 +73,19 @@ pub fn read_after_classes(
     from: Cursor,
     place: Cursor,
     partitions: &[u16],
-    count: usize,
+    partition_count: usize,
     classes: &[u16],
-    named: usize,
+    class_count: usize,
     floors: &mut [u16],
     at: usize,
 ) -> Step
-    requires { ⌜ (count ≤ 31) × (named ≤ 16) × (at ≤ floorsNeed) × (length (now partitions) ≡ partitionsRoom) × (length (now classes) ≡ classesRoom) ⌝ }
-    ensures { λ r. ⌜ Wrote (into1 (putRow (rowOf count named (now (partitions .entry)) (now (classes .entry))))
-        (ends (position place) (valuesTo (now (classes .entry)) (now (partitions .entry)) count) (now (packet .entry)) (position from))
+    requires { ⌜ («partition_count» ≤ 31) × («class_count» ≤ 16) × (at ≤ floorsNeed)
+        × (length (now partitions) ≡ partitionsRoom) × (length (now classes) ≡ classesRoom) ⌝ }
+    ensures { λ r. ⌜ Wrote (into1 (putRow (rowOf «partition_count» «class_count» (now (partitions .entry)) (now (classes .entry))))
+        (ends (position place) (valuesTo (now (classes .entry)) (now (partitions .entry)) «partition_count») (now (packet .entry)) (position from))
         (table (now (floors .entry)) at)) r (table (now (floors .exit)) (at + floorWidth)) ⌝ }
 {
-    let values = floor_row::counts::value_count(partitions, count, classes);
+    let values = floor_row::counts::value_count(partitions, partition_count, classes);
     let mut list = [0u16; X_LIST_ROOM];
     let ends = floor_x_list::read_ends(packet, from, place, values, &mut list);
     let step = ends.step;
@@ -92,8 +93,8 @@ pub fn read_after_classes(
         Step::Refused(z) => Step::Refused(z),
         Step::Next(next) => {
             let head = [
-                numbers::short(count),
-                numbers::short(named),
+                numbers::short(partition_count),
+                numbers::short(class_count),
                 numbers::narrow(ends.multiplier),
                 numbers::narrow(ends.rangebits),
                 numbers::short(2 + values),
@@ -111,27 +112,27 @@ pub fn read_after_partitions(
     place: Cursor,
     book_count: u32,
     partitions: &[u16],
-    count: usize,
+    partition_count: usize,
     floors: &mut [u16],
     at: usize,
 ) -> Step
-    requires { ⌜ («book_count» ≤ 256) × (at ≤ floorsNeed) × Partitions count (now partitions) ⌝ }
+    requires { ⌜ («book_count» ≤ 256) × (at ≤ floorsNeed) × Partitions «partition_count» (now partitions) ⌝ }
     ensures { λ r. ⌜ Wrote (into1 (putRow floorRow)
-        (floorFrom «book_count» (position place) (take count (now (partitions .entry))) (now (packet .entry)) (position from))
+        (floorFrom «book_count» (position place) (take «partition_count» (now (partitions .entry))) (now (packet .entry)) (position from))
         (table (now (floors .entry)) at)) r (table (now (floors .exit)) (at + floorWidth)) ⌝ }
 {
-    let named = floor_row::counts::class_count(partitions, count);
+    let class_count = floor_row::counts::class_count(partitions, partition_count);
     let mut classes = [0u16; CLASSES_ROOM];
-    match floor_class::read_classes(packet, from, book_count, named, &mut classes) {
+    match floor_class::read_classes(packet, from, book_count, class_count, &mut classes) {
         Step::Refused(z) => Step::Refused(z),
         Step::Next(next) => read_after_classes(
             packet,
             next,
             place,
             partitions,
-            count,
+            partition_count,
             &classes,
-            named,
+            class_count,
             floors,
             at,
         ),

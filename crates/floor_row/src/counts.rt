@@ -16,27 +16,27 @@ fn larger(a: usize, b: usize) -> usize
     a
 }
 
-// One more than the greatest class that the first `count` partitions name; 0 where there is none.
-pub fn class_count(partitions: &[u16], count: usize) -> usize
-    ensures { λ r. ⌜ r ≡ classesTo (now (partitions .entry)) count ⌝ }
+// One more than the greatest class that the first `partition_count` partitions name; 0 where there is none.
+pub fn class_count(partitions: &[u16], partition_count: usize) -> usize
+    ensures { λ r. ⌜ r ≡ classesTo (now (partitions .entry)) «partition_count» ⌝ }
 {
     let mut most: usize = 0;
     let mut i: usize = 0;
-    while i < count {
+    while i < partition_count {
         most = larger(most, wide_u16(buffers::get_u16(partitions, i)) + 1);
         i = i + 1;
     }
     most
 }
 
-// The dimensions of the first `count` partitions' classes together.
-pub fn value_count(partitions: &[u16], count: usize, classes: &[u16]) -> usize
-    requires { ⌜ count ≤ 31 ⌝ }
-    ensures { λ r. ⌜ r ≡ valuesTo (now (classes .entry)) (now (partitions .entry)) count ⌝ }
+// The dimensions of the first `partition_count` partitions' classes together.
+pub fn value_count(partitions: &[u16], partition_count: usize, classes: &[u16]) -> usize
+    requires { ⌜ «partition_count» ≤ 31 ⌝ }
+    ensures { λ r. ⌜ r ≡ valuesTo (now (classes .entry)) (now (partitions .entry)) «partition_count» ⌝ }
 {
     let mut sum: usize = 0;
     let mut i: usize = 0;
-    while i < count {
+    while i < partition_count {
         let class = wide_u16(buffers::get_u16(partitions, i));
         sum = sum + wide_u16(buffers::get_u16(classes, CLASS_WIDTH * class));
         i = i + 1;

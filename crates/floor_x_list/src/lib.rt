@@ -24,15 +24,16 @@ pub fn read_x_values(
     from: Cursor,
     place: Cursor,
     rangebits: usize,
-    count: usize,
+    value_count: usize,
     list: &mut [u16],
 ) -> Step
     requires { ⌜ rangebits ≤ 15 ⌝ }
-    ensures { λ r. ⌜ Wrote (into (putRow cell) (xValues (position place) rangebits count (now (packet .entry)) (position from)) (table (now (list .entry)) 2))
-        r (table (now (list .exit)) (2 + count)) ⌝ }
+    ensures { λ r. ⌜ Wrote
+        (into (putRow cell) (xValues (position place) rangebits «value_count» (now (packet .entry)) (position from)) (table (now (list .entry)) 2))
+        r (table (now (list .exit)) (2 + «value_count»)) ⌝ }
 {
-    if count <= 63 {
-        return numbers::read_numbers(packet, from, rangebits, count, list, 2);
+    if value_count <= 63 {
+        return numbers::read_numbers(packet, from, rangebits, value_count, list, 2);
     }
     match numbers::read_numbers(packet, from, rangebits, 63, list, 2) {
         Step::Refused(z) => Step::Refused(z),
@@ -52,24 +53,24 @@ pub fn read_x_list(
     packet: &[u8],
     from: Cursor,
     place: Cursor,
-    count: usize,
+    value_count: usize,
     multiplier: u32,
     rangebits: u32,
     list: &mut [u16],
 ) -> Ends
     requires { ⌜ (rangebits ≤ 15) × (now list ≡ replicate xListRoom 0) ⌝ }
-    ensures { λ r. ⌜ Wrote (mapped endsInBuffer (endsFrom (position place) count multiplier rangebits (now (packet .entry)) (position from)))
+    ensures { λ r. ⌜ Wrote (mapped endsInBuffer (endsFrom (position place) «value_count» multiplier rangebits (now (packet .entry)) (position from)))
         (r .step) (endsRead (r .multiplier) (r .rangebits) (now (list .exit))) ⌝ }
 {
     buffers::put_u16(list, 1, numbers::power(rangebits));
-    match read_x_values(packet, from, place, wide_u32(rangebits), count, list) {
+    match read_x_values(packet, from, place, wide_u32(rangebits), value_count, list) {
         Step::Refused(z) => Ends {
             multiplier,
             rangebits,
             step: Step::Refused(z),
         },
         Step::Next(next) => {
-            if !numbers::are_distinct(list, 0, 2 + count) {
+            if !numbers::are_distinct(list, 0, 2 + value_count) {
                 return Ends {
                     multiplier,
                     rangebits,
@@ -86,9 +87,15 @@ pub fn read_x_list(
 }
 
 // Multiplier, range bits, X list.
-pub fn read_ends(packet: &[u8], from: Cursor, place: Cursor, count: usize, list: &mut [u16]) -> Ends
+pub fn read_ends(
+    packet: &[u8],
+    from: Cursor,
+    place: Cursor,
+    value_count: usize,
+    list: &mut [u16],
+) -> Ends
     requires { ⌜ now list ≡ replicate xListRoom 0 ⌝ }
-    ensures { λ r. ⌜ Wrote (mapped endsInBuffer (ends (position place) count (now (packet .entry)) (position from)))
+    ensures { λ r. ⌜ Wrote (mapped endsInBuffer (ends (position place) «value_count» (now (packet .entry)) (position from)))
         (r .step) (endsRead (r .multiplier) (r .rangebits) (now (list .exit))) ⌝ }
 {
     match from.field(packet, 2) {
@@ -107,7 +114,7 @@ pub fn read_ends(packet: &[u8], from: Cursor, place: Cursor, count: usize, list:
                 packet,
                 next,
                 place,
-                count,
+                value_count,
                 multiplier + 1,
                 rangebits,
                 list,

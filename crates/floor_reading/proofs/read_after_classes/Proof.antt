@@ -36,7 +36,7 @@ narrow-requires-2 c κs = search after-laws
 add-short : tie.Need-add-short
 add-short c =
     let read = c .before .before .before .before .before .before .before .before in
-    omega (arith, after-few _ (read .before .before .before .before .before .before .before .args .count) 0 _ _ _ _ [] 0 (read .before .before .value-count .ensures) (read .read-ends .ensures) (c .before .before .before .before .before .step2 .given .1))
+    omega (arith, after-few _ (read .before .before .before .before .before .before .before .args .partition-count) 0 _ _ _ _ [] 0 (read .before .before .value-count .ensures) (read .read-ends .ensures) (c .before .before .before .before .before .step2 .given .1))
 
 short-requires-3 : tie.Need-short-requires-3
 short-requires-3 c κs = search after-laws
