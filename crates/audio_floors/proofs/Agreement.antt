@@ -13,7 +13,7 @@ use Rattle.reading.specs.Reader.{Reader}
 use Rattle.reading.specs.Tabulate.{tabulate}
 use Rattle.reading.proofs.Stored.{Stored}
 use Rattle.floor.specs.Content.{Floor}
-use Rattle.floor.specs.Layout.{floorRow}
+use Rattle.floor.specs.Layout.{floorRow, floorWidth}
 use Rattle.floor.specs.inner.Valid.{ValidFloor}
 use Rattle.floor.proofs.Decoded as decoded
 use Rattle.floor.proofs.ValidLaws.{values-few}
@@ -47,18 +47,18 @@ module _ (g h : ℕ → Floor) (m : Mapping) where
   curves-agree channels half vs e = ap (λ (fs : List Floor). curvesOf half fs vs) (floors-agree channels e)
 
 -- where the numbers of a floor's row lie, its X list can be read
-pub x-list-stored : (floors : List ℕ) (n books : ℕ) → ValidFloor books (floorIn floors n) → decoded.FloorStored floors (277 * n) (floorIn floors n) → XListStored floors n
+pub x-list-stored : (floors : List ℕ) (n books : ℕ) → ValidFloor books (floorIn floors n) → decoded.FloorStored floors (floorWidth * n) (floorIn floors n) → XListStored floors n
 x-list-stored floors n books v l =
     let few = values-few v in
     let e = l .values in
     record {
       count = omega arith;
-      list = ap (λ (c : ℕ). slice (277 * n + 212) (277 * n + 212 + c) floors) (l .values) ∙ x-list-is l (omega arith);
+      list = ap (λ (c : ℕ). slice (floorWidth * n + 212) (floorWidth * n + 212 + c) floors) (l .values) ∙ x-list-is l (omega arith);
     }
 
-pub row-x-list-stored : (floors : List ℕ) (n books : ℕ) (f : Floor) → ValidFloor books f → Stored floors (277 * n) (floorRow f) → XListStored floors n
+pub row-x-list-stored : (floors : List ℕ) (n books : ℕ) (f : Floor) → ValidFloor books f → Stored floors (floorWidth * n) (floorRow f) → XListStored floors n
 row-x-list-stored floors n books f v l =
-    let e : floorIn floors n ≡ f = unfold floorIn in decoded.floor-decoded-at (277 * n) books f v l in
+    let e : floorIn floors n ≡ f = unfold floorIn in decoded.floor-decoded-at (floorWidth * n) books f v l in
     x-list-stored floors n books (rw e v) (rw e (decoded.floor-stored f l))
 
 -- THE FLAGS of the answer: a floor that is cut, or stands behind one, has the flag 0, as a place past the last channel

@@ -37,6 +37,7 @@ use Rattle.audio.specs.Channels.{isUsed}
 use Rattle.audio.specs.Curves.{curveOf}
 use Rattle.audio_floors.specs.declared.channel.ChannelRead.{ChannelRead}
 use Rattle.audio_floors.specs.inner.Floors.{isCut, orUnused, channelRead, floorRun, valuesCurve, XListStored, Drawable, ChannelIs}
+use Rattle.floor.specs.Layout.{floorWidth}
 
 -- what an outcome says of the run
 module _ {A : Type 0} where
@@ -115,22 +116,22 @@ points-drawn xs ys m n a b ea eb p q =
     ap (λ (l : drawing.Left). l .out) q ∙ (λ j. drawing.curve xs (e j .finalY) (e j .flags) m n .out)
 
 module _ {floors : List ℕ} {n k : ℕ} (d : Drawable floors n k) where
-  pub x-end : {count : ℕ} → count ≡ getD floors (277 * n + 4) 0 → 277 * n + 212 + count ≤ length floors
+  pub x-end : {count : ℕ} → count ≡ getD floors (floorWidth * n + 4) 0 → floorWidth * n + 212 + count ≤ length floors
   x-end e = let r = d .room in let c = d .counted in let f = d .values-few in let x = d .x-list .count in omega arith
 
-  pub multiplier-is : {m : ℕ} → m ≡ getD floors (277 * n + 2) 0 → m ≡ floorIn floors n .multiplier
+  pub multiplier-is : {m : ℕ} → m ≡ getD floors (floorWidth * n + 2) 0 → m ≡ floorIn floors n .multiplier
   unfolding floorIn floorAt
   multiplier-is e = e
 
-  pub multiplier-few : {m : ℕ} → m ≡ getD floors (277 * n + 2) 0 → m < 256
+  pub multiplier-few : {m : ℕ} → m ≡ getD floors (floorWidth * n + 2) 0 → m < 256
   multiplier-few e = let h = d .multiplier in let g = multiplier-is e in omega arith
 
-  pub floor-drawn : (ys : List ℕ) (half : ℕ) {count m m′ : ℕ} {out : List ℕ} → count ≡ getD floors (277 * n + 4) 0 → m′ ≡ getD floors (277 * n + 2) 0 → m ≡ m′
-      → out ≡ valuesCurve (take (277 * n + 212 + count - (277 * n + 212)) (drop (277 * n + 212) floors)) ys m half → out ≡ curveOf half (floorIn floors n) (values ys)
+  pub floor-drawn : (ys : List ℕ) (half : ℕ) {count m m′ : ℕ} {out : List ℕ} → count ≡ getD floors (floorWidth * n + 4) 0 → m′ ≡ getD floors (floorWidth * n + 2) 0 → m ≡ m′
+      → out ≡ valuesCurve (take (floorWidth * n + 212 + count - (floorWidth * n + 212)) (drop (floorWidth * n + 212) floors)) ys m half → out ≡ curveOf half (floorIn floors n) (values ys)
   unfolding valuesCurve curveOf
   floor-drawn ys half {count} {m} {m′} {out} e g h o =
-      let p : take (277 * n + 212 + count - (277 * n + 212)) (drop (277 * n + 212) floors) ≡ xList (floorIn floors n .rangebits) (floorIn floors n .xs) =
-      part-slice (277 * n + 212) (277 * n + 212 + count) floors ∙ ap (λ (c : ℕ). slice (277 * n + 212) (277 * n + 212 + c) floors) e ∙ d .x-list .list in
+      let p : take (floorWidth * n + 212 + count - (floorWidth * n + 212)) (drop (floorWidth * n + 212) floors) ≡ xList (floorIn floors n .rangebits) (floorIn floors n .xs) =
+      part-slice (floorWidth * n + 212) (floorWidth * n + 212 + count) floors ∙ ap (λ (c : ℕ). slice (floorWidth * n + 212) (floorWidth * n + 212 + c) floors) e ∙ d .x-list .list in
       let q : m ≡ floorIn floors n .multiplier = h ∙ multiplier-is g in
       o ∙ (λ j. drawing.curve (p j) (final.finalYs (p j) ys (q j) (length ys) (length ys) .finalY) (final.finalYs (p j) ys (q j) (length ys) (length ys) .flags) (q j) half .out)
 
@@ -140,15 +141,15 @@ module _ (floors books lengths codewords : List ℕ) (n : ℕ) (l : FloorStored 
   x-few : length (xList (floorIn floors n .rangebits) (floorIn floors n .xs)) ≤ 65
   x-few = let f = values-few (l .valid) in omega arith
 
-  count-few : {count : ℕ} → count ≡ getD floors (277 * n + 4) 0 → count ≤ 65
+  count-few : {count : ℕ} → count ≡ getD floors (floorWidth * n + 4) 0 → count ≤ 65
   count-few e = let c = x .count in let f = x-few in omega arith
 
-  pub count-within : {count : ℕ} → count ≡ getD floors (277 * n + 4) 0 → {long : ℕ} → long ≡ 65 → count ≤ long
+  pub count-within : {count : ℕ} → count ≡ getD floors (floorWidth * n + 4) 0 → {long : ℕ} → long ≡ 65 → count ≤ long
   count-within e l = let f = count-few e in omega arith
 
   module _ (s : List ℕ) (k : ℕ) {list : List ℕ} {used : Bool} {st : Step}
       (w : Wrote (mapped (answeredValues (replicate 65 0)) (floorValues (lengthsIn books lengths) (floorIn floors n) s k)) st (used, list))
-      {c : Cursor} (q : st ≡ S.Next c) (u : used ≡ true) {count : ℕ} (e : count ≡ getD floors (277 * n + 4) 0) where
+      {c : Cursor} (q : st ≡ S.Next c) (u : used ≡ true) {count : ℕ} (e : count ≡ getD floors (floorWidth * n + 4) 0) where
     read : (ys : List ℕ) × (floorValues (lengthsIn books lengths) (floorIn floors n) s k ≡ ok (some ys, position c)) × (sets (replicate 65 0) 0 ys ≡ list)
     read = values-used (lengthsIn books lengths) (floorIn floors n) s k (replicate 65 0) w q u
 

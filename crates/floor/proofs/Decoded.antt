@@ -9,7 +9,7 @@ use Rattle.reading.specs.Lists.{rows}
 use Rattle.reading.specs.Pad.{pad}
 use Rattle.reading.proofs.Pads.{length-pad}
 use Rattle.reading.proofs.Stored.{Stored, stored-at, stored-left, stored-right, stored-first, stored-rest, stored-slice, stored-self}
-use Rattle.floor.specs.Layout.{classRow, floorRow}
+use Rattle.floor.specs.Layout.{classRow, floorRow, floorWidth}
 use Rattle.floor.specs.inner.Decode.{classesAt, floorAt, decodeFloor}
 use Rattle.floor.proofs.ClassDecoded.{classes-decoded}
 use Rattle.floor.specs.Content.{xList, Floor}
@@ -18,7 +18,7 @@ use Rattle.floor.proofs.CountLaws.{class-count-most}
 use Rattle.floor.proofs.ValidLaws.{values-few}
 
 -- the row of a floor has 277 numbers
-pub floor-long : (f : Floor) → length (floorRow f) ≡ 277
+pub floor-long : (f : Floor) → length (floorRow f) ≡ floorWidth
 unfolding floorRow
 floor-long f =
     let p = length-pad 31 (f .partitions) in

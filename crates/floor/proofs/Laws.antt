@@ -24,7 +24,7 @@ use Rattle.floor.proofs.ClassAccepted.{classes-valid}
 use Rattle.floor.specs.XListReading.{ends}
 use Rattle.floor.proofs.XListAccepted.{ends-fit}
 use Rattle.floor.specs.Content.{Floor, classCount, valueCount, noFloor}
-use Rattle.floor.specs.Layout.{floorRow}
+use Rattle.floor.specs.Layout.{floorRow, floorWidth}
 use Rattle.floor.specs.Reading.{floorType, floorFrom, floor1, floor}
 use Rattle.floor.specs.inner.Valid.{ValidFloor}
 use Rattle.floor.proofs.Decoded.{floor-long, FloorStored, floor-stored}
@@ -75,8 +75,8 @@ pub floors-counted : (books : ℕ) (s : List ℕ) (n k : ℕ) {fs : List Floor} 
 floors-counted books s n k {fs} e = many-number (floor books) s n k e
 
 -- IN A TABLE THAT HOLDS FLOORS, THE ROW OF FLOOR f LIES AT 277 * f
-pub floors-row : (fs : List Floor) (t : List ℕ) → t ≡ pad (length t) (rows floorRow fs) → 277 * length fs ≤ length t → (f : ℕ) → f < length fs → Stored t (277 * f) (floorRow (getD fs f noFloor))
-floors-row = rows-stored floorRow 277 floor-long noFloor
+pub floors-row : (fs : List Floor) (t : List ℕ) → t ≡ pad (length t) (rows floorRow fs) → floorWidth * length fs ≤ length t → (f : ℕ) → f < length fs → Stored t (floorWidth * f) (floorRow (getD fs f noFloor))
+floors-row = rows-stored floorRow floorWidth floor-long noFloor
 
-pub floors-stored : (fs : List Floor) (t : List ℕ) → t ≡ pad (length t) (rows floorRow fs) → 277 * length fs ≤ length t → (f : ℕ) → f < length fs → FloorStored t (277 * f) (getD fs f noFloor)
+pub floors-stored : (fs : List Floor) (t : List ℕ) → t ≡ pad (length t) (rows floorRow fs) → floorWidth * length fs ≤ length t → (f : ℕ) → f < length fs → FloorStored t (floorWidth * f) (getD fs f noFloor)
 floors-stored fs t e h f k = floor-stored (getD fs f noFloor) (floors-row fs t e h f k)

@@ -28,6 +28,7 @@ use Rattle.floor.specs.inner.Decode.{classAt}
 use Rattle.floor_partition.specs.Partition.{chosen, value}
 use Rattle.book_codeword.specs.inner.Stored.{lengthsIn}
 use Rattle.floor_partition.specs.inner.Stored.{classIn, PlaceStored, ClassStored}
+use Rattle.floor.specs.Layout.{floorWidth}
 
 -- one turn, m more of them to come
 module _ (lengthsOf : ℕ → List ℕ) (c : Class) (s : List ℕ) (left m k : ℕ) (t : Table) where
@@ -48,13 +49,13 @@ no-turn lengthsOf c s left k t = each-done 0 (putRow cell) (value lengthsOf) [] 
 
 -- the books of a class, as they lie in the table
 module _ {floors books lengths codewords : List ℕ} {n c : ℕ} (l : ClassStored floors books lengths codewords n c) where
-  pub subclasses-few : {sub : ℕ} → sub ≡ getD floors (277 * n + 36 + 11 * c + 1) 0 → sub ≤ 3
+  pub subclasses-few : {sub : ℕ} → sub ≡ getD floors (floorWidth * n + 36 + 11 * c + 1) 0 → sub ≤ 3
   unfolding classIn classAt
   subclasses-few e = rw e (l .valid .carried .subclasses)
 
-  book-is : (j : ℕ) → j < 2 ^ classIn floors n c .subclasses → getD (classIn floors n c .books) j 0 ≡ getD floors (277 * n + 36 + 11 * c + 3 + j) 0
+  book-is : (j : ℕ) → j < 2 ^ classIn floors n c .subclasses → getD (classIn floors n c .books) j 0 ≡ getD floors (floorWidth * n + 36 + 11 * c + 3 + j) 0
   unfolding classIn classAt
-  book-is j h = let at = 277 * n + 36 + 11 * c + 3 in getD-drop at (take (at + 2 ^ getD floors (277 * n + 36 + 11 * c + 1) 0) floors) j 0 ∙ getD-take (at + 2 ^ getD floors (277 * n + 36 + 11 * c + 1) 0) floors (at + j) 0 (omega arith)
+  book-is j h = let at = floorWidth * n + 36 + 11 * c + 3 in getD-drop at (take (at + 2 ^ getD floors (floorWidth * n + 36 + 11 * c + 1) 0) floors) j 0 ∙ getD-take (at + 2 ^ getD floors (floorWidth * n + 36 + 11 * c + 1) 0) floors (at + j) 0 (omega arith)
 
   book-stored : (j : ℕ) → j < 2 ^ classIn floors n c .subclasses → PlaceStored books lengths codewords (getD (classIn floors n c .books) j 0)
   book-stored j h =
@@ -78,8 +79,8 @@ pub record Choosing (s floors books lengths codewords : List ℕ) (n c v : ℕ) 
       ≡ into (putRow cell) (each (value (lengthsIn books lengths)) (chosen (classIn floors n c) v (classIn floors n c .dimensions)) s (position from)) (table entry at)
 
 module _ {s floors books lengths codewords : List ℕ} {n c v : ℕ} {entry : List ℕ} {at : ℕ} {from : Cursor} {count base : ℕ} where
-  pub choose-start : at ≤ 65535 → ClassStored floors books lengths codewords n c → {d sub : ℕ} → d ≡ getD floors (277 * n + 36 + 11 * c) 0 → count ≡ d
-      → sub ≡ getD floors (277 * n + 36 + 11 * c + 1) 0 → base ≡ 2 ^ sub → Choosing s floors books lengths codewords n c v entry at from count base entry from v 0
+  pub choose-start : at ≤ 65535 → ClassStored floors books lengths codewords n c → {d sub : ℕ} → d ≡ getD floors (floorWidth * n + 36 + 11 * c) 0 → count ≡ d
+      → sub ≡ getD floors (floorWidth * n + 36 + 11 * c + 1) 0 → base ≡ 2 ^ sub → Choosing s floors books lengths codewords n c v entry at from count base entry from v 0
   choose-start h l {d} {sub} e₁ e₂ e₃ e₄ =
       let f : count ≡ classIn floors n c .dimensions = unfold classIn classAt in (e₂ ∙ e₁) in
       let g : base ≡ 2 ^ classIn floors n c .subclasses = unfold classIn classAt in (e₄ ∙ ap (λ (x : ℕ). 2 ^ x) e₃) in
@@ -103,7 +104,7 @@ module _ {s floors books lengths codewords : List ℕ} {n c v : ℕ} {entry : Li
       j-low : j < 2 ^ classIn floors n c .subclasses
       j-low = let b = w .based in let d = digit-low in omega arith
 
-      module _ {p : ℕ} (place : p ≡ getD floors (277 * n + 36 + 11 * c + 3 + j) 0) where
+      module _ {p : ℕ} (place : p ≡ getD floors (floorWidth * n + 36 + 11 * c + 3 + j) 0) where
         place-is : p ≡ getD (classIn floors n c .books) (left % 2 ^ classIn floors n c .subclasses) 0
         place-is = place ∙ sym (book-is (w .stored) j j-low) ∙ ap (λ (x : ℕ). getD (classIn floors n c .books) x 0) (digit ∙ ap (λ (x : ℕ). left % x) (w .based))
 

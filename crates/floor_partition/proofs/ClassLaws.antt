@@ -28,6 +28,7 @@ use Rattle.floor.specs.inner.Decode.{classAt}
 use Rattle.floor.proofs.ValidLaws.{master-most}
 use Rattle.floor_partition.specs.Partition.{classValue, value}
 use Rattle.floor_partition.specs.inner.Stored.{classIn, Readable, PlaceStored, ClassStored}
+use Rattle.floor.specs.Layout.{floorWidth}
 
 -- 1 << e, as the machine computes it
 pub one-shifted : (e : ℕ) → e ≤ 3 → (1 * 2 ^ e) % 2 ^ 32 ≡ 2 ^ e
@@ -72,12 +73,12 @@ module _ {books lengths codewords : List ℕ} {place : ℕ} (l : PlaceStored boo
         value-read f list at list′ g = let e = value-is p q in wrote-next (rw (ne-eqb _ _ some, ← long, e, g, f))
 
 -- the class value
-module _ {floors books lengths codewords : List ℕ} {n c : ℕ} (l : ClassStored floors books lengths codewords n c) {sub : ℕ} (e : sub ≡ getD floors (277 * n + 36 + 11 * c + 1) 0) where
+module _ {floors books lengths codewords : List ℕ} {n c : ℕ} (l : ClassStored floors books lengths codewords n c) {sub : ℕ} (e : sub ≡ getD floors (floorWidth * n + 36 + 11 * c + 1) 0) where
   pub class-none : (s : List ℕ) (k : Cursor) → sub ≡ 0 → outcome (Value 0 k) ≡ classValue (lengthsIn books lengths) (classIn floors n c) s (position k)
   unfolding outcome classValue classIn classAt
   class-none s k z = rw (eq-eqb _ _ (sym e ∙ z))
 
-  module _ (some : sub ≡ 0 → ⊥) {m m′ : ℕ} (e₂ : m ≡ getD floors (277 * n + 36 + 11 * c + 2) 0) (e₃ : m′ ≡ m) where
+  module _ (some : sub ≡ 0 → ⊥) {m m′ : ℕ} (e₂ : m ≡ getD floors (floorWidth * n + 36 + 11 * c + 2) 0) (e₃ : m′ ≡ m) where
     pub master-low : 1 ≤ m′
     unfolding classIn classAt
     master-low = rw (e₃, e₂) (l .valid .carried .some-master (λ z. some (e ∙ z)))

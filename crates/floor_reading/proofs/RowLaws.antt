@@ -31,7 +31,7 @@ use Rattle.numbers.proofs.Collected.{Collected, collected, rows-cell, wrote-as,
 use Rattle.numbers.proofs.ListLaws.{take-pad}
 use Rattle.numbers.proofs.Accepted.{field-below}
 use Rattle.floor.specs.Content.{Class, xList, classCount, valueCount}
-use Rattle.floor.specs.Layout.{classRow, floorRow}
+use Rattle.floor.specs.Layout.{classRow, floorRow, floorWidth}
 use Rattle.floor.specs.ClassReading.{class}
 use Rattle.floor.specs.XListReading.{Ends, ends}
 use Rattle.floor.specs.Reading.{floorType, floor1, floor, floorFrom}
@@ -49,7 +49,7 @@ two-runs-at entry at first second third {middle} {last} a b m l =
     two-runs entry at (first ++ second) third middle last n m l
 
 -- the row, from its four parts
-row-long : (count named : ℕ) (ps cs : List ℕ) (e : Ends) → length ps ≡ 31 → length cs ≡ 176 → 277 ≡ length (rowOf count named ps cs e)
+row-long : (count named : ℕ) (ps cs : List ℕ) (e : Ends) → length ps ≡ 31 → length cs ≡ 176 → floorWidth ≡ length (rowOf count named ps cs e)
 unfolding rowOf
 row-long count named ps cs e p q =
     let z = length-pad 65 (xList (e .rangebits) (e .xs)) in
@@ -60,7 +60,7 @@ row-long count named ps cs e p q =
 row-written : (count named : ℕ) (ps cs : List ℕ) (e : Ends) (entry : List ℕ) (i : ℕ) → length ps ≡ 31 → length cs ≡ 176
     → {m b : ℕ} {l : List ℕ} → endsInBuffer e ≡ endsRead m b l → {h₁ h₂ h₃ h₄ h₅ n : ℕ} → length (e .xs) ≡ n → h₁ ≡ count → h₂ ≡ named → h₃ ≡ m → h₄ ≡ b → h₅ ≡ 2 + n
     → {t : List ℕ} → t ≡ sets entry i (((h₁ ∷ h₂ ∷ h₃ ∷ h₄ ∷ h₅ ∷ []) ++ ps) ++ (cs ++ l))
-    → putRow (rowOf count named ps cs) e (table entry i) ≡ table t (i + 277)
+    → putRow (rowOf count named ps cs) e (table entry i) ≡ table t (i + floorWidth)
 unfolding putRow endsInBuffer rowOf
 row-written count named ps cs e entry i p q {m} {b} {l} h {h₁} {h₂} {h₃} {h₄} {h₅} {n} g x₁ x₂ x₃ x₄ x₅ {t} w =
     let em : e .multiplier ≡ m = ap (λ (y : EndsRead). y .multiplier) h in
@@ -100,10 +100,10 @@ module _ (place : Cursor) (count named : ℕ) (ps cs : List ℕ) (s : List ℕ) 
 
     pub after-written : length ps ≡ 31 → length cs ≡ 176 → {h₁ h₂ h₃ h₄ h₅ : ℕ} → h₁ ≡ count → h₂ ≡ named → h₃ ≡ m → h₄ ≡ b → h₅ ≡ 2 + n
         → (x : List ℕ) → x ≡ sets entry i (((h₁ ∷ h₂ ∷ h₃ ∷ h₄ ∷ h₅ ∷ []) ++ ps) ++ (cs ++ l))
-        → Wrote (into1 (putRow (rowOf count named ps cs)) (ends (position place) (valuesTo cs ps count) s (position k)) (table entry i)) (S.Next c) (table x (i + 277))
+        → Wrote (into1 (putRow (rowOf count named ps cs)) (ends (position place) (valuesTo cs ps count) s (position k)) (table entry i)) (S.Next c) (table x (i + floorWidth))
     after-written p q x₁ x₂ x₃ x₄ x₅ x f =
         let made = row-written count named ps cs (read .0) entry i p q (read .2) (fits .long) x₁ x₂ x₃ x₄ x₅ f in
-        let last : into1 (putRow (rowOf count named ps cs)) (ok (read .0, position c)) (table entry i) ≡ ok (table x (i + 277), position c) = unfold into1 mapped in λ j. ok (made j, position c) in
+        let last : into1 (putRow (rowOf count named ps cs)) (ok (read .0, position c)) (table entry i) ≡ ok (table x (i + floorWidth), position c) = unfold into1 mapped in λ j. ok (made j, position c) in
         wrote-next
         (ap (λ (j : ℕ). into1 (putRow (rowOf count named ps cs)) (ends (position place) j s (position k)) (table entry i)) (sym values)
         ∙ ap (λ (o : Outcome (Ends × ℕ)). into1 (putRow (rowOf count named ps cs)) o (table entry i)) (read .1)

@@ -20,7 +20,7 @@ use Rattle.reading.proofs.Parts.{part-slice}
 use Rattle.reading.proofs.Encodes.{iff-false, refuted, shown, rows-length, encodes-pad, encodes-long}
 use Rattle.numbers.proofs.ListLaws.{take-pad}
 use Rattle.floor.specs.Content.{Class, xList, classCount, valueCount}
-use Rattle.floor.specs.Layout.{classRow, floorRow}
+use Rattle.floor.specs.Layout.{classRow, floorRow, floorWidth}
 use Rattle.floor.specs.inner.Valid.{ValidClass, ValidFloor}
 use Rattle.floor.proofs.ClassDecoded.{class-long}
 use Rattle.floor.specs.Carried.{CarriedFloor}
@@ -35,7 +35,7 @@ use Rattle.floor_tables.proofs.Places.{slice-front, slice-long, slice-n
 
 -- ---- partitions
 
-module _ (t : List ℕ) (at : ℕ) (room : at + 277 ≤ length t) {n : ℕ} (q : n ≡ getD t at 0) (y : n ≤ 31) {b₁ : Bool} (p₁ : b₁ ≡ all (λ v. ltb v 16) (slice (at + 5) (at + 5 + n) t)) where
+module _ (t : List ℕ) (at : ℕ) (room : at + floorWidth ≤ length t) {n : ℕ} (q : n ≡ getD t at 0) (y : n ≤ 31) {b₁ : Bool} (p₁ : b₁ ≡ all (λ v. ltb v 16) (slice (at + 5) (at + 5 + n) t)) where
   named : b₁ ≡ all (λ c. ltb c 16) (take (getD t at 0) (partitionPlaces t at))
   named = p₁ ∙ ap (all (λ c. ltb c 16)) (sym (slice-front t (at + 5) n (at + 36) (omega arith)) ∙ ap (λ (k : ℕ). take k (partitionPlaces t at)) q)
 
@@ -52,7 +52,7 @@ module _ (t : List ℕ) (at : ℕ) (room : at + 277 ≤ length t) {n : ℕ} (q :
 
 -- ---- classes
 
-module _ (books : ℕ) (t : List ℕ) (at : ℕ) (room : at + 277 ≤ length t) {n : ℕ} (q : n ≡ getD t (at + 1) 0) where
+module _ (books : ℕ) (t : List ℕ) (at : ℕ) (room : at + floorWidth ≤ length t) {n : ℕ} (q : n ≡ getD t (at + 1) 0) where
   pub named-many : 16 < n → (false ≡ true) ↔ ValidClasses books t at
   named-many h =
       iff-false (λ r.
@@ -94,7 +94,7 @@ count-end t at {v} q₄ y₃ y₄ q₀ {k} q =
     )
 
 -- the end of the X list lies in the table
-pub list-inside : {t : List ℕ} {at v : ℕ} → at + 277 ≤ length t → ValidHead t at → v ≡ getD t (at + 4) 0 → at + 212 + v ≤ length t
+pub list-inside : {t : List ℕ} {at v : ℕ} → at + floorWidth ≤ length t → ValidHead t at → v ≡ getD t (at + 4) 0 → at + 212 + v ≤ length t
 list-inside room r q₄ = let k = count-most (r .count) in omega arith
 
 pub ends-carried : {m b : ℕ} → Counted 4 m → b ≤ 15 → CarriedFloor (floorOfEnds m b)
@@ -104,9 +104,9 @@ ends-carried count bits =
 
 -- ---- a floor
 
-module _ (books : ℕ) (t : List ℕ) (at : ℕ) (room : at + 277 ≤ length t) where
+module _ (books : ℕ) (t : List ℕ) (at : ℕ) (room : at + floorWidth ≤ length t) where
   stored : (r : ValidFloorRow books t at) → FloorStored t at (r .item)
-  stored r = let l = floor-long (r .item) in floor-stored (r .item) (slice-stored t at (at + 277) (r .written) (omega arith) room)
+  stored r = let l = floor-long (r .item) in floor-stored (r .item) (slice-stored t at (at + floorWidth) (r .written) (omega arith) room)
 
   -- the parts of its row
   module _ (r : ValidFloorRow books t at) where
@@ -170,23 +170,23 @@ module _ (books : ℕ) (t : List ℕ) (at : ℕ) (room : at + 277 ≤ length t) 
 -- ---- the X list
 
 -- the row from its parts
-module _ (books : ℕ) (t : List ℕ) (at : ℕ) (room : at + 277 ≤ length t) (head : ValidHead t at) (P : ValidPartitions t at) (C : ValidClasses books t at)
+module _ (books : ℕ) (t : List ℕ) (at : ℕ) (room : at + floorWidth ≤ length t) (head : ValidHead t at) (P : ValidPartitions t at) (C : ValidClasses books t at)
     (xs : List ℕ) (long : length xs ≡ valuesAt t at) where
-  heads : slice at (at + 277) t ≡ getD t at 0 ∷ getD t (at + 1) 0 ∷ getD t (at + 2) 0 ∷ getD t (at + 3) 0 ∷ getD t (at + 4) 0 ∷ (partitionPlaces t at ++ (classPlaces t at ++ slice (at + 212) (at + 277) t))
+  heads : slice at (at + floorWidth) t ≡ getD t at 0 ∷ getD t (at + 1) 0 ∷ getD t (at + 2) 0 ∷ getD t (at + 3) 0 ∷ getD t (at + 4) 0 ∷ (partitionPlaces t at ++ (classPlaces t at ++ slice (at + 212) (at + floorWidth) t))
   heads =
-      let next : (i j : ℕ) → j ≡ i + 1 → i < 277 → slice (at + i) (at + 277) t ≡ getD t (at + i) 0 ∷ slice (at + j) (at + 277) t = λ i j e h. slice-next t (at + i) (at + j) (at + 277) (omega arith) (omega arith) room in
-      slice-next t at (at + 1) (at + 277) refl (omega arith) room
+      let next : (i j : ℕ) → j ≡ i + 1 → i < floorWidth → slice (at + i) (at + floorWidth) t ≡ getD t (at + i) 0 ∷ slice (at + j) (at + floorWidth) t = λ i j e h. slice-next t (at + i) (at + j) (at + floorWidth) (omega arith) (omega arith) room in
+      slice-next t at (at + 1) (at + floorWidth) refl (omega arith) room
       ∙ ap (λ (l : List ℕ). getD t at 0 ∷ l) (next 1 2 refl (omega arith)
       ∙ ap (λ (l : List ℕ). getD t (at + 1) 0 ∷ l) (next 2 3 refl (omega arith)
       ∙ ap (λ (l : List ℕ). getD t (at + 2) 0 ∷ l) (next 3 4 refl (omega arith)
       ∙ ap (λ (l : List ℕ). getD t (at + 3) 0 ∷ l) (next 4 5 refl (omega arith)
-      ∙ ap (λ (l : List ℕ). getD t (at + 4) 0 ∷ l) (slice-both t (at + 5) (at + 36) (at + 277) (omega arith) (omega arith)
-      ∙ ap (λ (l : List ℕ). partitionPlaces t at ++ l) (slice-both t (at + 36) (at + 212) (at + 277) (omega arith) (omega arith)))))))
+      ∙ ap (λ (l : List ℕ). getD t (at + 4) 0 ∷ l) (slice-both t (at + 5) (at + 36) (at + floorWidth) (omega arith) (omega arith)
+      ∙ ap (λ (l : List ℕ). partitionPlaces t at ++ l) (slice-both t (at + 36) (at + 212) (at + floorWidth) (omega arith) (omega arith)))))))
 
   class-cells : classPlaces t at ≡ pad 176 (rows classRow (C .classes .items))
   class-cells = C .classes .written ∙ ap (λ (k : ℕ). pad k (rows classRow (C .classes .items))) (slice-long t (at + 36) 176 (at + 212) (omega arith) (omega arith))
 
-  row-made : all (λ x. ltb x (2 ^ getD t (at + 3) 0)) xs ≡ true → distinct (xList (getD t (at + 3) 0) xs) ≡ true → slice (at + 212) (at + 277) t ≡ pad 65 (xList (getD t (at + 3) 0) xs) → ValidFloorRow books t at
+  row-made : all (λ x. ltb x (2 ^ getD t (at + 3) 0)) xs ≡ true → distinct (xList (getD t (at + 3) 0) xs) ≡ true → slice (at + 212) (at + floorWidth) t ≡ pad 65 (xList (getD t (at + 3) 0) xs) → ValidFloorRow books t at
   unfolding floorRow
   row-made range different list =
       let n = getD t at 0 in
@@ -217,7 +217,7 @@ module _ (books : ℕ) (t : List ℕ) (at : ℕ) (room : at + 277 ≤ length t) 
             ∙ (λ j. sym (P .long) j ∷ sym (C .classes .number) j ∷ getD t (at + 2) 0 ∷ getD t (at + 3) 0 ∷ total j ∷ (P .holds j ++ (class-cells j ++ list j)));
       }
 
-module _ (t : List ℕ) (at : ℕ) (room : at + 277 ≤ length t) (head : ValidHead t at) {b : ℕ} (q₃ : b ≡ getD t (at + 3) 0) {x n : ℕ} (power : x ≡ 2 ^ b) (wide : n ≡ x)
+module _ (t : List ℕ) (at : ℕ) (room : at + floorWidth ≤ length t) (head : ValidHead t at) {b : ℕ} (q₃ : b ≡ getD t (at + 3) 0) {x n : ℕ} (power : x ≡ 2 ^ b) (wide : n ≡ x)
     {v : ℕ} (q₄ : v ≡ getD t (at + 4) 0) {f : ℕ} (q₅ : f ≡ getD t (at + 212) 0) where
   range : n ≡ 2 ^ getD t (at + 3) 0
   range = wide ∙ power ∙ ap (λ (e : ℕ). 2 ^ e) q₃
@@ -258,19 +258,19 @@ module _ (t : List ℕ) (at : ℕ) (room : at + 277 ≤ length t) (head : ValidH
       list-range z books P C =
           iff-false (λ r. true-not-false b₁ (p₁ ∙ (λ j. all (λ w. ltb w (range-of r j)) (ap (drop 2) (same r) j)) ∙ r .valid .carried .in-range) (not-true b₁ z))
 
-      module _ (y₂ : not b₁ ≡ false) {b₂ : Bool} (p₂ : b₂ ≡ all (λ w. ltb w 1) (slice (at + 212 + v) (at + 277) t)) where
-        front : take v (slice (at + 212) (at + 277) t) ≡ slice (at + 212) (at + 212 + v) t
-        front = let l = most in slice-front t (at + 212) v (at + 277) (omega arith)
+      module _ (y₂ : not b₁ ≡ false) {b₂ : Bool} (p₂ : b₂ ≡ all (λ w. ltb w 1) (slice (at + 212 + v) (at + floorWidth) t)) where
+        front : take v (slice (at + 212) (at + floorWidth) t) ≡ slice (at + 212) (at + 212 + v) t
+        front = let l = most in slice-front t (at + 212) v (at + floorWidth) (omega arith)
 
-        padded : (b₂ ≡ true) ↔ (slice (at + 212) (at + 277) t ≡ pad 65 (slice (at + 212) (at + 212 + v) t))
-        padded = rw front at (padded-tested t (at + 212) v (at + 277) p₂ 65 (omega arith) room)
+        padded : (b₂ ≡ true) ↔ (slice (at + 212) (at + floorWidth) t ≡ pad 65 (slice (at + 212) (at + 212 + v) t))
+        padded = rw front at (padded-tested t (at + 212) v (at + floorWidth) p₂ 65 (omega arith) room)
 
         pub list-trailing : not b₂ ≡ true → DecidesRow false t at
         list-trailing z books P C =
             iff-false (λ r.
             let X = xList (r .item .rangebits) (r .item .xs) in
             let l = length-pad 65 X in
-            refuted padded z (stored-whole t (at + 212) (at + 277) (stored books t at room r .list) (omega arith) ∙ ap (pad 65) (sym (of-row r))))
+            refuted padded z (stored-whole t (at + 212) (at + floorWidth) (stored books t at room r .list) (omega arith) ∙ ap (pad 65) (sym (of-row r))))
 
         pub list-end : not b₂ ≡ false → {d : Bool} → d ≡ distinct (slice (at + 212) (at + 212 + v) t) → DecidesRow d t at
         list-end z {d} w books P C =
@@ -288,17 +288,17 @@ module _ (t : List ℕ) (at : ℕ) (room : at + 277 ≤ length t) (head : ValidH
 -- ---- a table of floors
 
 module _ (books count : ℕ) (t : List ℕ) (few : count ≤ 64) (room : 17728 ≤ length t) {books′ : ℕ} (same : books′ ≡ books) {b : Bool}
-    (p : Encodes floorRow (ValidFloor books′) count t ↔ ((b ≡ true) × Zeros (drop (277 * count) t))) where
-  rows-said : FloorsRecognised books count t → (b ≡ true) × Zeros (drop (277 * count) t)
+    (p : Encodes floorRow (ValidFloor books′) count t ↔ ((b ≡ true) × Zeros (drop (floorWidth * count) t))) where
+  rows-said : FloorsRecognised books count t → (b ≡ true) × Zeros (drop (floorWidth * count) t)
   rows-said s =
       let n = s .counted in
-      let l = rows-length floorRow (ValidFloor books) 277 floor-long (s .content) in
+      let l = rows-length floorRow (ValidFloor books) floorWidth floor-long (s .content) in
       p .0 (rw same (encodes-pad floorRow (ValidFloor books) count (length t) (s .content) t (s .written) (s .counted) (s .valid) (omega arith)))
 
   pub table-rows : not b ≡ true → (false ≡ true) ↔ FloorsRecognised books count t
   table-rows n = iff-false (λ s. true-not-false b (rows-said s .0) (not-true b n))
 
-  pub table-end : not b ≡ false → {b₂ : Bool} → (b₂ ≡ true) ↔ Zeros (drop (277 * count) t) → (b₂ ≡ true) ↔ FloorsRecognised books count t
+  pub table-end : not b ≡ false → {b₂ : Bool} → (b₂ ≡ true) ↔ Zeros (drop (floorWidth * count) t) → (b₂ ≡ true) ↔ FloorsRecognised books count t
   table-end n p₂ = (
     (λ e.
         let s : Encodes floorRow (ValidFloor books) count t = rw same at (p .1 (not-false b n, p₂ .0 e)) in

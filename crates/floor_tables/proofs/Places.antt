@@ -93,11 +93,11 @@ below-one (x ∷ l) a =
     let z : x ≡ 0 = omega arith in
     λ j. z j ∷ below-one l (b .1) j
 
-zeros-behind : (n : ℕ) (l : List ℕ) → Zeros (drop n l) ↔ (l ≡ pad (length l) (take n l))
+zeros-after : (n : ℕ) (l : List ℕ) → Zeros (drop n l) ↔ (l ≡ pad (length l) (take n l))
 unfolding pad
-zeros-behind zero l = ((λ z. z ∙ sym (pad-nil (length l))), (λ e. e ∙ pad-nil (length l)))
-zeros-behind (suc n) [] = ((λ z. refl), (λ e. refl))
-zeros-behind (suc n) (x ∷ l) = let b = zeros-behind n l in ((λ z. ap (λ (r : List ℕ). x ∷ r) (b .0 z)), (λ e. b .1 (ap (drop 1) e)))
+zeros-after zero l = ((λ z. z ∙ sym (pad-nil (length l))), (λ e. e ∙ pad-nil (length l)))
+zeros-after (suc n) [] = ((λ z. refl), (λ e. refl))
+zeros-after (suc n) (x ∷ l) = let b = zeros-after n l in ((λ z. ap (λ (r : List ℕ). x ∷ r) (b .0 z)), (λ e. b .1 (ap (drop 1) e)))
 
 -- as the code tests it, n places behind `at`
 module _ (t : List ℕ) (at n to : ℕ) {b : Bool} (q : b ≡ all (λ v. ltb v 1) (slice (at + n) to t)) where
@@ -109,7 +109,7 @@ module _ (t : List ℕ) (at n to : ℕ) {b : Bool} (q : b ≡ all (λ v. ltb v 1
 
   pub padded-tested : (room : ℕ) → to ≡ at + room → to ≤ length t → (b ≡ true) ↔ (slice at to t ≡ pad room (take n (slice at to t)))
   padded-tested room e k =
-      let z : Zeros (drop n (slice at to t)) ↔ (slice at to t ≡ pad room (take n (slice at to t))) = rw (slice-long t at room to e k) at (zeros-behind n (slice at to t)) in
+      let z : Zeros (drop n (slice at to t)) ↔ (slice at to t ≡ pad room (take n (slice at to t))) = rw (slice-long t at room to e k) at (zeros-after n (slice at to t)) in
       let s = zeros-tested in
       ((λ x. z .0 (s .0 x)), (λ x. s .1 (z .1 x)))
 

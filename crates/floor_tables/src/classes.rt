@@ -11,7 +11,7 @@ ghost use Prim.Native.Nat.{_+_, _*_, _^_, _≤_};
 ghost use lib.ListN.{length, drop};
 ghost use lib.Seq.{slice};
 ghost use Rattle.reading.specs.Encoding.{Zeros, Encodes};
-ghost use Rattle.floor.specs.Layout.{classWidth, subclassBooksRoom, classRow, classesRoom};
+ghost use Rattle.floor.specs.Layout.{classWidth, subclassBooksRoom, classRow, classesRoom, floorsNeed};
 ghost use Rattle.floor.specs.inner.Valid.{ValidClass};
 ghost use Rattle.floor_tables.specs.inner.Parts.{ValidClassRow, classOfMaster, ValidBooks};
 
@@ -51,7 +51,7 @@ fn are_books(floors: &[u16], at: usize, book_count: usize, count: usize) -> bool
 
 // Whether the row of a class begins at place `at`.
 fn is_class(floors: &[u16], at: usize, book_count: usize) -> bool
-    requires { ⌜ (at ≤ 65524) × («book_count» ≤ 256) × (at + classWidth ≤ length (now floors)) ⌝ }
+    requires { ⌜ (at + classWidth ≤ 65535) × («book_count» ≤ 256) × (at + classWidth ≤ length (now floors)) ⌝ }
     ensures { λ r. ⌜ (r ≡ true) ↔ ValidClassRow «book_count» (now (floors .entry)) at ⌝ }
 {
     let dimensions = number(floors, at);
@@ -78,7 +78,7 @@ fn is_class(floors: &[u16], at: usize, book_count: usize) -> bool
 
 // Whether the rows of `count` classes lie from place `at` on. What lies behind them is not looked at.
 pub fn are_classes(floors: &[u16], at: usize, count: usize, book_count: usize) -> bool
-    requires { ⌜ (at ≤ 20000) × (classWidth * count ≤ classesRoom) × («book_count» ≤ 256) × (at + classesRoom ≤ length (now floors)) ⌝ }
+    requires { ⌜ (at + classesRoom ≤ floorsNeed) × (classWidth * count ≤ classesRoom) × («book_count» ≤ 256) × (at + classesRoom ≤ length (now floors)) ⌝ }
     ensures { λ r. ⌜ Encodes classRow (ValidClass «book_count») count (slice at (at + classesRoom) (now (floors .entry)))
         ↔ ((r ≡ true) × Zeros (drop (classWidth * count) (slice at (at + classesRoom) (now (floors .entry))))) ⌝ }
 {

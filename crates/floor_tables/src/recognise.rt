@@ -26,7 +26,7 @@ ghost use Rattle.floor_tables.specs.inner.Recognised.{FloorsRecognised};
 
 // Whether the partitions of the floor at place `at` stand.
 fn are_partitions(floors: &[u16], at: usize) -> bool
-    requires { ⌜ (at ≤ 17451) × (at + floorWidth ≤ length (now floors)) ⌝ }
+    requires { ⌜ (at + floorWidth ≤ floorsNeed) × (at + floorWidth ≤ length (now floors)) ⌝ }
     ensures { λ r. ⌜ (r ≡ true) ↔ ValidPartitions (now (floors .entry)) at ⌝ }
 {
     let count = number(floors, at);
@@ -46,7 +46,7 @@ fn are_partitions(floors: &[u16], at: usize) -> bool
 
 // Whether its classes stand.
 fn are_named(floors: &[u16], at: usize, book_count: usize) -> bool
-    requires { ⌜ (at ≤ 17451) × («book_count» ≤ 256) × (at + floorWidth ≤ length (now floors)) ⌝ }
+    requires { ⌜ (at + floorWidth ≤ floorsNeed) × («book_count» ≤ 256) × (at + floorWidth ≤ length (now floors)) ⌝ }
     ensures { λ r. ⌜ (r ≡ true) ↔ ValidClasses «book_count» (now (floors .entry)) at ⌝ }
 {
     let count = number(floors, at + 1);
@@ -74,7 +74,7 @@ fn are_named(floors: &[u16], at: usize, book_count: usize) -> bool
 
 // Whether its count of X values stands.
 fn is_counted(floors: &[u16], at: usize) -> bool
-    requires { ⌜ (at ≤ 17451) × (at + floorWidth ≤ length (now floors)) × (getD (now floors) at 0 ≤ partitionsRoom) ⌝ }
+    requires { ⌜ (at + floorWidth ≤ floorsNeed) × (at + floorWidth ≤ length (now floors)) × (getD (now floors) at 0 ≤ partitionsRoom) ⌝ }
     ensures { λ r. ⌜ (r ≡ true) ↔ ValidCount (now (floors .entry)) at ⌝ }
 {
     let values = number(floors, at + 4);
@@ -94,7 +94,7 @@ fn is_counted(floors: &[u16], at: usize) -> bool
 
 // Whether its multiplier, range bits and count of X values stand.
 fn is_head(floors: &[u16], at: usize) -> bool
-    requires { ⌜ (at ≤ 17451) × (at + floorWidth ≤ length (now floors)) × (getD (now floors) at 0 ≤ partitionsRoom) ⌝ }
+    requires { ⌜ (at + floorWidth ≤ floorsNeed) × (at + floorWidth ≤ length (now floors)) × (getD (now floors) at 0 ≤ partitionsRoom) ⌝ }
     ensures { λ r. ⌜ (r ≡ true) ↔ ValidHead (now (floors .entry)) at ⌝ }
 {
     let multiplier = number(floors, at + 2);
@@ -112,7 +112,7 @@ fn is_head(floors: &[u16], at: usize) -> bool
 
 // Whether its X list stands, and so its whole row where its other parts do.
 fn is_list(floors: &[u16], at: usize) -> bool
-    requires { ⌜ (at ≤ 17451) × (at + floorWidth ≤ length (now floors)) × ValidHead (now floors) at ⌝ }
+    requires { ⌜ (at + floorWidth ≤ floorsNeed) × (at + floorWidth ≤ length (now floors)) × ValidHead (now floors) at ⌝ }
     ensures { λ r. ⌜ DecidesRow r (now (floors .entry)) at ⌝ }
 {
     let range = wide_u16(numbers::power(buffers::get_u16(floors, at + 3) as u32));
@@ -134,7 +134,7 @@ fn is_list(floors: &[u16], at: usize) -> bool
 
 // Whether the row of a floor begins at place `at`.
 fn is_floor(floors: &[u16], at: usize, book_count: usize) -> bool
-    requires { ⌜ (at ≤ 17451) × («book_count» ≤ 256) × (at + floorWidth ≤ length (now floors)) ⌝ }
+    requires { ⌜ (at + floorWidth ≤ floorsNeed) × («book_count» ≤ 256) × (at + floorWidth ≤ length (now floors)) ⌝ }
     ensures { λ r. ⌜ (r ≡ true) ↔ ValidFloorRow «book_count» (now (floors .entry)) at ⌝ }
 {
     if !are_partitions(floors, at) {

@@ -5,7 +5,7 @@ use mathlib.Core.List.{List}
 use mathlib.Core.Path.{_≡_}
 use lib.ListN.{getD}
 use Rattle.floor.specs.Content.{noFloor}
-use Rattle.floor.specs.Layout.{floorRow}
+use Rattle.floor.specs.Layout.{floorRow, floorWidth}
 use Rattle.floor.specs.inner.Valid.{ValidFloor}
 use Rattle.floor_tables.specs.inner.Recognised.{FloorsRecognised}
 use Rattle.floor.proofs.Decoded.{floor-long, floor-decoded-at}
@@ -16,7 +16,7 @@ use Rattle.floor_partition.specs.inner.Stored.{Readable}
 use Rattle.floor_values.specs.inner.Stored.{floorIn, FloorStored}
 
 module _ {setUp count : ℕ} {floors : List ℕ} (st : FloorsRecognised setUp count floors) (few : count ≤ 64) (n : ℕ) (h : n < count) where
-  row : Stored floors (277 * n) (floorRow (getD (st .content) n noFloor))
+  row : Stored floors (floorWidth * n) (floorRow (getD (st .content) n noFloor))
   row = let c = st .counted in let r = st .room in floors-row (st .content) floors (st .written) (omega arith) n (omega arith)
 
   valid : ValidFloor setUp (getD (st .content) n noFloor)
@@ -24,7 +24,7 @@ module _ {setUp count : ℕ} {floors : List ℕ} (st : FloorsRecognised setUp co
 
   pub floor-is : floorIn floors n ≡ getD (st .content) n noFloor
   unfolding floorIn
-  floor-is = floor-decoded-at (277 * n) setUp (getD (st .content) n noFloor) valid row
+  floor-is = floor-decoded-at (floorWidth * n) setUp (getD (st .content) n noFloor) valid row
 
   pub floor-encodes : {books lengths codewords : List ℕ} → ((b : ℕ) → b < setUp → Readable books lengths codewords b) → FloorStored floors books lengths codewords n
   floor-encodes r =

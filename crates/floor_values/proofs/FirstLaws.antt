@@ -16,6 +16,7 @@ use Rattle.floor.specs.inner.Decode.{floorAt}
 use Rattle.floor_points.specs.FinalY.{rangeOf}
 use Rattle.floor_values.specs.Values.{firstBits}
 use Rattle.floor_values.specs.inner.Stored.{floorIn, FloorStored}
+use Rattle.floor.specs.Layout.{floorWidth}
 
 -- the four multipliers: 8, 7, 7 and 6 bits
 pub record Bits (m : ℕ) : Type 0 where
@@ -31,7 +32,7 @@ bits-known (suc (suc (suc zero))) h k = record { some = omega arith; few = omega
 bits-known (suc (suc (suc (suc zero)))) h k = record { some = omega arith; few = omega arith }
 bits-known (suc (suc (suc (suc (suc m))))) h k = absurd (omega arith)
 
-module _ {floors books lengths codewords : List ℕ} {n : ℕ} (l : FloorStored floors books lengths codewords n) {m : ℕ} (e : m ≡ getD floors (277 * n + 2) 0) where
+module _ {floors books lengths codewords : List ℕ} {n : ℕ} (l : FloorStored floors books lengths codewords n) {m : ℕ} (e : m ≡ getD floors (floorWidth * n + 2) 0) where
   multiplier-is : m ≡ floorIn floors n .multiplier
   unfolding floorIn floorAt
   multiplier-is = e

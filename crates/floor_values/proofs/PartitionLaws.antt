@@ -28,6 +28,7 @@ use Rattle.floor_values.specs.Values.{partitionOf}
 use Rattle.book_codeword.specs.inner.Stored.{lengthsIn}
 use Rattle.floor_partition.specs.inner.Stored.{classIn, ClassStored}
 use Rattle.floor_values.specs.inner.Stored.{floorIn, FloorStored}
+use Rattle.floor.specs.Layout.{floorWidth}
 
 -- the classes of a floor, as they lie in the table
 pub classes-long : (t : List ℕ) (at n : ℕ) → length (classesAt t at n) ≡ n
@@ -49,39 +50,39 @@ class-below (p ∷ ps) (suc i) h = let l = class-below ps i (omega arith) in ome
 
 module _ {floors books lengths codewords : List ℕ} {n : ℕ} (l : FloorStored floors books lengths codewords n) where
   -- as many partitions as the row says
-  pub partitions-long : getD floors (277 * n) 0 ≡ length (floorIn floors n .partitions)
+  pub partitions-long : getD floors (floorWidth * n) 0 ≡ length (floorIn floors n .partitions)
   partitions-long =
       let few : length (floorIn floors n .partitions) ≤ 31 = l .valid .carried .partitions in
       let room = l .room in
-      let e : length (floorIn floors n .partitions) ≡ length (drop (277 * n + 5) (take (277 * n + 5 + getD floors (277 * n) 0) floors)) = unfold floorIn floorAt in refl in
-      let d = length-drop (277 * n + 5) (take (277 * n + 5 + getD floors (277 * n) 0) floors) in
-      let t = length-take (277 * n + 5 + getD floors (277 * n) 0) floors in
+      let e : length (floorIn floors n .partitions) ≡ length (drop (floorWidth * n + 5) (take (floorWidth * n + 5 + getD floors (floorWidth * n) 0) floors)) = unfold floorIn floorAt in refl in
+      let d = length-drop (floorWidth * n + 5) (take (floorWidth * n + 5 + getD floors (floorWidth * n) 0) floors) in
+      let t = length-take (floorWidth * n + 5 + getD floors (floorWidth * n) 0) floors in
       omega arith
 
-  pub partition-get : (i : ℕ) → i < length (floorIn floors n .partitions) → getD (floorIn floors n .partitions) i 0 ≡ getD floors (277 * n + 5 + i) 0
+  pub partition-get : (i : ℕ) → i < length (floorIn floors n .partitions) → getD (floorIn floors n .partitions) i 0 ≡ getD floors (floorWidth * n + 5 + i) 0
   unfolding floorIn floorAt
   partition-get i h =
       let e = partitions-long in
-      getD-drop (277 * n + 5) (take (277 * n + 5 + getD floors (277 * n) 0) floors) i 0 ∙ getD-take (277 * n + 5 + getD floors (277 * n) 0) floors (277 * n + 5 + i) 0 (omega arith)
+      getD-drop (floorWidth * n + 5) (take (floorWidth * n + 5 + getD floors (floorWidth * n) 0) floors) i 0 ∙ getD-take (floorWidth * n + 5 + getD floors (floorWidth * n) 0) floors (floorWidth * n + 5 + i) 0 (omega arith)
 
   -- the class of partition i
-  module _ {i p class : ℕ} (h : i < length (floorIn floors n .partitions)) (e₁ : p ≡ getD floors (277 * n + 5 + i) 0) (e₂ : class ≡ p) where
+  module _ {i p class : ℕ} (h : i < length (floorIn floors n .partitions)) (e₁ : p ≡ getD floors (floorWidth * n + 5 + i) 0) (e₂ : class ≡ p) where
     class-of : getD (floorIn floors n .partitions) i 0 ≡ class
     class-of = partition-get i h ∙ sym (e₂ ∙ e₁)
 
     class-low : class < length (floorIn floors n .classes)
     class-low = let b = class-below (floorIn floors n .partitions) i h in let c = l .valid .carried .class-count in let e = class-of in omega arith
 
-    class-few : class < getD floors (277 * n + 1) 0
+    class-few : class < getD floors (floorWidth * n + 1) 0
     class-few =
         let low = class-low in
-        let m = classes-long floors (277 * n + 36) (getD floors (277 * n + 1) 0) in
-        let f : length (floorIn floors n .classes) ≡ length (classesAt floors (277 * n + 36) (getD floors (277 * n + 1) 0)) = unfold floorIn floorAt in refl in
+        let m = classes-long floors (floorWidth * n + 36) (getD floors (floorWidth * n + 1) 0) in
+        let f : length (floorIn floors n .classes) ≡ length (classesAt floors (floorWidth * n + 36) (getD floors (floorWidth * n + 1) 0)) = unfold floorIn floorAt in refl in
         omega arith
 
     class-get : getD (floorIn floors n .classes) class noClass ≡ classIn floors n class
     unfolding floorIn floorAt classIn
-    class-get = classes-get floors (277 * n + 36) (getD floors (277 * n + 1) 0) class class-few
+    class-get = classes-get floors (floorWidth * n + 36) (getD floors (floorWidth * n + 1) 0) class class-few
 
     pub class-stored : ClassStored floors books lengths codewords n class
     class-stored =
@@ -118,7 +119,7 @@ written o entry w =
     wrote-through (λ l. puts (putRow whole) l (table entry 2)) (λ t. t .cells) (λ l. sets entry 2 (rows whole l)) (λ l. ap (λ (t : Table). t .cells) (puts-rows whole l entry 2)) o w
 
 module _ {s floors books lengths codewords : List ℕ} {n : ℕ} {entry : List ℕ} {from : Cursor} {count : ℕ} where
-  pub go-start : FloorStored floors books lengths codewords n → {c : ℕ} → c ≡ getD floors (277 * n) 0 → count ≡ c → Progress s floors books lengths codewords n entry from count entry from 2 0
+  pub go-start : FloorStored floors books lengths codewords n → {c : ℕ} → c ≡ getD floors (floorWidth * n) 0 → count ≡ c → Progress s floors books lengths codewords n entry from count entry from 2 0
   go-start l e f =
       record {
         stored = l;
@@ -136,7 +137,7 @@ module _ {s floors books lengths codewords : List ℕ} {n : ℕ} {entry : List �
     pub place-low : at ≤ 65535
     place-low = let a = w .place-few in let b = w .within in let d = count-few in omega arith
 
-    module _ (h : i < count) {p class : ℕ} (e₁ : p ≡ getD floors (277 * n + 5 + i) 0) (e₂ : class ≡ p) where
+    module _ (h : i < count) {p class : ℕ} (e₁ : p ≡ getD floors (floorWidth * n + 5 + i) 0) (e₂ : class ≡ p) where
       low : i < length (floorIn floors n .partitions)
       low = let e = w .counted in omega arith
 
@@ -154,7 +155,7 @@ module _ {s floors books lengths codewords : List ℕ} {n : ℕ} {entry : List �
             written (each (partitionOf (lengthsIn books lengths) (floorIn floors n)) (floorIn floors n .partitions) s (position from)) entry
             (each-loop-refused 0 (putRow whole) (partitionOf (lengthsIn books lengths) (floorIn floors n)) s (floorIn floors n .partitions) _ i next (table now at) (w .rest) low step q (table u 0))
 
-        pub go-next : {after : Cursor} → st ≡ S.Next after → length now′ ≡ length now → {d at′ : ℕ} → d ≡ getD floors (277 * n + 36 + 11 * class) 0 → {d′ : ℕ} → d′ ≡ d → at′ ≡ at + d′
+        pub go-next : {after : Cursor} → st ≡ S.Next after → length now′ ≡ length now → {d at′ : ℕ} → d ≡ getD floors (floorWidth * n + 36 + 11 * class) 0 → {d′ : ℕ} → d′ ≡ d → at′ ≡ at + d′
             → Progress s floors books lengths codewords n entry from count now′ after at′ (i + 1)
         go-next q e {d} {at′} f {d′} g a =
             let dims : d′ ≡ classIn floors n class .dimensions = unfold classIn classAt in (g ∙ f) in

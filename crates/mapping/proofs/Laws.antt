@@ -25,7 +25,7 @@ use Rattle.mapping.specs.Content.{Coupling, Submap, Mapping}
 use Rattle.mapping.specs.Rules.{Coupling11}
 use Rattle.mapping.specs.declared.Known.{Known}
 use Rattle.mapping.specs.Reading.{submapCount, couplingCount, channel, coupling, multiplex, multiplexes, submap, parts, mapping}
-use Rattle.mapping.specs.Layout.{couplingRow, submapRow, mappingRow}
+use Rattle.mapping.specs.Layout.{couplingRow, submapRow, mappingRow, couplingsRoom}
 use Rattle.mapping.specs.inner.Valid.{ValidMultiplex, ValidSubmap, ValidMapping}
 use Rattle.mapping.specs.inner.Decode.{couplingOf, submapOf, pairs, lessOne, decodeMapping}
 use Rattle.mapping.proofs.CountLaws.{submaps-few, steps-few, submaps-some-at-least}
@@ -199,8 +199,8 @@ decode-mapping known m h v =
     let b = v .carried .submaps .high in
     let c = multiplex-most known m h v in
     let e : n % 256 + 256 * (n / 256) ≡ n = omega arith in
-    let cs : pairs couplingOf (n % 256 + 256 * (n / 256)) (take 512 (drop 4 (mappingRow m))) ≡ m .couplings =
-    (λ j. pairs couplingOf (e j) (part-couplings (n % 256) (n / 256) (length (m .submaps)) 0 x y z j)) ∙ pairs-back coupling-pairs (m .couplings) 512 (omega arith) in
+    let cs : pairs couplingOf (n % 256 + 256 * (n / 256)) (take couplingsRoom (drop 4 (mappingRow m))) ≡ m .couplings =
+    (λ j. pairs couplingOf (e j) (part-couplings (n % 256) (n / 256) (length (m .submaps)) 0 x y z j)) ∙ pairs-back coupling-pairs (m .couplings) couplingsRoom (omega arith) in
     let ms : lessOne (take 256 (drop 516 (mappingRow m))) ≡ m .multiplex = ap lessOne (part-multiplex (n % 256) (n / 256) (length (m .submaps)) 0 x y z) ∙ less-one-back (m .multiplex) 256 c in
     let ss : pairs submapOf (length (m .submaps)) (take 32 (drop 772 (mappingRow m))) ≡ m .submaps =
     ap (λ (t : List ℕ). pairs submapOf (length (m .submaps)) (take 32 t)) (part-submaps (n % 256) (n / 256) (length (m .submaps)) 0 x y z)

@@ -27,7 +27,7 @@ use Rattle.bits.proofs.Written.{got, stopped}
 use Rattle.mapping.specs.Content.{Mapping}
 use Rattle.mapping.specs.declared.Known.{Known}
 use Rattle.mapping.specs.Reading.{submapCount, couplingCount, coupling, multiplexes, submap, parts, mapping}
-use Rattle.mapping.specs.Layout.{couplingRow, multiplexRow, submapRow, mappingRow, partsInto}
+use Rattle.mapping.specs.Layout.{couplingRow, multiplexRow, submapRow, mappingRow, partsInto, mappingWidth}
 use Rattle.mapping.proofs.SizeLaws.{parts-sizes}
 use Rattle.mapping.proofs.RowLaws.{mapping-wide, row-made}
 
@@ -92,8 +92,8 @@ module _ (known : Known) (submaps steps : ℕ) (s : List ℕ) (k : Cursor) (row 
   unfolding into1 mapped
   parts-refused {z} q t u = let c : parts known submaps steps s (position k) ≡ bad (refusalOf z) = stopped (partsInto row) (parts known submaps steps s (position k)) p q in wrote-refused u (rw c)
 
-  pub row-whole : {k′ : Cursor} → r ≡ S.Next k′ → known .channels ≤ 255 → steps ≤ 256 → row ≡ set (set (set (replicate 804 0) 0 (steps % 256)) 1 (steps / 256)) 2 submaps
-      → (cells : List ℕ) (i : ℕ) {cells′ : List ℕ} → cells′ ≡ sets cells i row′ → Wrote (partsWritten known submaps steps s k (table cells i)) (S.Next k′) (table cells′ (i + 804))
+  pub row-whole : {k′ : Cursor} → r ≡ S.Next k′ → known .channels ≤ 255 → steps ≤ 256 → row ≡ set (set (set (replicate mappingWidth 0) 0 (steps % 256)) 1 (steps / 256)) 2 submaps
+      → (cells : List ℕ) (i : ℕ) {cells′ : List ℕ} → cells′ ≡ sets cells i row′ → Wrote (partsWritten known submaps steps s k (table cells i)) (S.Next k′) (table cells′ (i + mappingWidth))
   unfolding into1 mapped putRow
   row-whole q h m f cells i g =
       let a = got (partsInto row) (parts known submaps steps s (position k)) p q in
@@ -135,26 +135,26 @@ module _ (known : Known) (s : List ℕ) (k : Cursor) {r : Field} (p : outcome r 
 -- the loop: i mappings are done
 pub record Reading (known : Known) (s : List ℕ) (n : ℕ) (W : Outcome (Table × ℕ)) (i : ℕ) (k : Cursor) (cells : List ℕ) : Type 0 where
   pub within : i ≤ n
-  pub rest : Rest (putRow mappingRow) (mapping known) s n W i k (table cells (804 * i))
+  pub rest : Rest (putRow mappingRow) (mapping known) s n W i k (table cells (mappingWidth * i))
 
 module _ (known : Known) (s : List ℕ) (n : ℕ) where
   pub mappings-start : (k : Cursor) (cells : List ℕ) → Reading known s n (into (putRow mappingRow) (many (mapping known) n s (position k)) (table cells 0)) 0 k cells
   mappings-start k cells = record { within = omega arith; rest = loop-start _ _ _ _ _ k _ refl }
 
   module _ (W : Outcome (Table × ℕ)) (i : ℕ) (k : Cursor) (cells : List ℕ) (w : Reading known s n W i k cells) where
-    pub mappings-done : n ≤ i → Wrote W (S.Next k) (table cells (804 * n))
+    pub mappings-done : n ≤ i → Wrote W (S.Next k) (table cells (mappingWidth * n))
     mappings-done h =
         let b = w .within in
         let e : i ≡ n = omega arith in
-        subst (λ (j : ℕ). Wrote W (S.Next k) (table cells (804 * j))) e (loop-done _ _ _ _ _ i k _ (w .rest) h)
+        subst (λ (j : ℕ). Wrote W (S.Next k) (table cells (mappingWidth * j))) e (loop-done _ _ _ _ _ i k _ (w .rest) h)
 
-    module _ (h : i < n) {st : Step} {cells′ : List ℕ} (one : Wrote (mappingInto known s k (table cells (804 * i))) st (table cells′ (804 * i + 804))) where
+    module _ (h : i < n) {st : Step} {cells′ : List ℕ} (one : Wrote (mappingInto known s k (table cells (mappingWidth * i))) st (table cells′ (mappingWidth * i + mappingWidth))) where
       pub mappings-refused : {z : Refusal} → st ≡ S.Refused z → (u : Table) → Wrote W (S.Refused z) u
       mappings-refused q u = loop-refused _ _ _ _ _ i k _ (w .rest) h one q u
 
       pub mappings-next : {k′ : Cursor} → st ≡ S.Next k′ → Reading known s n W (i + 1) k′ cells′
       mappings-next {k′} q =
-          let e : 804 * i + 804 ≡ 804 * (i + 1) = omega arith in
+          let e : mappingWidth * i + mappingWidth ≡ mappingWidth * (i + 1) = omega arith in
           record { within = omega arith; rest = subst (λ (j : ℕ). Rest (putRow mappingRow) (mapping known) s n W (i + 1) k′ (table cells′ j)) e (loop-next _ _ _ _ _ i k _ (w .rest) h one q) }
 
 pub ruleset mappings-laws = (needs, mappings-start, mappings-done, mappings-refused, mappings-next)

@@ -45,7 +45,7 @@ mapping-stored {t} {at} m l =
 
 -- IN A TABLE THAT IS THE WRITING-OUT OF MAPPINGS, MAPPING i LIES AT i TIMES THE WIDTH; d stands for a mapping past the last
 pub mappings-stored : (ms : List Mapping) (t : List ℕ) → t ≡ pad (length t) (rows mappingRow ms) → mappingWidth * length ms ≤ length t → (i : ℕ) → i < length ms → (d : Mapping) → MappingStored t (mappingWidth * i) (getD ms i d)
-mappings-stored ms t e h i k d = mapping-stored (getD ms i d) (rows-stored mappingRow 804 mapping-wide d ms t e h i k)
+mappings-stored ms t e h i k d = mapping-stored (getD ms i d) (rows-stored mappingRow mappingWidth mapping-wide d ms t e h i k)
 
 -- multiplex numbers stand plus one, zero where there is none
 less-one : (l : List ℕ) (c : ℕ) → getD (map suc l) c 0 - 1 ≡ getD l c 0
@@ -64,7 +64,7 @@ module _ {t : List ℕ} {at : ℕ} {m : Mapping} (l : MappingStored t at m) wher
   -- coupling step j
   module _ (j : ℕ) (g : j < length (m .couplings)) (few : length (m .couplings) ≤ 256) (d : Coupling) where
     step : Stored t (at + couplingsPlace + 2 * j) (couplingRow (getD (m .couplings) j d))
-    step = rows-stored-in couplingRow 2 coupling-wide d 512 (m .couplings) (l .couplings) (omega arith) j g
+    step = rows-stored-in couplingRow 2 coupling-wide d couplingsRoom (m .couplings) (l .couplings) (omega arith) j g
 
     pub magnitude-is : getD t (at + (couplingsPlace + 2 * j)) 0 ≡ getD (m .couplings) j d .magnitude
     unfolding couplingRow

@@ -5,7 +5,7 @@ use mathlib.Core.Path.{_≡_}
 use Rattle.reading.proofs.Encodes.{encodes-same}
 use Rattle.mapping.specs.declared.Known.{Known}
 use Rattle.mapping.specs.inner.Decode.{decodeMapping}
-use Rattle.mapping.specs.Layout.{mappingRow}
+use Rattle.mapping.specs.Layout.{mappingRow, mappingWidth}
 use Rattle.mapping.specs.inner.Valid.{ValidMapping}
 use Rattle.mapping.proofs.Laws.{decode-mapping}
 use Rattle.mapping.proofs.RowLaws.{mapping-wide}
@@ -13,4 +13,4 @@ use Rattle.mapping_tables.specs.inner.Recognised.{MappingsRecognised}
 
 -- no other mappings share a table
 pub one-content : (known : Known) (n : ℕ) (cells : List ℕ) → known .channels ≤ 256 → (a b : MappingsRecognised known n cells) → a .items ≡ b .items
-one-content known n cells h a b = encodes-same mappingRow (ValidMapping known) 804 mapping-wide decodeMapping (λ m v. decode-mapping known m h v) n cells a b
+one-content known n cells h a b = encodes-same mappingRow (ValidMapping known) mappingWidth mapping-wide decodeMapping (λ m v. decode-mapping known m h v) n cells a b

@@ -21,7 +21,7 @@ use Rattle.reading.proofs.Pads.{length-pad}
 use Rattle.reading.proofs.PairRows.{pair-laws}
 use Rattle.mapping.specs.Content.{Coupling, Submap, Mapping, noSubmap}
 use Rattle.mapping.specs.declared.Known.{Known}
-use Rattle.mapping.specs.Layout.{couplingRow, multiplexRow, submapRow, mappingRow}
+use Rattle.mapping.specs.Layout.{couplingRow, multiplexRow, submapRow, mappingRow, mappingWidth, couplingsRoom}
 use Rattle.mapping.specs.Rules.{Coupling11}
 use Rattle.mapping.specs.inner.Valid.{ValidMultiplex, ValidSubmap, ValidMapping}
 use Rattle.mapping.specs.inner.Decode.{couplingOf, submapOf}
@@ -156,7 +156,7 @@ pub record Parts (known : Known) (cells : List ℕ) (steps k count : ℕ) : Type
   pub some-submap : 1 ≤ k
   pub few-submaps : k ≤ 16
   pub zero : getD cells 3 0 ≡ 0
-  pub couplings : Encodes couplingRow (Coupling11 (known .channels)) steps (take 512 (drop 4 cells))
+  pub couplings : Encodes couplingRow (Coupling11 (known .channels)) steps (take couplingsRoom (drop 4 cells))
   pub multiplex : Encodes multiplexRow (ValidMultiplex k) count (take 256 (drop 516 cells))
   pub submaps : Encodes submapRow (ValidSubmap known) k (take 32 (drop 772 cells))
 
@@ -212,8 +212,8 @@ module _ (known : Known) (few : known .channels ≤ 255) where
         few-submaps = omega arith;
         zero = at 3;
         couplings =
-            rw e (encodes-pad couplingRow (Coupling11 (known .channels)) n 512 (m .couplings) (take 512 (drop 4 cells))
-            (ap (λ (l : List ℕ). take 512 (drop 4 l)) w ∙ part-couplings (n % 256) (n / 256) k 0 x y z) refl (v .rule11 .couplings) (omega arith));
+            rw e (encodes-pad couplingRow (Coupling11 (known .channels)) n couplingsRoom (m .couplings) (take couplingsRoom (drop 4 cells))
+            (ap (λ (l : List ℕ). take couplingsRoom (drop 4 l)) w ∙ part-couplings (n % 256) (n / 256) k 0 x y z) refl (v .rule11 .couplings) (omega arith));
         multiplex =
             encodes-pad multiplexRow (ValidMultiplex (getD cells 2 0)) count 256 (m .multiplex) (take 256 (drop 516 cells))
             (ap (λ (l : List ℕ). take 256 (drop 516 l)) w ∙ part-multiplex (n % 256) (n / 256) k 0 x y z ∙ ap (pad 256) (sym (multiplex-rows (m .multiplex))))
@@ -225,15 +225,15 @@ module _ (known : Known) (few : known .channels ≤ 255) where
       }
 
   -- parts that stand make a row
-  module _ (cells : List ℕ) (long : length cells ≡ 804) where
-    split : cells ≡ take 4 cells ++ (take 512 (drop 4 cells) ++ (take 256 (drop 516 cells) ++ take 32 (drop 772 cells)))
+  module _ (cells : List ℕ) (long : length cells ≡ mappingWidth) where
+    split : cells ≡ take 4 cells ++ (take couplingsRoom (drop 4 cells) ++ (take 256 (drop 516 cells) ++ take 32 (drop 772 cells)))
     split =
         let d = length-drop 772 cells in
         let a : drop 772 cells ≡ take 32 (drop 772 cells) = sym (take-all 32 (drop 772 cells) (omega arith)) in
         let b : drop 516 cells ≡ take 256 (drop 516 cells) ++ take 32 (drop 772 cells) =
         sym (take-append-drop 256 (drop 516 cells)) ∙ ap (λ (l : List ℕ). take 256 (drop 516 cells) ++ l) (drop-drop 256 516 cells ∙ a) in
-        let c : drop 4 cells ≡ take 512 (drop 4 cells) ++ (take 256 (drop 516 cells) ++ take 32 (drop 772 cells)) =
-        sym (take-append-drop 512 (drop 4 cells)) ∙ ap (λ (l : List ℕ). take 512 (drop 4 cells) ++ l) (drop-drop 512 4 cells ∙ b) in
+        let c : drop 4 cells ≡ take couplingsRoom (drop 4 cells) ++ (take 256 (drop 516 cells) ++ take 32 (drop 772 cells)) =
+        sym (take-append-drop couplingsRoom (drop 4 cells)) ∙ ap (λ (l : List ℕ). take couplingsRoom (drop 4 cells) ++ l) (drop-drop couplingsRoom 4 cells ∙ b) in
         sym (take-append-drop 4 cells) ∙ ap (λ (l : List ℕ). take 4 cells ++ l) c
 
     made : getD cells 0 0 < 256 → {count : ℕ} → MultiplexCount (getD cells 2 0) (known .channels) count
@@ -249,10 +249,10 @@ module _ (known : Known) (few : known .channels ≤ 255) where
         let l4 = length-drop 4 cells in
         let l516 = length-drop 516 cells in
         let l772 = length-drop 772 cells in
-        let lc : length (take 512 (drop 4 cells)) ≡ 512 = length-take-le 512 (drop 4 cells) (omega arith) in
+        let lc : length (take couplingsRoom (drop 4 cells)) ≡ couplingsRoom = length-take-le couplingsRoom (drop 4 cells) (omega arith) in
         let lm : length (take 256 (drop 516 cells)) ≡ 256 = length-take-le 256 (drop 516 cells) (omega arith) in
         let ls : length (take 32 (drop 772 cells)) ≡ 32 = length-take-le 32 (drop 772 cells) (omega arith) in
-        let ec : take 512 (drop 4 cells) ≡ pad 512 (rows couplingRow cs) = p .couplings .written ∙ ap (λ (k : ℕ). pad k (rows couplingRow cs)) lc in
+        let ec : take couplingsRoom (drop 4 cells) ≡ pad couplingsRoom (rows couplingRow cs) = p .couplings .written ∙ ap (λ (k : ℕ). pad k (rows couplingRow cs)) lc in
         let em : take 256 (drop 516 cells) ≡ pad 256 (map suc ms) = p .multiplex .written ∙ (λ j. pad (lm j) (multiplex-rows ms j)) in
         let es : take 32 (drop 772 cells) ≡ pad 32 (rows submapRow ss) = p .submaps .written ∙ ap (λ (k : ℕ). pad k (rows submapRow ss)) ls in
         let h = p .few-steps in
@@ -271,7 +271,7 @@ module _ (known : Known) (few : known .channels ≤ 255) where
       parts-of = rw es ((λ r. taken (r .item) (r .valid) cells (r .written) n), (λ p. made byte n p))
 
 -- as the code asks them
-module _ (known : Known) (cells : List ℕ) (long : length cells ≡ 804) (few : known .channels ≤ 255) {steps : ℕ}
+module _ (known : Known) (cells : List ℕ) (long : length cells ≡ mappingWidth) (few : known .channels ≤ 255) {steps : ℕ}
     (es : (steps ≡ getD cells 0 0 + 256 * getD cells 1 0) × (getD cells 0 0 < 256)) where
   abbrev Row : Type 0
   Row = RowOf mappingRow (ValidMapping known) cells
@@ -291,7 +291,7 @@ module _ (known : Known) (cells : List ℕ) (long : length cells ≡ 804) (few :
   pub place-used : (getD cells 3 0 ≡ 0 → ⊥) → (false ≡ true) ↔ RowOf mappingRow (ValidMapping known) cells
   place-used h = iff-false (λ r. h (ps r .zero))
 
-  module _ {r₁ : Bool} (said₁ : (r₁ ≡ true) ↔ Encodes couplingRow (Coupling11 (known .channels)) steps (take 512 (drop 4 cells))) where
+  module _ {r₁ : Bool} (said₁ : (r₁ ≡ true) ↔ Encodes couplingRow (Coupling11 (known .channels)) steps (take couplingsRoom (drop 4 cells))) where
     pub couplings-wrong : not r₁ ≡ true → (false ≡ true) ↔ RowOf mappingRow (ValidMapping known) cells
     couplings-wrong e = iff-false (λ r. not-said said₁ (not-true r₁ e) (ps r .couplings))
 
@@ -317,33 +317,33 @@ part-width a w = omega arith
 -- the loop over the rows: i are found right
 pub record Finding (known : Known) (n : ℕ) (cells : List ℕ) (i : ℕ) : Type 0 where
   pub within : i ≤ n
-  pub room : 804 * n ≤ length cells
-  pub left : Left mappingRow (ValidMapping known) 804 mapping-wide n cells i
+  pub room : mappingWidth * n ≤ length cells
+  pub left : Left mappingRow (ValidMapping known) mappingWidth mapping-wide n cells i
 
 module _ (known : Known) (n : ℕ) (cells : List ℕ) where
-  pub too-short : length cells < 804 * n → (false ≡ true) ↔ MappingsRecognised known n cells
-  too-short h = iff-false (λ s. let l = encodes-long mappingRow (ValidMapping known) 804 mapping-wide n cells s in omega arith)
+  pub too-short : length cells < mappingWidth * n → (false ≡ true) ↔ MappingsRecognised known n cells
+  too-short h = iff-false (λ s. let l = encodes-long mappingRow (ValidMapping known) mappingWidth mapping-wide n cells s in omega arith)
 
-  pub find-start : 804 * n ≤ length cells → Finding known n cells 0
-  find-start h = record { within = omega arith; room = h; left = rows-start mappingRow (ValidMapping known) 804 mapping-wide n cells }
+  pub find-start : mappingWidth * n ≤ length cells → Finding known n cells 0
+  find-start h = record { within = omega arith; room = h; left = rows-start mappingRow (ValidMapping known) mappingWidth mapping-wide n cells }
 
   module _ (i : ℕ) (f : Finding known n cells i) where
     -- w is the row's width as the code computes it
-    module _ (h : i < n) {r : Bool} {w : ℕ} (said : (r ≡ true) ↔ RowOf mappingRow (ValidMapping known) (take w (drop (804 * i) cells))) (e : w ≡ 804) where
-      of-row : (r ≡ true) ↔ RowOf mappingRow (ValidMapping known) (take 804 (drop (804 * i) cells))
+    module _ (h : i < n) {r : Bool} {w : ℕ} (said : (r ≡ true) ↔ RowOf mappingRow (ValidMapping known) (take w (drop (mappingWidth * i) cells))) (e : w ≡ mappingWidth) where
+      of-row : (r ≡ true) ↔ RowOf mappingRow (ValidMapping known) (take mappingWidth (drop (mappingWidth * i) cells))
       of-row = rw e at said
 
       pub find-stop : not r ≡ true → (false ≡ true) ↔ MappingsRecognised known n cells
-      find-stop f′ = rows-stop mappingRow (ValidMapping known) 804 mapping-wide n cells i (f .left) h (λ x. not-said of-row (not-true r f′) x)
+      find-stop f′ = rows-stop mappingRow (ValidMapping known) mappingWidth mapping-wide n cells i (f .left) h (λ x. not-said of-row (not-true r f′) x)
 
       pub find-next : not r ≡ false → Finding known n cells (i + 1)
       find-next f′ =
           let g = f .room in
-          record { within = omega arith; room = f .room; left = rows-next mappingRow (ValidMapping known) 804 mapping-wide n cells i (f .left) h (omega arith) (of-row .0 (not-false r f′)) }
+          record { within = omega arith; room = f .room; left = rows-next mappingRow (ValidMapping known) mappingWidth mapping-wide n cells i (f .left) h (omega arith) (of-row .0 (not-false r f′)) }
 
-    pub find-end : n ≤ i → {r : Bool} → (r ≡ true) ↔ Zeros (drop (804 * n) cells) → (r ≡ true) ↔ MappingsRecognised known n cells
+    pub find-end : n ≤ i → {r : Bool} → (r ≡ true) ↔ Zeros (drop (mappingWidth * n) cells) → (r ≡ true) ↔ MappingsRecognised known n cells
     find-end h said =
-        let s = rows-end mappingRow (ValidMapping known) 804 mapping-wide n cells i (f .left) (f .within) h in
+        let s = rows-end mappingRow (ValidMapping known) mappingWidth mapping-wide n cells i (f .left) (f .within) h in
         ((λ e. s .1 (said .0 e)), (λ a. said .1 (s .0 a)))
 
 pub ruleset recognise-laws = (needs, too-short, find-start, find-end)

@@ -19,7 +19,7 @@ use Rattle.reading.proofs.Accepted.{many-each}
 use Rattle.reading.proofs.Pads.{length-pad}
 use Rattle.residue.specs.Content.{Residue}
 use Rattle.residue.specs.Reading.{Books, cascade, passes, planBook, planRow, headFrom, head, residueFrom, residue, residueFits, withPlan}
-use Rattle.residue.specs.Layout.{headRow, planTable}
+use Rattle.residue.specs.Layout.{headRow, planTable, planWidth}
 use Rattle.residue.specs.Carried.{Rows8}
 use Rattle.residue.specs.inner.Valid.{ValidResidue, AcceptedValid}
 use Rattle.residue.specs.inner.Decode.{chunks, decodeResidue, decodeResidues}
@@ -31,9 +31,9 @@ pub length-headRow : (r : Residue) → length (headRow r) ≡ 6
 unfolding headRow
 length-headRow r = refl
 
-pub length-planTable : (r : Residue) → length (planTable r) ≡ 512
+pub length-planTable : (r : Residue) → length (planTable r) ≡ planWidth
 unfolding planTable
-length-planTable r = length-pad 512 (rows (λ row. row) (r .plan))
+length-planTable r = length-pad planWidth (rows (λ row. row) (r .plan))
 
 -- what was read one after the other: a property that each item has, all have
 module _ {A : Type 0} (P : A → Type 0) (All : List A → Type 0) (none : All []) (more : (a : A) (l : List A) → P a → All l → All (a ∷ l)) where
@@ -145,13 +145,13 @@ rows8-long [] r = refl
 rows8-long (row ∷ plan) r = let a = r .0 in let b = rows8-long plan (r .1) in simp length-append (omega arith)
 
 -- a residue's plan in its row: its places, then zeros
-pub planTable-is : (books : Books) (r : Residue) → ValidResidue books r → planTable r ≡ rows (λ row. row) (r .plan) ++ pad (512 - 8 * r .classifications) []
+pub planTable-is : (books : Books) (r : Residue) → ValidResidue books r → planTable r ≡ rows (λ row. row) (r .plan) ++ pad (planWidth - 8 * r .classifications) []
 unfolding planTable
 planTable-is books r v =
     let a = rows8-long (r .plan) (v .carried .passes) in
     let b = v .carried .plan in
     let c = v .carried .classifications .high in
-    ap (pad 512) (sym (append-nil (rows (λ row. row) (r .plan)))) ∙ pad-cat 512 (rows (λ row. row) (r .plan)) [] (512 - 8 * r .classifications) (omega arith)
+    ap (pad planWidth) (sym (append-nil (rows (λ row. row) (r .plan)))) ∙ pad-cat planWidth (rows (λ row. row) (r .plan)) [] (planWidth - 8 * r .classifications) (omega arith)
 
 -- one row for one content: a residue is decoded from its rows, whatever follows them
 pub decode-rows : (books : Books) (r : Residue) → ValidResidue books r → (h p : List ℕ) → decodeResidue (headRow r ++ h) (planTable r ++ p) ≡ r
@@ -159,16 +159,16 @@ unfolding decodeResidue headRow
 decode-rows books r v h p =
     let e : chunks (r .classifications) (planTable r ++ p) ≡ r .plan =
     ap (λ (l : List ℕ). chunks (r .classifications) (l ++ p)) (planTable-is books r v)
-    ∙ ap (chunks (r .classifications)) (append-assoc (rows (λ row. row) (r .plan)) (pad (512 - 8 * r .classifications) []) p)
-    ∙ ap (λ (n : ℕ). chunks n (rows (λ row. row) (r .plan) ++ (pad (512 - 8 * r .classifications) [] ++ p))) (sym (v .carried .plan))
-    ∙ chunks-rows (r .plan) (pad (512 - 8 * r .classifications) [] ++ p) (v .carried .passes) in
+    ∙ ap (chunks (r .classifications)) (append-assoc (rows (λ row. row) (r .plan)) (pad (planWidth - 8 * r .classifications) []) p)
+    ∙ ap (λ (n : ℕ). chunks n (rows (λ row. row) (r .plan) ++ (pad (planWidth - 8 * r .classifications) [] ++ p))) (sym (v .carried .plan))
+    ∙ chunks-rows (r .plan) (pad (planWidth - 8 * r .classifications) [] ++ p) (v .carried .passes) in
     λ j. record { type = r .type; begin = r .begin; end = r .end; size = r .size; classifications = r .classifications; classbook = r .classbook; plan = e j }
 
 pub decode-row : (books : Books) (r : Residue) → ValidResidue books r → decodeResidue (headRow r) (planTable r) ≡ r
 decode-row books r v = (λ j. decodeResidue (sym (append-nil (headRow r)) j) (sym (append-nil (planTable r)) j)) ∙ decode-rows books r v [] []
 
 -- residues are decoded from their tables, whatever the length of these
-pub decode-residues : (books : Books) (rs : List Residue) (n a b : ℕ) → length rs ≡ n → Each (ValidResidue books) rs → 6 * n ≤ a → 512 * n ≤ b
+pub decode-residues : (books : Books) (rs : List Residue) (n a b : ℕ) → length rs ≡ n → Each (ValidResidue books) rs → 6 * n ≤ a → planWidth * n ≤ b
     → decodeResidues n (pad a (rows headRow rs)) (pad b (rows planTable rs)) ≡ rs
 unfolding decodeResidues rows Each
 decode-residues books [] zero a b e v h g = refl
@@ -176,11 +176,11 @@ decode-residues books [] (suc n) a b e v h g = absurd (omega arith)
 decode-residues books (r ∷ rs) zero a b e v h g = absurd (omega arith)
 decode-residues books (r ∷ rs) (suc n) a b e v h g =
     let x : pad a (headRow r ++ rows headRow rs) ≡ headRow r ++ pad (a - 6) (rows headRow rs) = pad-cat a (headRow r) (rows headRow rs) (a - 6) (rw length-headRow (omega arith)) in
-    let y : pad b (planTable r ++ rows planTable rs) ≡ planTable r ++ pad (b - 512) (rows planTable rs) =
-    pad-cat b (planTable r) (rows planTable rs) (b - 512) (rw length-planTable (omega arith)) in
-    let first : decodeResidue (headRow r ++ pad (a - 6) (rows headRow rs)) (planTable r ++ pad (b - 512) (rows planTable rs)) ≡ r =
-    decode-rows books r (v .0) (pad (a - 6) (rows headRow rs)) (pad (b - 512) (rows planTable rs)) in
-    let rest = decode-residues books rs n (a - 6) (b - 512) (omega arith) (v .1) (omega arith) (omega arith) in
+    let y : pad b (planTable r ++ rows planTable rs) ≡ planTable r ++ pad (b - planWidth) (rows planTable rs) =
+    pad-cat b (planTable r) (rows planTable rs) (b - planWidth) (rw length-planTable (omega arith)) in
+    let first : decodeResidue (headRow r ++ pad (a - 6) (rows headRow rs)) (planTable r ++ pad (b - planWidth) (rows planTable rs)) ≡ r =
+    decode-rows books r (v .0) (pad (a - 6) (rows headRow rs)) (pad (b - planWidth) (rows planTable rs)) in
+    let rest = decode-residues books rs n (a - 6) (b - planWidth) (omega arith) (v .1) (omega arith) (omega arith) in
     rw
-    (x, y, drop-at (headRow r) (pad (a - 6) (rows headRow rs)) 6 (length-headRow r), drop-at (planTable r) (pad (b - 512) (rows planTable rs)) 512 (length-planTable r), first)
+    (x, y, drop-at (headRow r) (pad (a - 6) (rows headRow rs)) 6 (length-headRow r), drop-at (planTable r) (pad (b - planWidth) (rows planTable rs)) planWidth (length-planTable r), first)
     (ap (λ (l : List Residue). r ∷ l) rest)

@@ -24,7 +24,7 @@ use Rattle.bits.proofs.Steps.{wrote-ok, wrote-bad, wrote-next, wrote-refused}
 use Rattle.residue.specs.Reading.{Head, passes, planRow, placeFits, residueFits, withPlan, residueFrom}
 use Rattle.residue.specs.inner.FromTable.{booksOf}
 use Rattle.residue.specs.inner.Heads.{headNumbers}
-use Rattle.residue.specs.Layout.{Tables, headRow, planTable, putResidue}
+use Rattle.residue.specs.Layout.{Tables, headRow, planTable, putResidue, planWidth}
 use Rattle.residue.specs.inner.Plans.{Grid, headFits, tablesAt}
 use Rattle.residue_reading.specs.inner.Slots.{padWith}
 use Rattle.residue.specs.Carried.{Rows8}
@@ -160,15 +160,15 @@ module _ (s : List ℕ) (count classes : ℕ) (cascades : List ℕ) (k₀ : Curs
               wrote-refused U (rw (read .1, f))
 
           pub residue-written : not rp ≡ false → (residues plans : List ℕ) (index : ℕ) {residues′ plans′ : List ℕ} → residues′ ≡ sets residues (6 * index) (headNumbers hd)
-              → plans′ ≡ sets plans (512 * index) (rows (λ row. row) plan)
+              → plans′ ≡ sets plans (planWidth * index) (rows (λ row. row) plan)
               → Wrote (into1 putResidue (residueFrom (booksOf count t) (position place) hd (take classes cascades) s (position k₀)) (tablesAt residues plans index)) (Next c)
               (tablesAt residues′ plans′ (index + 1))
           unfolding residueFrom into1 mapped putResidue putRow headRow planTable
           residue-written q residues plans index {residues′} {plans′} a b =
               let f : residueFits (booksOf count t) (withPlan hd (read .0)) ≡ true = whole-fits ∙ not-false rp q in
-              let g : rows (λ row. row) plan ≡ pad 512 (rows (λ row. row) (read .0)) =
-              ap (rows (λ row. row)) (sym (read .2)) ∙ rows-padWith 64 512 (read .0) refl (rw (← read-is) (rows8-take plan classes (w .grid .passes))) in
+              let g : rows (λ row. row) plan ≡ pad planWidth (rows (λ row. row) (read .0)) =
+              ap (rows (λ row. row)) (sym (read .2)) ∙ rows-padWith 64 planWidth (read .0) refl (rw (← read-is) (rows8-take plan classes (w .grid .passes))) in
               let m : 6 * index + 6 ≡ 6 * (index + 1) = omega arith in
-              let n : 512 * index + length (pad 512 (rows (λ row. row) (read .0))) ≡ 512 * (index + 1) = rw length-pad (omega arith) in
-              let o : sets plans (512 * index) (pad 512 (rows (λ row. row) (read .0))) ≡ plans′ = ap (sets plans (512 * index)) (sym g) ∙ sym b in
+              let n : planWidth * index + length (pad planWidth (rows (λ row. row) (read .0))) ≡ planWidth * (index + 1) = rw length-pad (omega arith) in
+              let o : sets plans (planWidth * index) (pad planWidth (rows (λ row. row) (read .0))) ≡ plans′ = ap (sets plans (planWidth * index)) (sym g) ∙ sym b in
               wrote-next (rw (read .1, f) (λ j. ok (record { heads = table (sym a j) (m j); plans = table (o j) (n j) }, position c)))

@@ -26,7 +26,7 @@ pub head-made : (t : List ℕ) (i : ℕ) {a b c d e f : ℕ} → a ≡ getD t (6
     → headOf (record { kind = a; begin = b; end = c; size = d; classifications = e; classbook = f }) ≡ headAt t i
 head-made t i p q r s u v = λ j. record { type = p j; begin = q j; end = r j; size = s j; classifications = u j; classbook = v j }
 
-pub place-made : (t : List ℕ) (a b c : ℕ) {a′ b′ c′ v : ℕ} → a′ ≡ a → b′ ≡ b → c′ ≡ c → v ≡ getD t (512 * a′ + (8 * b′ + c′)) 0 → v ≡ getD t (512 * a + (8 * b + c)) 0
+pub place-made : (t : List ℕ) (a b c : ℕ) {a′ b′ c′ v : ℕ} → a′ ≡ a → b′ ≡ b → c′ ≡ c → v ≡ getD t (planWidth * a′ + (8 * b′ + c′)) 0 → v ≡ getD t (planWidth * a + (8 * b + c)) 0
 place-made t a b c p q r e = rw (← p, ← q, ← r) e
 
 pub ruleset row-laws = (needs, head-made, place-made)
@@ -54,7 +54,7 @@ pub record ResidueStored (residues plans : List ℕ) (i : ℕ) (r : Residue) : T
 pub residues-stored : (rs : List Residue) (residues plans : List ℕ) → residues ≡ pad (length residues) (rows headRow rs) → plans ≡ pad (length plans) (rows planTable rs)
     → headWidth * length rs ≤ length residues → planWidth * length rs ≤ length plans → (i : ℕ) → i < length rs → (d : Residue) → ResidueStored residues plans i (getD rs i d)
 residues-stored rs residues plans e f h g i k d =
-    record { head = rows-stored headRow 6 length-headRow d rs residues e h i k; plan = rows-stored planTable 512 length-planTable d rs plans f g i k }
+    record { head = rows-stored headRow 6 length-headRow d rs residues e h i k; plan = rows-stored planTable planWidth length-planTable d rs plans f g i k }
 
 -- what the places of a residue that lies as number i hold
 module _ {residues plans : List ℕ} {i : ℕ} {r : Residue} (l : ResidueStored residues plans i r) where
@@ -81,5 +81,5 @@ module _ {residues plans : List ℕ} {i : ℕ} {r : Residue} (l : ResidueStored 
   plan-place-is v class pass c p =
       let high = v .carried .classifications .high in
       let many = v .carried .plan in
-      stored-number 512 (rows (λ row. row) (r .plan)) (l .plan) (8 * class + pass) (omega arith)
+      stored-number planWidth (rows (λ row. row) (r .plan)) (l .plan) (8 * class + pass) (omega arith)
       ∙ rows8-at (r .plan) (v .carried .passes) class pass (8 * class + pass) (omega arith) p refl

@@ -17,7 +17,7 @@ use Rattle.reading.proofs.Pads.{pad-nil}
 use Rattle.reading.proofs.Parts.{part-slice}
 use Rattle.rules.specs.Rules as Rule
 use Rattle.residue.specs.Reading.{Books, Head, placeFits, residueFits, withPlan}
-use Rattle.residue.specs.Layout.{planTable}
+use Rattle.residue.specs.Layout.{planTable, planWidth}
 use Rattle.residue.specs.Carried.{Rows8}
 use Rattle.residue.specs.inner.Valid.{ValidResidue}
 use Rattle.residue.specs.inner.FromTable.{booksOf}
@@ -143,9 +143,9 @@ record Parts (books : Books) (h : Head) (p : List ℕ) : Type 0 where
   pub head : ValidHead books h
   pub set-up : all (λ v. Rule.meets11 (Rule.bookOrNone (books .count) v)) (take (8 * h .classifications) p) ≡ true
   pub fits : all (placeFits books (h .size)) (take (8 * h .classifications) p) ≡ true
-  pub empty : Zeros (drop (8 * h .classifications) (take 512 p))
+  pub empty : Zeros (drop (8 * h .classifications) (take planWidth p))
 
-module _ (books : Books) (h p : List ℕ) (room : 512 ≤ length p) where
+module _ (books : Books) (h p : List ℕ) (room : planWidth ≤ length p) where
   abbrev hd : Head
   hd = headAt h 0
 
@@ -153,17 +153,17 @@ module _ (books : Books) (h p : List ℕ) (room : 512 ≤ length p) where
   used = 8 * hd .classifications
 
   -- a plan's row is what is used and what is behind
-  row-split : hd .classifications ≤ 64 → take 512 p ≡ take used p ++ drop used (take 512 p)
+  row-split : hd .classifications ≤ 64 → take planWidth p ≡ take used p ++ drop used (take planWidth p)
   row-split few =
-      let e : 512 ≡ used + (512 - used) = omega arith in
-      ap (λ (n : ℕ). take n p) e ∙ take-add used (512 - used) p ∙ ap (λ (l : List ℕ). take used p ++ l) (part-slice used 512 p)
+      let e : planWidth ≡ used + (planWidth - used) = omega arith in
+      ap (λ (n : ℕ). take n p) e ∙ take-add used (planWidth - used) p ∙ ap (λ (l : List ℕ). take used p ++ l) (part-slice used planWidth p)
 
-  written-out : ValidResidue books (decodeResidue h p) → planTable (decodeResidue h p) ≡ take used p ++ replicate (512 - used) 0
+  written-out : ValidResidue books (decodeResidue h p) → planTable (decodeResidue h p) ≡ take used p ++ replicate (planWidth - used) 0
   unfolding decodeResidue
-  written-out v = planTable-is books (decodeResidue h p) v ∙ (λ j. chunks-rows (hd .classifications) p j ++ pad-nil (512 - used) j)
+  written-out v = planTable-is books (decodeResidue h p) v ∙ (λ j. chunks-rows (hd .classifications) p j ++ pad-nil (planWidth - used) j)
 
-  behind-long : hd .classifications ≤ 64 → length (drop used (take 512 p)) ≡ 512 - used
-  behind-long few = simp length-drop (let e = length-take-le 512 p room in omega arith)
+  after-long : hd .classifications ≤ 64 → length (drop used (take planWidth p)) ≡ planWidth - used
+  after-long few = simp length-drop (let e = length-take-le planWidth p room in omega arith)
 
   apart : ValidRows books h p → Parts books hd p
   unfolding decodeResidue
@@ -172,15 +172,15 @@ module _ (books : Books) (h p : List ℕ) (room : 512 ≤ length p) where
       let few = v .carried .classifications .high in
       let long = length-take-le used p (omega arith) in
       let r = chunks-rows (hd .classifications) p in
-      let e : drop used (take 512 p) ≡ replicate (512 - used) 0 =
-      sym (drop-at (take used p) (drop used (take 512 p)) used long)
+      let e : drop used (take planWidth p) ≡ replicate (planWidth - used) 0 =
+      sym (drop-at (take used p) (drop used (take planWidth p)) used long)
       ∙ ap (drop used) (sym (row-split few) ∙ w .written ∙ written-out v)
-      ∙ drop-at (take used p) (replicate (512 - used) 0) used long in
+      ∙ drop-at (take used p) (replicate (planWidth - used) 0) used long in
       record {
         head = record { plan = chunks (hd .classifications) p; valid = v };
         set-up = rw (← r) (v .rule11 .plan);
         fits = rw (← r) (plan-fits books hd (chunks (hd .classifications) p) v);
-        empty = e ∙ ap (λ (n : ℕ). replicate n 0) (sym (behind-long few));
+        empty = e ∙ ap (λ (n : ℕ). replicate n 0) (sym (after-long few));
       }
 
   together : Parts books hd p → ValidRows books h p
@@ -203,52 +203,52 @@ module _ (books : Books) (h p : List ℕ) (room : 512 ≤ length p) where
         rule11 = record { classbook = v .rule11 .classbook; plan = rw r (w .set-up) };
         rule13 = both-fit books hd (chunks (hd .classifications) p) (head-fits books hd (w .head .plan) v) (rw r (w .fits));
       } in
-      let e : drop used (take 512 p) ≡ replicate (512 - used) 0 = w .empty ∙ ap (λ (n : ℕ). replicate n 0) (behind-long few) in
+      let e : drop used (take planWidth p) ≡ replicate (planWidth - used) 0 = w .empty ∙ ap (λ (n : ℕ). replicate n 0) (after-long few) in
       record { valid = valid; written = row-split few ∙ ap (λ (l : List ℕ). take used p ++ l) e ∙ sym (written-out valid) }
 
 -- one residue, one law for each way out
 module _ (count : ℕ) (t residues plans : List ℕ) (i : ℕ) (at : (i ≤ 63) × (32768 ≤ length plans)) (h : D.Head) (e : headOf h ≡ headAt residues i) where
-  parts : ValidRows (booksOf count t) (drop (6 * i) residues) (drop (512 * i) plans) ↔ Parts (booksOf count t) (headOf h) (drop (512 * i) plans)
+  parts : ValidRows (booksOf count t) (drop (6 * i) residues) (drop (planWidth * i) plans) ↔ Parts (booksOf count t) (headOf h) (drop (planWidth * i) plans)
   parts =
       let same : headAt (drop (6 * i) residues) 0 ≡ headOf h = head-dropped residues i ∙ sym e in
       let a = at .0 in
       let b = at .1 in
-      let room : 512 ≤ length (drop (512 * i) plans) = simp length-drop (omega arith) in (
-        (λ w. subst (λ (x : Head). Parts (booksOf count t) x (drop (512 * i) plans)) same (apart (booksOf count t) (drop (6 * i) residues) (drop (512 * i) plans) room w)),
-        (λ w. together (booksOf count t) (drop (6 * i) residues) (drop (512 * i) plans) room (subst (λ (x : Head). Parts (booksOf count t) x (drop (512 * i) plans)) (sym same) w)),
+      let room : planWidth ≤ length (drop (planWidth * i) plans) = simp length-drop (omega arith) in (
+        (λ w. subst (λ (x : Head). Parts (booksOf count t) x (drop (planWidth * i) plans)) same (apart (booksOf count t) (drop (6 * i) residues) (drop (planWidth * i) plans) room w)),
+        (λ w. together (booksOf count t) (drop (6 * i) residues) (drop (planWidth * i) plans) room (subst (λ (x : Head). Parts (booksOf count t) x (drop (planWidth * i) plans)) (sym same) w)),
       )
 
   module _ {rh : Bool} (head : (rh ≡ true) ↔ ValidHead (booksOf count t) (headOf h)) where
-    pub head-fails : not rh ≡ true → (false ≡ true) ↔ ValidRows (booksOf count t) (drop (6 * i) residues) (drop (512 * i) plans)
+    pub head-fails : not rh ≡ true → (false ≡ true) ↔ ValidRows (booksOf count t) (drop (6 * i) residues) (drop (planWidth * i) plans)
     head-fails q = iff-false (λ w. refuted head q (parts .0 w .head))
 
     -- w and c are the residue's number and its classifications as the code has widened them
     module _ {w c : ℕ} (ew : w ≡ i) (ec : c ≡ h .classifications) where
       -- the places in use
-      places : take (512 * w + 8 * c - 512 * w) (drop (512 * w) plans) ≡ take (8 * h .classifications) (drop (512 * i) plans)
-      places = let a : 512 * w + 8 * c - 512 * w ≡ 8 * c = omega arith in rw (a, ew, ec)
+      places : take (planWidth * w + 8 * c - planWidth * w) (drop (planWidth * w) plans) ≡ take (8 * h .classifications) (drop (planWidth * i) plans)
+      places = let a : planWidth * w + 8 * c - planWidth * w ≡ 8 * c = omega arith in rw (a, ew, ec)
 
-      tested : (f : ℕ → Bool) {r : Bool} → r ≡ all f (take (512 * w + 8 * c - 512 * w) (drop (512 * w) plans))
-          → (r ≡ true) ↔ (all f (take (8 * h .classifications) (drop (512 * i) plans)) ≡ true)
+      tested : (f : ℕ → Bool) {r : Bool} → r ≡ all f (take (planWidth * w + 8 * c - planWidth * w) (drop (planWidth * w) plans))
+          → (r ≡ true) ↔ (all f (take (8 * h .classifications) (drop (planWidth * i) plans)) ≡ true)
       tested f p = let q = p ∙ ap (all f) places in ((λ y. sym q ∙ y), (λ y. q ∙ y))
 
-      module _ {r₁ : Bool} (p₁ : r₁ ≡ all (λ v. Rule.meets11 (Rule.bookOrNone count v)) (take (512 * w + 8 * c - 512 * w) (drop (512 * w) plans))) where
-        pub set-up-fails : not r₁ ≡ true → (false ≡ true) ↔ ValidRows (booksOf count t) (drop (6 * i) residues) (drop (512 * i) plans)
+      module _ {r₁ : Bool} (p₁ : r₁ ≡ all (λ v. Rule.meets11 (Rule.bookOrNone count v)) (take (planWidth * w + 8 * c - planWidth * w) (drop (planWidth * w) plans))) where
+        pub set-up-fails : not r₁ ≡ true → (false ≡ true) ↔ ValidRows (booksOf count t) (drop (6 * i) residues) (drop (planWidth * i) plans)
         set-up-fails q = iff-false (λ w. refuted (tested (λ v. Rule.meets11 (Rule.bookOrNone count v)) p₁) q (parts .0 w .set-up))
 
-        module _ {r₂ : Bool} (p₂ : r₂ ≡ all (placeFits (booksOf 0 t) (h .size)) (take (512 * w + 8 * c - 512 * w) (drop (512 * w) plans))) where
-          fit : (r₂ ≡ true) ↔ (all (placeFits (booksOf count t) (h .size)) (take (8 * h .classifications) (drop (512 * i) plans)) ≡ true)
+        module _ {r₂ : Bool} (p₂ : r₂ ≡ all (placeFits (booksOf 0 t) (h .size)) (take (planWidth * w + 8 * c - planWidth * w) (drop (planWidth * w) plans))) where
+          fit : (r₂ ≡ true) ↔ (all (placeFits (booksOf count t) (h .size)) (take (8 * h .classifications) (drop (planWidth * i) plans)) ≡ true)
           unfolding placeFits
           fit = tested (placeFits (booksOf 0 t) (h .size)) p₂
 
-          pub fits-fails : not r₂ ≡ true → (false ≡ true) ↔ ValidRows (booksOf count t) (drop (6 * i) residues) (drop (512 * i) plans)
+          pub fits-fails : not r₂ ≡ true → (false ≡ true) ↔ ValidRows (booksOf count t) (drop (6 * i) residues) (drop (planWidth * i) plans)
           fits-fails q = iff-false (λ w. refuted fit q (parts .0 w .fits))
 
           pub residue-judged : not rh ≡ false → not r₁ ≡ false → not r₂ ≡ false → {r₃ : Bool}
-              → (r₃ ≡ true) ↔ Zeros (drop (8 * c) (take (512 * w + 512 - 512 * w) (drop (512 * w) plans)))
-              → (r₃ ≡ true) ↔ ValidRows (booksOf count t) (drop (6 * i) residues) (drop (512 * i) plans)
+              → (r₃ ≡ true) ↔ Zeros (drop (8 * c) (take (planWidth * w + planWidth - planWidth * w) (drop (planWidth * w) plans)))
+              → (r₃ ≡ true) ↔ ValidRows (booksOf count t) (drop (6 * i) residues) (drop (planWidth * i) plans)
           residue-judged qh q₁ q₂ z =
-              let a : 512 * w + 512 - 512 * w ≡ 512 = omega arith in
+              let a : planWidth * w + planWidth - planWidth * w ≡ planWidth = omega arith in
               let s = rw (a, ew, ec) at z in (
                 (λ y. parts .1 (record { head = shown head qh; set-up = shown (tested (λ v. Rule.meets11 (Rule.bookOrNone count v)) p₁) q₁; fits = shown fit q₂; empty = s .0 y })),
                 (λ v. s .1 (parts .0 v .empty)),

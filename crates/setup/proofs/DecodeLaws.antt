@@ -16,13 +16,13 @@ use Rattle.book.specs.HeadReading.{Before}
 use Rattle.book.specs.Rows.{decodeBooks}
 use Rattle.book.proofs.BooksStored.{within-entries, within-values, decode-books}
 use Rattle.floor.specs.inner.Decode.{decodeFloor}
-use Rattle.floor.specs.Layout.{floorRow}
+use Rattle.floor.specs.Layout.{floorRow, floorWidth}
 use Rattle.floor.specs.inner.Valid.{ValidFloor}
 use Rattle.floor.proofs.Decoded.{floor-long, floor-decoded}
 use Rattle.residue.specs.inner.Decode.{decodeResidues}
 use Rattle.residue.proofs.Laws.{decode-residues}
 use Rattle.mapping.specs.inner.Decode.{decodeMapping}
-use Rattle.mapping.specs.Layout.{mappingRow}
+use Rattle.mapping.specs.Layout.{mappingRow, mappingWidth}
 use Rattle.mapping.specs.inner.Valid.{ValidMapping}
 use Rattle.mapping.proofs.Laws.{decode-mapping}
 use Rattle.mapping.proofs.RowLaws.{mapping-wide}
@@ -76,13 +76,13 @@ module _ {limits : Limits} {channels : ℕ} {t : Tables} (x : Sound limits chann
       ((λ j. decodeBooks (w .counts .first j) (w .books j) (w .lengths j) (w .multiplicands j))
       ∙ decode-books (length (t .books)) (length (t .lengths)) (length (t .multiplicands)) (c .books) (omega arith) (omega arith) (omega arith))
 
-  floors-decoded : c .floors ≡ decodeRows 277 decodeFloor (getD (t .counts) 1 0) (t .floors)
+  floors-decoded : c .floors ≡ decodeRows floorWidth decodeFloor (getD (t .counts) 1 0) (t .floors)
   floors-decoded =
       let p = sound-facts x in
       let n = p .written .counts .second in
       let few = p .valid .floor-count .high in
       let r = p .room .floors in
-      table-decoded floorRow (ValidFloor (length (c .books))) 277 floor-long decodeFloor (floor-decoded (length (c .books)))
+      table-decoded floorRow (ValidFloor (length (c .books))) floorWidth floor-long decodeFloor (floor-decoded (length (c .books)))
       (c .floors) (getD (t .counts) 1 0) (t .floors) (p .written .floors) (sym n) (omega arith) (p .valid .floors)
 
   residues-decoded : c .residues ≡ decodeResidues (getD (t .counts) 2 0) (t .residues) (t .plans)
@@ -99,7 +99,7 @@ module _ {limits : Limits} {channels : ℕ} {t : Tables} (x : Sound limits chann
       (p .valid .residues) (omega arith) (omega arith))
 
   -- a mapping's row has a place for each of 256 channels
-  mappings-decoded : c .mappings ≡ decodeRows 804 decodeMapping (getD (t .counts) 3 0) (t .mappings)
+  mappings-decoded : c .mappings ≡ decodeRows mappingWidth decodeMapping (getD (t .counts) 3 0) (t .mappings)
   unfolding known
   mappings-decoded =
       let p = sound-facts x in
@@ -107,7 +107,7 @@ module _ {limits : Limits} {channels : ℕ} {t : Tables} (x : Sound limits chann
       let few = p .valid .mapping-count .high in
       let r = p .room .mappings in
       let channels-few = x .carried .few-channels in
-      table-decoded mappingRow (ValidMapping (known channels (c .floors) (c .residues))) 804 mapping-wide decodeMapping
+      table-decoded mappingRow (ValidMapping (known channels (c .floors) (c .residues))) mappingWidth mapping-wide decodeMapping
       (λ a. decode-mapping (known channels (c .floors) (c .residues)) a (omega arith))
       (c .mappings) (getD (t .counts) 3 0) (t .mappings) (p .written .mappings) (sym n) (omega arith) (p .valid .mappings)
 

@@ -12,7 +12,7 @@ use Rattle.reading.proofs.Least.{lt-or-le}
 use Rattle.reading.proofs.Stored.{Stored}
 use Rattle.limits.specs.declared.Limits.{Limits}
 use Rattle.floor.specs.Content.{xList, Floor, noFloor}
-use Rattle.floor.specs.Layout.{floorRow}
+use Rattle.floor.specs.Layout.{floorRow, floorWidth}
 use Rattle.floor.specs.inner.Valid.{ValidFloor}
 use Rattle.floor.proofs.Decoded.{floor-long, floor-stored, floor-decoded-at}
 use Rattle.floor.proofs.Laws.{floors-row}
@@ -37,17 +37,18 @@ use Rattle.setup.proofs.DecodeLaws.{content-decoded}
 use Rattle.setup.proofs.WrittenLaws.{SoundFacts, sound-facts}
 use Rattle.setup_rows.specs.inner.Rows.{FloorSound, MappingSound, ModeSound}
 use Rattle.setup_rows.proofs.BookLaws.{book-readable}
+use Rattle.mapping.specs.Layout.{mappingWidth}
 
 -- mapping n of those that a table decodes to, whatever it holds; d stands for a mapping past the last
-mapping-at : (m n : ℕ) (t : List ℕ) (d : Mapping) → n < m → getD (decodeRows 804 decodeMapping m t) n d ≡ mappingIn t n
+mapping-at : (m n : ℕ) (t : List ℕ) (d : Mapping) → n < m → getD (decodeRows mappingWidth decodeMapping m t) n d ≡ mappingIn t n
 unfolding decodeRows mappingIn
 mapping-at zero n t d h = absurd (omega arith)
 mapping-at (suc m) zero t d h = refl
 mapping-at (suc m) (suc n) t d h =
-    let e : 804 + 804 * n ≡ 804 * suc n = omega arith in
-    mapping-at m n (drop 804 t) d (omega arith)
-    ∙ ap (λ (l : List ℕ). decodeMapping (take 804 l)) (drop-drop (804 * n) 804 t)
-    ∙ ap (λ (k : ℕ). decodeMapping (take 804 (drop k t))) e
+    let e : mappingWidth + mappingWidth * n ≡ mappingWidth * suc n = omega arith in
+    mapping-at m n (drop mappingWidth t) d (omega arith)
+    ∙ ap (λ (l : List ℕ). decodeMapping (take mappingWidth l)) (drop-drop (mappingWidth * n) mappingWidth t)
+    ∙ ap (λ (k : ℕ). decodeMapping (take mappingWidth (drop k t))) e
 
 module _ {limits : Limits} {channels : ℕ} {t : Tables} (x : Sound limits channels t) where
   facts : SoundFacts limits channels t (x .content)
@@ -61,7 +62,7 @@ module _ {limits : Limits} {channels : ℕ} {t : Tables} (x : Sound limits chann
     floor-valid : ValidFloor (length (x .content .books)) own-floor
     floor-valid = each-at (ValidFloor (length (x .content .books))) noFloor (x .content .floors) (facts .valid .floors) n h
 
-    floor-row : Stored (t .floors) (277 * n) (floorRow own-floor)
+    floor-row : Stored (t .floors) (floorWidth * n) (floorRow own-floor)
     floor-row =
         let few = facts .valid .floor-count .high in
         let room = facts .room .floors in
@@ -69,13 +70,13 @@ module _ {limits : Limits} {channels : ℕ} {t : Tables} (x : Sound limits chann
 
     floor-is : floorIn (t .floors) n ≡ own-floor
     unfolding floorIn
-    floor-is = floor-decoded-at (277 * n) (length (x .content .books)) own-floor floor-valid floor-row
+    floor-is = floor-decoded-at (floorWidth * n) (length (x .content .books)) own-floor floor-valid floor-row
 
     -- its row holds the whole X list
-    list-count : getD (t .floors) (277 * n + 4) 0 ≡ 2 + length (own-floor .xs)
+    list-count : getD (t .floors) (floorWidth * n + 4) 0 ≡ 2 + length (own-floor .xs)
     list-count = floor-stored own-floor floor-row .values
 
-    list-is : slice (277 * n + 212) (277 * n + 212 + getD (t .floors) (277 * n + 4) 0) (t .floors) ≡ xList (own-floor .rangebits) (own-floor .xs)
+    list-is : slice (floorWidth * n + 212) (floorWidth * n + 212 + getD (t .floors) (floorWidth * n + 4) 0) (t .floors) ≡ xList (own-floor .rangebits) (own-floor .xs)
     list-is =
         let few = leb-true (length (own-floor .xs)) 63 (floor-valid .rules .count) in
         rw list-count (x-list-is (floor-stored own-floor floor-row) (omega arith))
@@ -106,7 +107,7 @@ module _ {limits : Limits} {channels : ℕ} {t : Tables} (x : Sound limits chann
     mapping-valid : ValidMapping (known channels (x .content .floors) (x .content .residues)) own-mapping
     mapping-valid = each-at (ValidMapping (known channels (x .content .floors) (x .content .residues))) noMapping (x .content .mappings) (facts .valid .mappings) n h
 
-    mapping-row : Row.MappingStored (t .mappings) (804 * n) own-mapping
+    mapping-row : Row.MappingStored (t .mappings) (mappingWidth * n) own-mapping
     mapping-row =
         let few = facts .valid .mapping-count .high in
         let room = facts .room .mappings in

@@ -23,7 +23,7 @@ use Rattle.residue.specs.Reading.{Books}
 use Rattle.residue.specs.inner.Valid.{ValidResidue}
 use Rattle.residue_tables.specs.inner.Recognised.{ResiduesRecognised}
 use Rattle.mapping.specs.declared.Known.{Known}
-use Rattle.mapping.specs.Layout.{mappingRow}
+use Rattle.mapping.specs.Layout.{mappingRow, mappingWidth}
 use Rattle.mapping.specs.inner.Valid.{ValidMapping}
 use Rattle.mapping.proofs.RowLaws.{mapping-wide}
 use Rattle.mapping_tables.specs.inner.Recognised.{MappingsRecognised}
@@ -191,7 +191,7 @@ module _ (limits : Limits) (channels : ℕ) (t : Tables) where
 
     mappings-recognised : MappingsRecognised (knownBy channels (t .counts)) (getD (t .counts) 3 0) (t .mappings)
     mappings-recognised =
-        let long = rows-length mappingRow (ValidMapping (knownBy channels (t .counts))) 804 mapping-wide (s .content .mappings) in
+        let long = rows-length mappingRow (ValidMapping (knownBy channels (t .counts))) mappingWidth mapping-wide (s .content .mappings) in
         let few = facts .valid .mapping-count .high in
         let room = facts .room .mappings in
         record {

@@ -7,10 +7,11 @@ use Rattle.book_codeword.specs.inner.Stored.{BookStored}
 use Rattle.floor.specs.Content.{Class}
 use Rattle.floor.specs.inner.Decode.{classAt}
 use Rattle.floor.specs.inner.Valid.{ValidClass}
+use Rattle.floor.specs.Layout.{floorWidth, classesPlace, classWidth}
 
 -- class number c of floor number n
 unfoldable pub classIn : List ℕ → ℕ → ℕ → Class
-classIn floors n c = classAt floors (277 * n + 36 + 11 * c)
+classIn floors n c = classAt floors (floorWidth * n + classesPlace + classWidth * c)
 
 -- a book that lies in the tables and has at most 65,536 entries, so that an entry's number fits 16 bits
 pub record Readable (books lengths codewords : List ℕ) (b : ℕ) : Type 0 where

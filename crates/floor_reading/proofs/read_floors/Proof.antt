@@ -2,14 +2,14 @@
 use Prim.Native.Nat.{_≤_, _-_}
 use native.Mathlib.Omega.{arith}
 use borrow.Author.Needs.{needs}
-use Rattle.floor.specs.Layout.{floorRow}
+use Rattle.floor.specs.Layout.{floorRow, floorWidth}
 use Rattle.floor.specs.Reading.{floor}
 use Rattle.numbers.proofs.Loops.{Filling, fill-start, fill-next, fill-refused, fill-done}
 use Rattle.floor_reading.proofs.read_floors.Statement.{statement}
 use Rattle.floor_reading.proofs.read_floors.Tie as tie
 
 abbrev Inv-loop : tie.InvT-loop
-Inv-loop packet count books floors₀ next₀ i₀ floors next i = (count ≤ 64) × (books ≤ 256) × Filling floorRow (floor books) packet count 277 floors₀ 0 next₀ floors next i
+Inv-loop packet count books floors₀ next₀ i₀ floors next i = (count ≤ 64) × (books ≤ 256) × Filling floorRow (floor books) packet count floorWidth floors₀ 0 next₀ floors next i
 
 abbrev μ-loop : tie.MeasureT-loop
 μ-loop packet count books floors₀ next₀ i₀ floors next i = count - i

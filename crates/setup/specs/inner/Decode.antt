@@ -10,6 +10,9 @@ use Rattle.mapping.specs.inner.Decode.{decodeMapping}
 use Rattle.mode.specs.inner.Decode.{decodeMode}
 use Rattle.setup.specs.Content.{Setup}
 use Rattle.setup.specs.Layout.{Tables}
+use Rattle.floor.specs.Layout.{floorWidth}
+use Rattle.mapping.specs.Layout.{mappingWidth}
+use Rattle.mode.specs.Layout.{modeWidth}
 
 -- n items, each from a row of w numbers
 module _ {A : Type 0} where
@@ -21,8 +24,8 @@ unfoldable pub decodeSetup : Tables → Setup
 decodeSetup t =
     record {
       books = decodeBooks (getD (t .counts) 0 0) (t .books) (t .lengths) (t .multiplicands);
-      floors = decodeRows 277 decodeFloor (getD (t .counts) 1 0) (t .floors);
+      floors = decodeRows floorWidth decodeFloor (getD (t .counts) 1 0) (t .floors);
       residues = decodeResidues (getD (t .counts) 2 0) (t .residues) (t .plans);
-      mappings = decodeRows 804 decodeMapping (getD (t .counts) 3 0) (t .mappings);
-      modes = decodeRows 2 decodeMode (getD (t .counts) 4 0) (t .modes);
+      mappings = decodeRows mappingWidth decodeMapping (getD (t .counts) 3 0) (t .mappings);
+      modes = decodeRows modeWidth decodeMode (getD (t .counts) 4 0) (t .modes);
     }

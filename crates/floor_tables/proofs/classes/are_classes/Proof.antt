@@ -5,7 +5,7 @@ use native.Mathlib.Omega.{arith}
 use lib.ListN.{length}
 use lib.Seq.{slice}
 use Rattle.reading.proofs.Encodes.{Left, rows-start}
-use Rattle.floor.specs.Layout.{classRow}
+use Rattle.floor.specs.Layout.{classRow, classWidth, classesRoom, floorsNeed}
 use Rattle.floor.specs.inner.Valid.{ValidClass}
 use Rattle.floor.proofs.ClassDecoded.{class-long}
 use Rattle.floor_tables.proofs.Places.{slice-long, slice-within, rows-found, rows-refuted, rows-shown}
@@ -14,8 +14,8 @@ use Rattle.floor_tables.proofs.classes.are_classes.Statement.{statement
 use Rattle.floor_tables.proofs.classes.are_classes.Tie as tie
 
 abbrev Inv-loop : tie.InvT-loop
-Inv-loop floors at count books c₀ c = (at ≤ 20000) × (11 * count ≤ 176) × (books ≤ 256) × (at + 176 ≤ length floors) × (c ≤ count)
-    × Left classRow (ValidClass books) 11 class-long count (slice at (at + 176) floors) c
+Inv-loop floors at count books c₀ c = (at + classesRoom ≤ floorsNeed) × (classWidth * count ≤ classesRoom) × (books ≤ 256) × (at + classesRoom ≤ length floors) × (c ≤ count)
+    × Left classRow (ValidClass books) 11 class-long count (slice at (at + classesRoom) floors) c
 
 abbrev μ-loop : tie.MeasureT-loop
 μ-loop floors at count books c₀ c = count - c

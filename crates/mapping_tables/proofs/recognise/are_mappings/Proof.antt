@@ -4,6 +4,7 @@ use Rattle.mapping_tables.proofs.RecogniseLaws.{Finding, recognise-laws
 use borrow.Author.Needs.{needs}
 use Rattle.mapping_tables.proofs.recognise.are_mappings.Statement.{statement}
 use Rattle.mapping_tables.proofs.recognise.are_mappings.Tie as tie
+use Rattle.mapping.specs.Layout.{mappingWidth}
 
 abbrev Inv-loop : tie.InvT-loop
 Inv-loop mappings count known i₀ i = (count ≤ 64) × (known .channels ≤ 255) × Finding known count mappings i
@@ -42,7 +43,7 @@ is-mapping-requires : tie.Need-is-mapping-requires Inv-loop μ-loop
 is-mapping-requires c κs = search recognise-laws
 
 returns-2 : tie.Need-returns-2 Inv-loop μ-loop
-returns-2 c = find-stop _ _ _ _ (c .before .before .before .before .loop .inv .2) (c .before .before .before .loop-test .taken) (c .before .is-mapping .ensures) (part-width (804 * c .before .before .before .before .loop .i) 804) (c .if2 .taken)
+returns-2 c = find-stop _ _ _ _ (c .before .before .before .before .loop .inv .2) (c .before .before .before .loop-test .taken) (c .before .is-mapping .ensures) (part-width (mappingWidth * c .before .before .before .before .loop .i) mappingWidth) (c .if2 .taken)
 
 add-i : tie.Need-add-i Inv-loop μ-loop
 add-i c = search needs
@@ -51,7 +52,7 @@ loop-less : tie.Need-loop-less Inv-loop μ-loop
 loop-less c = search needs
 
 loop-again : tie.Need-loop-again Inv-loop μ-loop
-loop-again c = (search needs, search needs, find-next _ _ _ _ (c .before .before .before .before .loop .inv .2) (c .before .before .before .loop-test .taken) (c .before .is-mapping .ensures) (part-width (804 * c .before .before .before .before .loop .i) 804) (c .if2 .left))
+loop-again c = (search needs, search needs, find-next _ _ _ _ (c .before .before .before .before .loop .inv .2) (c .before .before .before .loop-test .taken) (c .before .is-mapping .ensures) (part-width (mappingWidth * c .before .before .before .before .loop .i) mappingWidth) (c .if2 .left))
 
 mul-zeros-u8 : tie.Need-mul-zeros-u8 Inv-loop μ-loop
 mul-zeros-u8 c = search needs
