@@ -208,12 +208,12 @@ module _ (i : Identity) (c : Setup) (t : Tally) (s : List ℕ) (h : Head) (k : �
       words-long = ap length (b .words) ∙ length-sets list 0 (map listed (residueWords (body .items)))
 
       -- a refusal behind the body settles nothing of the outputs but their lengths
-      behind-is : {z : Refusal} {r : Judged} → outcome ≡ bad z → r ≡ refusedBy true (z .number) → JudgedIs (i .channels) c outcome r entry exit list list′
-      behind-is e a = refused-is (i .channels) c true entry exit list list′ e a curves-long words-long (λ g. absurd (true-false g))
+      after-body-is : {z : Refusal} {r : Judged} → outcome ≡ bad z → r ≡ refusedBy true (z .number) → JudgedIs (i .channels) c outcome r entry exit list list′
+      after-body-is e a = refused-is (i .channels) c true entry exit list list′ e a curves-long words-long (λ g. absurd (true-false g))
 
       pub full-is : {r : Judged} → x .words ≡ L.Full → r ≡ refusedBy true 17 → JudgedIs (i .channels) c outcome r entry exit list list′
       unfolding endingOf
-      full-is e a = behind-is (no-words fits (full-fits-not (length list) body (ap endingOf (sym e) ∙ b .ending))) a
+      full-is e a = after-body-is (no-words fits (full-fits-not (length list) body (ap endingOf (sym e) ∙ b .ending))) a
 
       -- so many codewords, all of which have room
       read-is : {r : Judged} {n : ℕ} → (leb (length (residueWords (body .items))) (length list) ≡ true) × (n ≡ length (residueWords (body .items)))
@@ -229,7 +229,7 @@ module _ (i : Identity) (c : Setup) (t : Tally) (s : List ℕ) (h : Head) (k : �
 
           go : (o : Outcome (Tally × ℕ)) → outcome ≡ then o (λ y. ok (record { packet = whole; tally = y .0; samples = y .1 })) → r ≡ finishedBy o h (x .used) n
               → JudgedIs (i .channels) c outcome r entry exit list list′
-          go (bad z) e d = behind-is e d
+          go (bad z) e d = after-body-is e d
           go (ok y) e d =
               record {
                 answer = d ∙ (λ j. acceptedBy h (used-are j) ((f .1 ∙ ap length (sym packet-words)) j) (y .1) (y .0)) ∙ ap (judgement (r .written)) (sym e);

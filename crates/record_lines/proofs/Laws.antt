@@ -9,15 +9,15 @@ use Rattle.io.specs.Digits.{digits, Fewest}
 use Rattle.reading.proofs.Tables.{sets-append}
 use Rattle.identification.specs.declared.Identity.{Identity}
 use Rattle.records.specs.declared.Answer.{Answer}
-use Rattle.records.specs.declared.Answer.the-variants.{Identified, SetUp, Heard, Refused, Unknown, TooLong}
+use Rattle.records.specs.declared.Answer.the-variants.{Identified, SetUp, AudioRead, Refused, Unknown, TooLong}
 use Rattle.record_lines.specs.Text.{text, decimal}
 use Rattle.record_lines.specs.Lines.{words, line, tornLine, endLine}
 use Rattle.record_lines.specs.inner.Puts.{Put}
 use Rattle.record_lines.proofs.Numbers.{decimal-is, short-decimal}
 
-module _ {entry now : List ℕ} {at behind most : ℕ} {bytes : List ℕ} (p : Put entry now at behind most bytes) where
+module _ {entry now : List ℕ} {at after most : ℕ} {bytes : List ℕ} (p : Put entry now at after most bytes) where
   -- other bytes behind them
-  pub join : {last : List ℕ} {end more : ℕ} {others : List ℕ} → Put now last behind end more others → Put entry last at end (most + more) (bytes ++ others)
+  pub join : {last : List ℕ} {end more : ℕ} {others : List ℕ} → Put now last after end more others → Put entry last at end (most + more) (bytes ++ others)
   join {others = others} q =
       record {
         written = q .written ∙ (λ j. sets (p .written j) (p .place j) others) ∙ sym (sets-append bytes others entry at);
@@ -27,7 +27,7 @@ module _ {entry now : List ℕ} {at behind most : ℕ} {bytes : List ℕ} (p : P
       }
 
   -- the same bytes under another name, and another bound of how many they are
-  pub known : {others : List ℕ} {more : ℕ} → bytes ≡ others → length others ≤ more → Put entry now at behind more others
+  pub known : {others : List ℕ} {more : ℕ} → bytes ≡ others → length others ≤ more → Put entry now at after more others
   known e l =
       record {
         written = p .written ∙ ap (sets entry at) e;
@@ -36,12 +36,12 @@ module _ {entry now : List ℕ} {at behind most : ℕ} {bytes : List ℕ} (p : P
         within = omega (arith, p .place, ap length e, l);
       }
 
-  pub known-most : {others : List ℕ} {more : ℕ} → bytes ≡ others → most ≤ more → Put entry now at behind more others
+  pub known-most : {others : List ℕ} {more : ℕ} → bytes ≡ others → most ≤ more → Put entry now at after more others
   known-most e l = known e (omega (arith, p .place, p .within, ap length e, l))
 
 -- what the contract of a whole line asks
-pub ends : {entry exit : List ℕ} {at behind : ℕ} {bytes : List ℕ} → Put entry exit at behind 128 bytes
-    → (exit ≡ sets entry at bytes) × ((behind ≡ at + length bytes) × (behind ≤ at + 128))
+pub ends : {entry exit : List ℕ} {at after : ℕ} {bytes : List ℕ} → Put entry exit at after 128 bytes
+    → (exit ≡ sets entry at bytes) × ((after ≡ at + length bytes) × (after ≤ at + 128))
 ends p = (p .written, (p .place, p .within))
 
 -- a number of 32 bits behind a text has ten digits at the most
@@ -62,31 +62,31 @@ pub set-up-words : (books modes : ℕ) → text " setup books " ++ decimal books
 unfolding words
 set-up-words books modes = simp append-assoc
 
-pub heard-words : (block samples codewords : ℕ)
-    → text " audio block " ++ decimal block ++ (text " samples " ++ decimal samples) ++ (text " words " ++ decimal codewords) ≡ words (Heard block samples codewords)
+pub audio-words : (block samples codewords : ℕ)
+    → text " audio block " ++ decimal block ++ (text " samples " ++ decimal samples) ++ (text " words " ++ decimal codewords) ≡ words (AudioRead block samples codewords)
 unfolding words
-heard-words block samples codewords = simp append-assoc
+audio-words block samples codewords = simp append-assoc
 
-module _ {entry exit : List ℕ} {at behind : ℕ} {a : Answer} where
-  pub identified : {i : Identity} → a ≡ Identified i → Put entry exit at behind 74 (words (Identified i)) → Put entry exit at behind 100 (words a)
+module _ {entry exit : List ℕ} {at after : ℕ} {a : Answer} where
+  pub identified : {i : Identity} → a ≡ Identified i → Put entry exit at after 74 (words (Identified i)) → Put entry exit at after 100 (words a)
   identified e p = known-most p (ap words (sym e)) (omega arith)
 
-  pub set-up : {books modes : ℕ} → a ≡ SetUp books modes → Put entry exit at behind 40 (words (SetUp books modes)) → Put entry exit at behind 100 (words a)
+  pub set-up : {books modes : ℕ} → a ≡ SetUp books modes → Put entry exit at after 40 (words (SetUp books modes)) → Put entry exit at after 100 (words a)
   set-up e p = known-most p (ap words (sym e)) (omega arith)
 
-  pub heard : {block samples codewords : ℕ} → a ≡ Heard block samples codewords → Put entry exit at behind 79 (words (Heard block samples codewords))
-      → Put entry exit at behind 100 (words a)
-  heard e p = known-most p (ap words (sym e)) (omega arith)
+  pub audio-read : {block samples codewords : ℕ} → a ≡ AudioRead block samples codewords → Put entry exit at after 79 (words (AudioRead block samples codewords))
+      → Put entry exit at after 100 (words a)
+  audio-read e p = known-most p (ap words (sym e)) (omega arith)
 
-  pub refused : {number : ℕ} → a ≡ Refused number → Put entry exit at behind 19 (text " refused " ++ decimal number) → Put entry exit at behind 100 (words a)
+  pub refused : {number : ℕ} → a ≡ Refused number → Put entry exit at after 19 (text " refused " ++ decimal number) → Put entry exit at after 100 (words a)
   unfolding words
   refused e p = known-most p (ap words (sym e)) (omega arith)
 
-  pub unknown : a ≡ Unknown → Put entry exit at behind 13 (text " kind unknown") → Put entry exit at behind 100 (words a)
+  pub unknown : a ≡ Unknown → Put entry exit at after 13 (text " kind unknown") → Put entry exit at after 100 (words a)
   unfolding words
   unknown e p = known-most p (ap words (sym e)) (omega arith)
 
-  pub too-long : a ≡ TooLong → Put entry exit at behind 9 (text " too long") → Put entry exit at behind 100 (words a)
+  pub too-long : a ≡ TooLong → Put entry exit at after 9 (text " too long") → Put entry exit at after 100 (words a)
   unfolding words
   too-long e p = known-most p (ap words (sym e)) (omega arith)
 

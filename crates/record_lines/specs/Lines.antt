@@ -3,7 +3,7 @@ use Prim.Native.Nat.{ℕ}
 use mathlib.Core.List.{List, _++_}
 use Rattle.identification.specs.declared.Identity.{Identity}
 use Rattle.records.specs.declared.Answer.{Answer}
-use Rattle.records.specs.declared.Answer.the-variants.{Identified, SetUp, Heard, Refused, Unknown, TooLong}
+use Rattle.records.specs.declared.Answer.the-variants.{Identified, SetUp, AudioRead, Refused, Unknown, TooLong}
 use Rattle.record_lines.specs.Text.{text, decimal}
 
 -- what a record came to, behind its number
@@ -12,7 +12,7 @@ words (Identified i) =
     text " identity channels " ++ decimal (i .channels) ++ text " rate " ++ decimal (i .rate)
     ++ text " blocks " ++ decimal (i .blocksize0) ++ text " " ++ decimal (i .blocksize1)
 words (SetUp books modes) = text " setup books " ++ decimal books ++ text " modes " ++ decimal modes
-words (Heard block samples codewords) = text " audio block " ++ decimal block ++ text " samples " ++ decimal samples ++ text " words " ++ decimal codewords
+words (AudioRead block samples codewords) = text " audio block " ++ decimal block ++ text " samples " ++ decimal samples ++ text " words " ++ decimal codewords
 words (Refused number) = text " refused " ++ decimal number
 words Unknown = text " kind unknown"
 words TooLong = text " too long"

@@ -7,7 +7,7 @@ use identification::Identity;
 use records::Answer;
 ghost use Prim.Native.Nat.{_+_, _≤_};
 ghost use lib.ListN.{length};
-ghost use Rattle.records.specs.declared.Answer.the-variants.{Identified, SetUp, Heard};
+ghost use Rattle.records.specs.declared.Answer.the-variants.{Identified, SetUp, AudioRead};
 ghost use Rattle.record_lines.specs.Lines.{words};
 ghost use Rattle.record_lines.specs.inner.Puts.{Put};
 
@@ -18,9 +18,9 @@ pub fn put_words(answer: Answer, out: &mut [u8], at: usize) -> usize
 {
     match answer {
         Answer::Identified(identity) => put_identified(identity, out, at),
-        Answer::SetUp(books, modes) => put_set_up(books, modes, out, at),
-        Answer::Heard(block, samples, codewords) => {
-            put_heard(block, samples, codewords, out, at)
+        Answer::SetUp(book_count, mode_count) => put_set_up(book_count, mode_count, out, at),
+        Answer::AudioRead(block, samples, codewords) => {
+            put_audio(block, samples, codewords, out, at)
         }
         Answer::Refused(number) => put_short_field(b" refused ", number, out, at),
         Answer::Unknown => put_text(b" kind unknown", out, at),
@@ -52,17 +52,24 @@ fn put_identified(identity: Identity, out: &mut [u8], at: usize) -> usize
 }
 
 // A setup packet that was accepted.
-fn put_set_up(books: u32, modes: u32, out: &mut [u8], at: usize) -> usize
+fn put_set_up(book_count: u32, mode_count: u32, out: &mut [u8], at: usize) -> usize
     requires { ⌜ at + 40 ≤ length (now out) ⌝ }
-    ensures { λ r. ⌜ Put (now (out .entry)) (now (out .exit)) at r 40 (words (SetUp books modes)) ⌝ }
+    ensures { λ r. ⌜ Put (now (out .entry)) (now (out .exit)) at r 40 (words (SetUp «book_count» «mode_count»)) ⌝ }
 {
-    put_short_fields(b" setup books ", books, b" modes ", modes, out, at)
+    put_short_fields(
+        b" setup books ",
+        book_count,
+        b" modes ",
+        mode_count,
+        out,
+        at,
+    )
 }
 
 // An audio packet that was accepted.
-fn put_heard(block: u32, samples: u64, codewords: u64, out: &mut [u8], at: usize) -> usize
+fn put_audio(block: u32, samples: u64, codewords: u64, out: &mut [u8], at: usize) -> usize
     requires { ⌜ at + 79 ≤ length (now out) ⌝ }
-    ensures { λ r. ⌜ Put (now (out .entry)) (now (out .exit)) at r 79 (words (Heard block samples codewords)) ⌝ }
+    ensures { λ r. ⌜ Put (now (out .entry)) (now (out .exit)) at r 79 (words (AudioRead block samples codewords)) ⌝ }
 {
     let at_samples = put_short_field(b" audio block ", block, out, at);
     let at_codewords = put_field(b" samples ", samples, out, at_samples);

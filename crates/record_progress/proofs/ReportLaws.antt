@@ -112,8 +112,8 @@ module _ (s rest : List ℕ) (h : 6 ≤ length s) where
       left : length (drop 6 s ++ rest) ≡ length (s ++ rest) - 6
       left = ap length (sym (drop-append-le 6 s rest h)) ∙ length-drop 6 (s ++ rest)
 
-      behind : following (s ++ rest) ≡ drop (bodyLength s) (drop 6 s ++ rest)
-      behind = rw same-length (sym (drop-drop (bodyLength s) 6 (s ++ rest)) ∙ ap (drop (bodyLength s)) (drop-append-le 6 s rest h))
+      rest-after : following (s ++ rest) ≡ drop (bodyLength s) (drop 6 s ++ rest)
+      rest-after = rw same-length (sym (drop-drop (bodyLength s) 6 (s ++ rest)) ∙ ap (drop (bodyLength s)) (drop-append-le 6 s rest h))
 
       cases : (b : Bool) → ltb (length (drop 6 s ++ rest)) (bodyLength s) ≡ b
           → linesAfter x n (s ++ rest)
@@ -126,13 +126,13 @@ module _ (s rest : List ℕ) (h : 6 ≤ length s) where
           let f = ltb-false (length (drop 6 s ++ rest)) (bodyLength s) e in
           rw e (after-whole x n (s ++ rest) (omega (arith, w))
           (rw (le-ltb (length (s ++ rest)) 6 w, le-ltb (length (s ++ rest)) (6 + bodyLength (s ++ rest)) (omega (arith, f, left, same-length))) refl)
-          ∙ rw (behind, same-length, lt-ltb 49152 (bodyLength s) many) refl)
+          ∙ rw (rest-after, same-length, lt-ltb 49152 (bodyLength s) many) refl)
 
 module _ (x : Stream) (n : ℕ) (skip : ℕ) (s rest : List ℕ) where
   -- all that was read is of the body that is passed over
   pub skip-some : length s < skip → linesSkipping skip x n (s ++ rest) ≡ linesSkipping (skip - length s) x n rest
   unfolding linesSkipping
-  skip-some h = rw (tests (ltb (length rest) (skip - length s)) refl, behind) refl
+  skip-some h = rw (tests (ltb (length rest) (skip - length s)) refl, rest-after) refl
     where
       long : length (s ++ rest) ≡ length s + length rest
       long = length-append s rest
@@ -144,8 +144,8 @@ module _ (x : Stream) (n : ℕ) (skip : ℕ) (s rest : List ℕ) where
       there : length s + (skip - length s) ≡ skip
       there = omega arith
 
-      behind : drop skip (s ++ rest) ≡ drop (skip - length s) rest
-      behind = ap (λ (k : ℕ). drop k (s ++ rest)) (sym there) ∙ drop-append-add s rest (skip - length s)
+      rest-after : drop skip (s ++ rest) ≡ drop (skip - length s) rest
+      rest-after = ap (λ (k : ℕ). drop k (s ++ rest)) (sym there) ∙ drop-append-add s rest (skip - length s)
 
   -- the body ends among what was read
   pub skip-all : skip ≤ length s → linesSkipping skip x n (s ++ rest) ≡ line (n + 1) TooLong ++ linesAfter x (n + 1) (drop skip s ++ rest)

@@ -23,7 +23,7 @@ use Rattle.record_step.specs.Step.{Stream, step}
 use Rattle.record_step.specs.inner.Kept.{streamOf, KeptTables, KeptOutputs}
 use Rattle.record_progress.specs.Report.{linesAfter}
 use Rattle.record_progress.specs.inner.Progress.{linesLeft, linesSkipping}
-use Rattle.record_progress.specs.inner.Taken.{Room, Taken, Stands, Moves, MayGoOn, waits, skips}
+use Rattle.record_progress.specs.inner.Taken.{Room, Taken, Within, Moves, MayGoOn, waits, skips}
 use Rattle.record_progress.specs.declared.Progress.{Progress}
 use Rattle.record_progress.proofs.ReportLaws.{whole-read, too-long-read, skip-some, skip-all, left-skipping, left-after}
 use Rattle.record_progress.proofs.FrontLaws.{HeadTooLong, IsWhole, too-long-of, whole-of}
@@ -71,8 +71,8 @@ module _ {p : Progress} {input lines : List ℕ} (room : Room p input lines) whe
           left = λ rest. ap (λ (k : ℕ). linesLeft k (streamOf (p .kept) t) (p .number) (drop (p .from) input ++ rest)) z;
         })
 
-    pub waits-stands : Partial ≡ front (drop (p .from) input) → Stands r input lines
-    waits-stands h =
+    pub waits-within : Partial ≡ front (drop (p .from) input) → Within r input lines
+    waits-within h =
         let a = room .line in
         let b = room .number in
         rw e (record { inside = room .inside; ends = omega (arith, a); number = omega (arith, b); needs = λ w. inl (refl, h) })
@@ -108,8 +108,8 @@ module _ {p : Progress} {input lines : List ℕ} (room : Room p input lines) whe
               ∙ sym (left-skipping x (p .number) n (drop (p .from + 6) input ++ rest) [] (omega (arith, a, b)));
         })
 
-    pub skips-stands : Stands r input lines
-    skips-stands =
+    pub skips-within : Within r input lines
+    skips-within =
         let a = room .line in
         let b = room .number in
         let c = w .head in
@@ -137,8 +137,8 @@ module _ {p : Progress} {input lines : List ℕ} (room : Room p input lines) whe
               ∙ ap (λ (w : List ℕ). linesLeft (p .skip - (length input - p .from)) x (p .number) (w ++ rest)) (sym (drop-length input));
         }
 
-    pub some-stands : length input - p .from < p .skip → Stands (passed p input) input lines
-    some-stands h =
+    pub some-within : length input - p .from < p .skip → Within (passed p input) input lines
+    some-within h =
         let a = room .line in
         let b = room .number in
         record { inside = omega arith; ends = omega (arith, a); number = omega (arith, b); needs = λ f. inr (omega (arith, h), refl) }
@@ -160,8 +160,8 @@ module _ {p : Progress} {input lines : List ℕ} (room : Room p input lines) whe
                 ∙ ap (λ (w : List ℕ). line (p .number + 1) answers.TooLong ++ w) (sym (left-after x (p .number + 1) (drop (p .from + p .skip) input ++ rest)));
           }
 
-      pub all-stands : {n : ℕ} → n ≤ p .«lines_end» + 128 → Stands (passedOver p n) input lines
-      all-stands g =
+      pub all-within : {n : ℕ} → n ≤ p .«lines_end» + 128 → Within (passedOver p n) input lines
+      all-within g =
           let a = room .line in
           let b = room .number in
           let c = room .inside in
@@ -194,7 +194,7 @@ module _ {p : Progress} {input lines : List ℕ} (room : Room p input lines) whe
           left = λ rest. ap (λ (j : ℕ). linesLeft j x (p .number) (s ++ rest)) z ∙ left-after x (p .number) (s ++ rest)
               ∙ whole-read s rest (whole .head) (whole .there) x (p .number) (whole .few)
               ∙ ap (λ (q : Stream × Answer). line (p .number + 1) (q .1) ++ linesAfter (q .0) (p .number + 1) (drop (6 + m) s ++ rest)) (same ∙ sym st)
-              ∙ ap (λ (l : List ℕ). line (p .number + 1) a ++ linesAfter (streamOf kept u) (p .number + 1) (l ++ rest)) behind
+              ∙ ap (λ (l : List ℕ). line (p .number + 1) a ++ linesAfter (streamOf kept u) (p .number + 1) (l ++ rest)) rest-after
               ∙ ap (λ (l : List ℕ). line (p .number + 1) a ++ l) (sym (left-after (streamOf kept u) (p .number + 1) (drop (p .from + 6 + n) input ++ rest)));
         }
       where
@@ -205,14 +205,14 @@ module _ {p : Progress} {input lines : List ℕ} (room : Room p input lines) whe
             (λ j. step (streamOf (p .kept) t) (sym (whole .kind-is) j) (take (sym (whole .length-is) j) (drop-drop 6 (p .from) input j)))
             ∙ ap (λ (m : ℕ). step (streamOf (p .kept) t) k (take m (drop (p .from + 6) input))) (sym b)
 
-        behind : drop (6 + bodyLength (drop (p .from) input)) (drop (p .from) input) ≡ drop (p .from + 6 + n) input
-        behind =
+        rest-after : drop (6 + bodyLength (drop (p .from) input)) (drop (p .from) input) ≡ drop (p .from + 6 + n) input
+        rest-after =
             let e = whole .length-is in
             let f : p .from + (6 + bodyLength (drop (p .from) input)) ≡ p .from + 6 + n = omega (arith, e) in
             drop-drop (6 + bodyLength (drop (p .from) input)) (p .from) input ∙ ap (λ (j : ℕ). drop j input) f
 
-    pub whole-stands : {kept : Kept} {end : ℕ} → end ≤ p .«lines_end» + 128 → Stands (wholeTaken p kept n end) input lines
-    whole-stands g =
+    pub whole-within : {kept : Kept} {end : ℕ} → end ≤ p .«lines_end» + 128 → Within (wholeTaken p kept n end) input lines
+    whole-within g =
         let a = room .line in
         let b = room .number in
         record { inside = whole-there; ends = omega (arith, a, g); number = omega (arith, b); needs = λ f. absurd (true-not-false false f refl) }
@@ -221,8 +221,8 @@ module _ {p : Progress} {input lines : List ℕ} (room : Room p input lines) whe
 pub kept-same : {k k′ : Kept} {t : Tables} {curves words : List ℕ} → k′ ≡ k → KeptTables k t × KeptOutputs k curves words → KeptTables k′ t × KeptOutputs k′ curves words
 kept-same e w = rw e w
 
-pub stands-long : {p : Progress} {input l m : List ℕ} → Stands p input l → length l ≡ length m → Stands p input m
-stands-long w e = let a = w .ends in record { inside = w .inside; ends = omega (arith, a, e); number = w .number; needs = w .needs }
+pub within-long : {p : Progress} {input l m : List ℕ} → Within p input l → length l ≡ length m → Within p input m
+within-long w e = let a = w .ends in record { inside = w .inside; ends = omega (arith, a, e); number = w .number; needs = w .needs }
 
 -- every table and output has the length that it had
 pub record SameLengths (t u : Tables) (curves words curves′ words′ : List ℕ) : Type 0 where
@@ -246,10 +246,10 @@ pub record Going (p : Progress) (t : Tables) (input curves words lines : List �
   pub same : SameLengths t t′ curves words curves′ words′
 
 -- each turn passes a byte at the least
-pub turn-less : (p : Progress) {r : Progress} {input lines : List ℕ} {n : ℕ} → Stands r input lines → Moves p r → MayGoOn r n → length input - r .from < length input - p .from
+pub turn-less : (p : Progress) {r : Progress} {input lines : List ℕ} {n : ℕ} → Within r input lines → Moves p r → MayGoOn r n → length input - r .from < length input - p .from
 turn-less p w m g = let a = m (g .here) in let b = w .inside in omega (arith, a, b)
 
-pub turn-room : {r : Progress} {input lines lines′ : List ℕ} → Stands r input lines → MayGoOn r (length lines′) → Room r input lines′
+pub turn-room : {r : Progress} {input lines lines′ : List ℕ} → Within r input lines → MayGoOn r (length lines′) → Room r input lines′
 turn-room w g = record { inside = w .inside; line = g .line; number = g .number }
 
 -- all that is left from a place on, as the program hands it on

@@ -7,7 +7,7 @@ ghost use Prim.Native.Nat.{_+_, _≤_, _<_};
 ghost use lib.ListN.{length};
 ghost use lib.Seq.{sets};
 ghost use Rattle.setup.specs.Layout.{Tables};
-ghost use Rattle.record_progress.specs.inner.Taken.{Starts, Room, Moves, MayGoOn, Taken, Stands, LastRoom, LastPut, tornEnd, waits, skips};
+ghost use Rattle.record_progress.specs.inner.Taken.{Starts, Room, Moves, MayGoOn, Taken, Within, LastRoom, LastPut, tornEnd, waits, skips};
 
 // How far the program has come in its input.
 pub struct Progress {
@@ -94,7 +94,7 @@ pub fn skip_body(progress: Progress, length: usize) -> Progress
 pub fn pass_over(progress: Progress, input: &[u8], lines: &mut [u8]) -> Progress
     requires { ⌜ Room progress (now input) (now lines) × (0 < progress .skip) ⌝ }
     ensures { λ r. ⌜ ((t : Tables) → Taken progress t (now (input .entry)) (now (lines .entry)) r t (now (lines .exit))) ⌝ }
-    ensures { λ r. ⌜ (r .kept ≡ progress .kept) × Stands r (now (input .entry)) (now (lines .entry)) × Moves progress r ⌝ }
+    ensures { λ r. ⌜ (r .kept ≡ progress .kept) × Within r (now (input .entry)) (now (lines .entry)) × Moves progress r ⌝ }
 {
     let kept = progress.kept;
     let present = input.len() - progress.from;

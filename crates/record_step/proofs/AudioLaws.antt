@@ -26,7 +26,7 @@ use Rattle.audio.specs.Call.{Accepted, accepted, refused, Left, answerOf, answe
 use Rattle.audio_settle.specs.inner.Judged.{curvesBy, wordsBy, ZeroFrom}
 use Rattle.audio_judge.specs.inner.Ready.{Ready}
 use Rattle.audio_judge.proofs.ReadyLaws.{channels-few}
-use Rattle.records.specs.declared.Answer.the-variants.{Heard, Refused}
+use Rattle.records.specs.declared.Answer.the-variants.{AudioRead, Refused}
 use Rattle.record_step.specs.declared.Kept.{Kept}
 use Rattle.record_step.specs.declared.Stepped.{Stepped}
 use Rattle.record_step.specs.Step.{room, audioStep}
@@ -36,8 +36,8 @@ use Rattle.audio.proofs.Numbers.{accepted-numbered}
 use Rattle.record_step.proofs.PacketLaws.{block-high, bytes-few}
 
 -- THE OUTPUTS: behind a list there is nothing
-zero-behind : (n place : ℕ) (l : List ℕ) → length l ≤ place → ZeroFrom place (pad n l)
-zero-behind n place l few =
+zero-after : (n place : ℕ) (l : List ℕ) → length l ≤ place → ZeroFrom place (pad n l)
+zero-after n place l few =
     record {
       zero = λ j h.
           ⊎-elim (λ (a : j < n). pad-get n l j a ∙ List·getD-eq-default l 0 (omega arith))
@@ -45,7 +45,7 @@ zero-behind n place l few =
     }
 
 zero-all : (n : ℕ) → ZeroFrom 0 (replicate n 0)
-zero-all n = subst (λ (l : List ℕ). ZeroFrom 0 l) (pad-nil n) (zero-behind n 0 _ (omega arith))
+zero-all n = subst (λ (l : List ℕ). ZeroFrom 0 l) (pad-nil n) (zero-after n 0 _ (omega arith))
 
 -- the audio call's answer
 module _ (k : Kept) (t : Tally) (a : AudioAnswer) {r : Stepped} where
@@ -53,8 +53,8 @@ module _ (k : Kept) (t : Tally) (a : AudioAnswer) {r : Stepped} where
   answer-refused e q = rw (ne-eqb (a .refusal) 0 e) q
 
   pub answer-accepted : {bytes : ℕ} → a .refusal ≡ 0 → bytes ≡ k .identity .channels * (a .blocksize / 2)
-      → r ≡ packetRead k t bytes (a .codewords) (Heard (a .blocksize) (a .samples) (a .codewords)) → r ≡ packetAnswered k t a
-  answer-accepted {bytes} e b q = rw (eq-eqb (a .refusal) 0 e) (q ∙ ap (λ (n : ℕ). packetRead k t n (a .codewords) (Heard (a .blocksize) (a .samples) (a .codewords))) b)
+      → r ≡ packetRead k t bytes (a .codewords) (AudioRead (a .blocksize) (a .samples) (a .codewords)) → r ≡ packetAnswered k t a
+  answer-accepted {bytes} e b q = rw (eq-eqb (a .refusal) 0 e) (q ∙ ap (λ (n : ℕ). packetRead k t n (a .codewords) (AudioRead (a .blocksize) (a .samples) (a .codewords))) b)
 
 -- WITHOUT TABLES, with an identity or not
 without : (k : Kept) (s : List ℕ) (t : Tables) (i : Option Identity) (c : Option Setup) → c ≡ none → (streamOf k t, Refused 18) ≡ audioStep (streamOf k t) i c s
@@ -102,8 +102,8 @@ module _ (k : Kept) (s : List ℕ) (t : Tables) (curves words : List ℕ) (x : K
             record {
               curves-long = length-pad 32768 _;
               words-long = length-pad 16384 _;
-              curves-zero = zero-behind 32768 _ _ (bytes-few (k .identity .channels) (decodeSetup t) z);
-              words-zero = zero-behind 16384 _ _ (omega arith);
+              curves-zero = zero-after 32768 _ _ (bytes-few (k .identity .channels) (decodeSetup t) z);
+              words-zero = zero-after 16384 _ _ (omega arith);
             };
       }
 

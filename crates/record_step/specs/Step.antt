@@ -15,7 +15,7 @@ use Rattle.residue_requests.specs.Listed.{residueWords}
 use Rattle.audio.specs.declared.Tally.{Tally}
 use Rattle.audio.specs.Call.{Room, Accepted, accepted}
 use Rattle.records.specs.declared.Answer.{Answer}
-use Rattle.records.specs.declared.Answer.the-variants.{Identified, SetUp, Heard, Refused, Unknown}
+use Rattle.records.specs.declared.Answer.the-variants.{Identified, SetUp, AudioRead, Refused, Unknown}
 
 -- what is kept from record to record: the identity, the setup whose tables are kept, and the tally
 pub record Stream : Type 0 where
@@ -50,16 +50,16 @@ setupStep x none s = (x, Refused 18)
 setupStep x (some i) s = setUp x (setup standard (i .channels) s)
 
 -- a good packet brings the tally up to date
-abbrev pub heard : Stream → Outcome Accepted → Stream × Answer
-heard x (ok a) = (
+abbrev pub audioRead : Stream → Outcome Accepted → Stream × Answer
+audioRead x (ok a) = (
   record { identity = x .identity; setup = x .setup; tally = a .tally },
-  Heard (a .packet .head .blocksize) (a .samples) (length (residueWords (a .packet .items))),
+  AudioRead (a .packet .head .blocksize) (a .samples) (length (residueWords (a .packet .items))),
 )
-heard x (bad z) = (x, Refused (z .number))
+audioRead x (bad z) = (x, Refused (z .number))
 
 -- without an identity and tables it is 18
 abbrev pub audioStep : Stream → Option Identity → Option Setup → List ℕ → Stream × Answer
-audioStep x (some i) (some c) s = heard x (accepted i (x .tally) room s c)
+audioStep x (some i) (some c) s = audioRead x (accepted i (x .tally) room s c)
 audioStep x (some i) none s = (x, Refused 18)
 audioStep x none c s = (x, Refused 18)
 

@@ -56,7 +56,7 @@ fn answered(kept: Kept, tally: Tally, answer: AudioAnswer) -> Stepped
         tally,
         bytes,
         codewords as usize,
-        Answer::Heard(blocksize, answer.samples, codewords),
+        Answer::AudioRead(blocksize, answer.samples, codewords),
     )
 }
 

@@ -14,10 +14,10 @@ ghost use Rattle.audio_judge.specs.inner.Ready.{lentTables};
 ghost use Rattle.record_step.specs.inner.Kept.{KeptTables, setupAccepted, setupRefused, setupNumbered, SetupStep};
 
 // A good setup clears the tally.
-fn setup_accepted(kept: Kept, books: u32, modes: u32) -> Stepped
-    ensures { λ r. ⌜ r ≡ setupAccepted kept books modes ⌝ }
+fn setup_accepted(kept: Kept, book_count: u32, mode_count: u32) -> Stepped
+    ensures { λ r. ⌜ r ≡ setupAccepted kept «book_count» «mode_count» ⌝ }
 {
-    let answer = Answer::SetUp(books, modes);
+    let answer = Answer::SetUp(book_count, mode_count);
     let identity = kept.identity;
     let tally = Tally {
         blocksize: 0,
@@ -59,11 +59,11 @@ fn setup_refused(kept: Kept, number: u32) -> Stepped
 }
 
 // What a setup call's number comes to: 0 is acceptance, and the tables then say how many books and modes there are.
-fn numbered(kept: Kept, number: u32, books: u32, modes: u32) -> Stepped
-    ensures { λ r. ⌜ r ≡ setupNumbered kept number books modes ⌝ }
+fn numbered(kept: Kept, number: u32, book_count: u32, mode_count: u32) -> Stepped
+    ensures { λ r. ⌜ r ≡ setupNumbered kept number «book_count» «mode_count» ⌝ }
 {
     if number == 0 {
-        return setup_accepted(kept, books, modes);
+        return setup_accepted(kept, book_count, mode_count);
     }
     setup_refused(kept, number)
 }

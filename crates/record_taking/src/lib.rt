@@ -12,7 +12,7 @@ ghost use Rattle.audio_judge.specs.inner.Ready.{lentTables};
 ghost use Rattle.records.specs.declared.Front.the-variants.{Whole};
 ghost use Rattle.records.specs.inner.Fronts.{front};
 ghost use Rattle.record_step.specs.inner.Kept.{KeptTables, KeptOutputs};
-ghost use Rattle.record_progress.specs.inner.Taken.{Room, Moves, Taken, Stands};
+ghost use Rattle.record_progress.specs.inner.Taken.{Room, Moves, Taken, Within};
 
 // Takes records and puts their lines, until more of the input is needed, the lines are nearly full, or no further record could be counted.
 pub fn take_records(
@@ -40,7 +40,7 @@ pub fn take_records(
         r (leftIn counts books lengths codewords multiplicands floors residues plans mappings modes) (now (lines .exit)) ⌝ }
     ensures { λ r. ⌜ KeptTables (r .kept) (leftIn counts books lengths codewords multiplicands floors residues plans mappings modes)
         × KeptOutputs (r .kept) (now (curves .exit)) (now (words .exit)) ⌝ }
-    ensures { λ r. ⌜ Stands r (now (input .entry)) (now (lines .entry)) ⌝ }
+    ensures { λ r. ⌜ Within r (now (input .entry)) (now (lines .entry)) ⌝ }
 {
     let mut at = progress;
     loop {
@@ -94,7 +94,7 @@ fn take_record(
         r (leftIn counts books lengths codewords multiplicands floors residues plans mappings modes) (now (lines .exit)) ⌝ }
     ensures { λ r. ⌜ KeptTables (r .kept) (leftIn counts books lengths codewords multiplicands floors residues plans mappings modes)
         × KeptOutputs (r .kept) (now (curves .exit)) (now (words .exit)) ⌝ }
-    ensures { λ r. ⌜ Stands r (now (input .entry)) (now (lines .entry)) × Moves progress r ⌝ }
+    ensures { λ r. ⌜ Within r (now (input .entry)) (now (lines .entry)) × Moves progress r ⌝ }
 {
     let from = progress.from;
     if progress.skip > 0 {
@@ -153,7 +153,7 @@ fn take_whole(
         r (leftIn counts books lengths codewords multiplicands floors residues plans mappings modes) (now (lines .exit)) ⌝ }
     ensures { λ r. ⌜ KeptTables (r .kept) (leftIn counts books lengths codewords multiplicands floors residues plans mappings modes)
         × KeptOutputs (r .kept) (now (curves .exit)) (now (words .exit)) ⌝ }
-    ensures { λ r. ⌜ Stands r (now (input .entry)) (now (lines .entry)) × Moves progress r ⌝ }
+    ensures { λ r. ⌜ Within r (now (input .entry)) (now (lines .entry)) × Moves progress r ⌝ }
 {
     let kept = progress.kept;
     let from = progress.from + 6;

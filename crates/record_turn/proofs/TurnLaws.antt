@@ -44,9 +44,9 @@ pub turned-more : {p : Progress} {to n : ℕ} {r : Turn} {input input′ lines :
 turned-more h w = record { same = w .same; more = λ f. h; inside = w .inside; room = w .room; continues = w .continues }
 
 -- a read adds bytes behind those that are left
-pub read-behind : (from end more : ℕ) (l l′ : List ℕ) {left : List ℕ} → from ≤ end → end ≤ length l → take end l ≡ take end l′ → drop from (take end l′) ≡ left
+pub read-after : (from end more : ℕ) (l l′ : List ℕ) {left : List ℕ} → from ≤ end → end ≤ length l → take end l ≡ take end l′ → drop from (take end l′) ≡ left
     → drop from (take (end + more) l) ≡ left ++ take more (drop end l)
-read-behind from end more l l′ o h e s =
+read-after from end more l l′ o h e s =
     let k = length-take-le end l h in
     ap (drop from) (take-add end more l) ∙ drop-append-le from (take end l) (take more (drop end l)) (omega (arith, k, o))
     ∙ ap (λ (w : List ℕ). w ++ take more (drop end l)) (ap (drop from) e ∙ s)
@@ -54,13 +54,13 @@ read-behind from end more l l′ o h e s =
 module _ {p : Progress} {to : ℕ} {input lines : List ℕ} (w : Reads p to input lines) where
   pub reads-order : p .from ≤ to
   reads-order =
-      let a = w .stands .inside in
+      let a = w .within .inside in
       let b = length-take-le to input (w .inside) in
       omega (arith, a, b)
 
   -- where more is needed, less than a record is left: the buffer has room for it
   pub reads-room : p .waiting ≡ true → (p .from ≤ to) × (to ≤ length input) × (to < p .from + length input)
-  reads-room e = (reads-order, w .inside, short (w .stands .needs e))
+  reads-room e = (reads-order, w .inside, short (w .within .needs e))
     where
       short : Needs p (take to input) → to < p .from + length input
       short (inl n) =
@@ -87,7 +87,7 @@ module _ {p : Progress} {to : ℕ} {input lines : List ℕ} (w : Reads p to inpu
         inside = omega (arith, o, long);
         room = omega (arith, f);
         number = omega (arith, n);
-        needs = needed long (w .stands .needs e);
+        needs = needed long (w .within .needs e);
       })
     where
       rest : drop (s .from) (take (s .to) input″) ≡ drop (p .from) (take to input)

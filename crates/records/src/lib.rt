@@ -25,7 +25,7 @@ pub enum Answer {
     // A setup packet that was accepted: its books and its modes.
     SetUp(u32, u32),
     // An audio packet that was accepted: its block size, the samples that it finished, its codewords.
-    Heard(u32, u64, u64),
+    AudioRead(u32, u64, u64),
     // The number of the refusal.
     Refused(u32),
     Unknown,

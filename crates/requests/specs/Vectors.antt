@@ -35,10 +35,10 @@ pub record RunVectors : Type 0 where
   -- three such trees, of numbers of 3, 8 and 0 bits: the second is cut behind its count
   pub whole-before-cut : wholeValues (read lengthsOf) (λ w. bind (request (number 2)) (λ n. many (request (number w)) n)) (3 ∷ 8 ∷ 0 ∷ []) (0b10111010 ∷ 1 ∷ []) 0 ≡ (6 ∷ 5 ∷ []) ∷ []
   -- a sole entry stands at the exact end of a packet too, but not behind a cut
-  pub sole :
+  pub lone :
       run (read lengthsOf) (bind (many (request (word 3 floor)) 2) (λ _. bind (request (number 8)) (λ _. request (word 5 class)))) (9 ∷ []) 0
       ≡ ended (item (word 3 floor) 1 ∷ item (word 3 floor) 1 ∷ item (number 8) 9 ∷ item (word 5 class) 1 ∷ []) 8 (some 1)
-  pub sole-after-cut :
+  pub lone-after-cut :
       run (read lengthsOf) (bind (request (word 3 (vector first))) (λ _. bind (request (number 9)) (λ _. request (word 5 (vector first))))) (9 ∷ []) 0
       ≡ ended (item (word 3 (vector first)) 1 ∷ []) 0 none
 
@@ -59,7 +59,7 @@ pub record RefusingVectors : Type 0 where
 
 pub runs : RunVectors
 unfolding wholeValues run read request bind many each field valueAt bitAt codeword mapped used isUsed isLone firstUsed lowest
-runs = record { cut = refl; counted = refl; whole-before-cut = refl; sole = refl; sole-after-cut = refl }
+runs = record { cut = refl; counted = refl; whole-before-cut = refl; lone = refl; lone-after-cut = refl }
 
 pub refusing : RefusingVectors
 unfolding wholeValues run read request bind field valueAt bitAt mapped andThen inTurn valuesOf cameTo

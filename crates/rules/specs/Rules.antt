@@ -35,7 +35,7 @@ meets7 (some entry) = false
 -- 8: space left over (no used entry included), but not for a sole used entry of length 1. Of how many strings are free once all lengths are entered, and
 -- whether there is such a sole entry
 abbrev pub meets8 : ℕ → Bool → Bool
-meets8 free soleOfLength1 = eqb free 0 || soleOfLength1
+meets8 free loneOfLength1 = eqb free 0 || loneOfLength1
 
 -- 9: a time value, mapping type, reserved field, window type or transform type not 0
 pub data Of9 : Type 0 where

@@ -4,7 +4,7 @@ use record_progress::start;
 use record_taking::take_records;
 use record_turn::after_records;
 ghost use Rattle.audio_judge.specs.inner.Ready.{lentTables};
-ghost use Rattle.voicelog.specs.inner.Lent.{Lent};
+ghost use Rattle.voicelog.specs.inner.Buffers.{Buffers};
 
 // Takes all records of standard input.
 pub fn run(
@@ -23,7 +23,7 @@ pub fn run(
     input: &mut [u8],
     lines: &mut [u8],
 ) -> u32
-    requires { ⌜ Lent (lentTables counts books lengths codewords multiplicands floors residues plans mappings modes)
+    requires { ⌜ Buffers (lentTables counts books lengths codewords multiplicands floors residues plans mappings modes)
         (now curves) (now words) (now input) (now lines) ⌝ }
 {
     let mut at = start();

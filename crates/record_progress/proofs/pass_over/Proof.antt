@@ -4,7 +4,7 @@ use mathlib.Core.Bool.{true}
 use native.Mathlib.Omega.{arith}
 use borrow.Author.Needs.{needs}
 use Rattle.reading.proofs.Least.{true-not-false}
-use Rattle.record_progress.proofs.TakingLaws.{some-taken, some-stands, all-taken, all-stands}
+use Rattle.record_progress.proofs.TakingLaws.{some-taken, some-within, all-taken, all-within}
 use Rattle.record_progress.proofs.pass_over.Statement.{statement}
 use Rattle.record_progress.proofs.pass_over.Tie as tie
 
@@ -18,7 +18,7 @@ returns : tie.Need-returns
 returns c =
     let at-if1 = c .before in
     let at-pre = at-if1 .before .before .before .before .before .before in
-    (λ t. some-taken (at-pre .pre .0) (at-pre .pre .1) t (at-if1 .if1 .taken), (refl, some-stands (at-pre .pre .0) (at-pre .pre .1) (at-if1 .if1 .taken), λ f. absurd (true-not-false true refl f)))
+    (λ t. some-taken (at-pre .pre .0) (at-pre .pre .1) t (at-if1 .if1 .taken), (refl, some-within (at-pre .pre .0) (at-pre .pre .1) (at-if1 .if1 .taken), λ f. absurd (true-not-false true refl f)))
 
 add-number : tie.Need-add-number
 add-number c = let h = c .before .before .before .before .before .before .before .pre .0 .number in omega (arith, h)
@@ -42,7 +42,7 @@ returns-2 c =
     let at-pre = at-if1 .before .before .before .before .before .before in
     let h = at-pre .pre .1 in (
       λ t. all-taken (at-pre .pre .0) (at-pre .pre .1) (at-if1 .if1 .left) t (at-put-line .put-line .ensures .0) (at-put-line .put-line .ensures .1 .0),
-      (refl, all-stands (at-pre .pre .0) (at-pre .pre .1) (at-if1 .if1 .left) (at-put-line .put-line .ensures .1 .1), λ f. omega (arith, h)),
+      (refl, all-within (at-pre .pre .0) (at-pre .pre .1) (at-if1 .if1 .left) (at-put-line .put-line .ensures .1 .1), λ f. omega (arith, h)),
     )
 
 pub pass-over-spec : {M : Type 1} → statement M

@@ -49,8 +49,8 @@ pub record Taken (p : Progress) (t : Tables) (input lines : List ℕ) (p′ : Pr
 abbrev pub Needs : Progress → List ℕ → Type 0
 Needs p input = ((p .skip ≡ 0) × (Partial ≡ front (drop (p .from) input))) ⊎ ((0 < p .skip) × (p .from ≡ length input))
 
--- where the program stands after it
-pub record Stands (p : Progress) (input lines : List ℕ) : Type 0 where
+-- where the progress after it lies: within the input and the lines
+pub record Within (p : Progress) (input lines : List ℕ) : Type 0 where
   pub inside : p .from ≤ length input
   pub ends : p .«lines_end» ≤ length lines
   pub number : p .number ≤ mostRecords

@@ -17,7 +17,7 @@ use Rattle.audio.specs.declared.Tally.{Tally}
 use Rattle.audio.specs.declared.AudioAnswer.{AudioAnswer}
 use Rattle.audio_settle.specs.inner.Judged.{ZeroFrom}
 use Rattle.records.specs.declared.Answer.{Answer}
-use Rattle.records.specs.declared.Answer.the-variants.{Identified, SetUp, Heard, Refused}
+use Rattle.records.specs.declared.Answer.the-variants.{Identified, SetUp, AudioRead, Refused}
 use Rattle.record_step.specs.declared.Kept.{Kept}
 use Rattle.record_step.specs.declared.Stepped.{Stepped}
 use Rattle.record_step.specs.Step.{Stream, noTally, noStream, identified, setupStep, audioStep}
@@ -129,7 +129,7 @@ packetRead k t curves words a =
 abbrev pub packetAnswered : Kept → Tally → AudioAnswer → Stepped
 packetAnswered k t a =
     cond (eqb (a .refusal) 0)
-    (packetRead k t (k .identity .channels * (a .blocksize / 2)) (a .codewords) (Heard (a .blocksize) (a .samples) (a .codewords)))
+    (packetRead k t (k .identity .channels * (a .blocksize / 2)) (a .codewords) (AudioRead (a .blocksize) (a .samples) (a .codewords)))
     (packetRead k t 0 0 (Refused (a .refusal)))
 
 -- the outputs were not touched

@@ -3,7 +3,7 @@ use mathlib.Core.Path.{sym, _∙_, ap}
 use Rattle.record_progress.specs.declared.Progress.{Progress}
 use native.Mathlib.Omega.{arith}
 use borrow.Author.Needs.{needs}
-use Rattle.record_progress.proofs.TakingLaws.{front-rest, kept-same, waits-taken, waits-stands, waits-moves, skips-inside, skips-taken, skips-stands, skips-moves}
+use Rattle.record_progress.proofs.TakingLaws.{front-rest, kept-same, waits-taken, waits-within, waits-moves, skips-inside, skips-taken, skips-within, skips-moves}
 use Rattle.record_taking.proofs.take_record.Statement.{statement}
 use Rattle.record_taking.proofs.take_record.Tie as tie
 
@@ -63,7 +63,7 @@ returns-2 c =
     let at-look = at-enum-told .before .before in
     let at-pre = at-look .before .before .before .before .before .before .before .before .before .before .before .before .before .before .before .before .before .before in
     let e = c .wait .ensures in
-    (waits-taken (at-pre .pre .1) e _ (omega arith), (kept-same (ap (λ (p : Progress). p .kept) e) (at-pre .pre .0), (waits-stands (at-pre .pre .1) e (front-rest (at-pre .args .progress .from) (at-pre .args .input .now) (sym (at-enum-told .enum-told .given .1) ∙ at-look .look .ensures)), waits-moves (at-pre .pre .1) e)))
+    (waits-taken (at-pre .pre .1) e _ (omega arith), (kept-same (ap (λ (p : Progress). p .kept) e) (at-pre .pre .0), (waits-within (at-pre .pre .1) e (front-rest (at-pre .args .progress .from) (at-pre .args .input .now) (sym (at-enum-told .enum-told .given .1) ∙ at-look .look .ensures)), waits-moves (at-pre .pre .1) e)))
 
 returns-3 : tie.Need-returns-3
 returns-3 c =
@@ -72,7 +72,7 @@ returns-3 c =
     let at-args = at-look .before .before .before .before .before .before .before .before .before .before .before .before .before .before .before .before .before .before in
     let e = c .skip-body .ensures in
     let h = front-rest (at-args .args .progress .from) (at-args .args .input .now) (sym (at-length .length .given .1) ∙ at-look .look .ensures) in
-    (skips-taken (at-args .pre .1) e h _ (omega arith), (kept-same (ap (λ (p : Progress). p .kept) e) (at-args .pre .0), (skips-stands (at-args .pre .1) e h, skips-moves (at-args .pre .1) e h)))
+    (skips-taken (at-args .pre .1) e h _ (omega arith), (kept-same (ap (λ (p : Progress). p .kept) e) (at-args .pre .0), (skips-within (at-args .pre .1) e h, skips-moves (at-args .pre .1) e h)))
 
 same-length-2 : tie.Need-same-length-2
 same-length-2 c = c .before .before .before .before .before .before .before .before .before .before .before .before .before .before .before .before .before .before .before .before .before .before .before .before .before .counts .given

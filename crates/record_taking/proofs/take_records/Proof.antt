@@ -5,7 +5,7 @@ use native.Mathlib.Omega.{arith}
 use borrow.Author.Tests.{not-false}
 use lib.ListN.{length}
 use Rattle.setup.specs.Layout.{tables}
-use Rattle.record_progress.proofs.TakingLaws.{taken-none, taken-then, taken-length, stands-long, Going, turn-less, turn-room}
+use Rattle.record_progress.proofs.TakingLaws.{taken-none, taken-then, taken-length, within-long, Going, turn-less, turn-room}
 use Rattle.record_taking.proofs.take_records.Statement.{statement}
 use Rattle.record_taking.proofs.take_records.Tie as tie
 
@@ -119,7 +119,7 @@ returns c =
       taken-then (at-loop .loop .inv .taken) (at-take-record .take-record .ensures .0),
       (
         at-take-record .take-record .ensures .1 .0,
-        stands-long (at-take-record .take-record .ensures .1 .1 .0) (taken-length (at-loop .loop .inv .taken)),
+        within-long (at-take-record .take-record .ensures .1 .1 .0) (taken-length (at-loop .loop .inv .taken)),
       ),
     )
 

@@ -1,7 +1,7 @@
 -- `take_whole` meets its contract, by TakingLaws. Assumes nothing.
 use native.Mathlib.Omega.{arith}
 use borrow.Author.Needs.{needs}
-use Rattle.record_progress.proofs.TakingLaws.{whole-there, whole-taken, whole-stands}
+use Rattle.record_progress.proofs.TakingLaws.{whole-there, whole-taken, whole-within}
 use Rattle.record_taking.proofs.take_whole.Statement.{statement}
 use Rattle.record_taking.proofs.take_whole.Tie as tie
 
@@ -91,7 +91,7 @@ returns c =
       whole-taken room none front (at-step .step .ensures .0) (at-put-line .put-line .ensures .0) (at-put-line .put-line .ensures .1 .0),
       (
         at-step .step .ensures .1,
-        (whole-stands room none front (at-put-line .put-line .ensures .1 .1), λ f. omega arith),
+        (whole-within room none front (at-put-line .put-line .ensures .1 .1), λ f. omega arith),
       ),
     )
 

@@ -12,7 +12,7 @@ slice-reshare-prefix-write-all : tie.Need-slice-reshare-prefix-write-all
 slice-reshare-prefix-write-all c = search needs
 
 slice-aggregate-write-all : tie.Need-slice-aggregate-write-all
-slice-aggregate-write-all c = sym (length-take-le (c .before .before .before .args .progress .«lines_end») (c .before .before .before .args .lines .now) (c .before .before .before .pre .stands .ends))
+slice-aggregate-write-all c = sym (length-take-le (c .before .before .before .args .progress .«lines_end») (c .before .before .before .args .lines .now) (c .before .before .before .pre .within .ends))
 
 write-all-requires : tie.Need-write-all-requires
 write-all-requires c κs = search needs

@@ -3,7 +3,7 @@ use native.Mathlib.Omega.{arith}
 use mathlib.Core.Path.{sym, _∙_}
 use lib.Seq.{length-take-le}
 use Rattle.record_turn.proofs.FeedingLaws.{still-lt}
-use Rattle.record_turn.proofs.TurnLaws.{reads-room, reads-last, stopped-turned, going-turned, read-behind}
+use Rattle.record_turn.proofs.TurnLaws.{reads-room, reads-last, stopped-turned, going-turned, read-after}
 use lib.ListN.{take, drop}
 use borrow.Author.Needs.{needs}
 use Rattle.record_turn.proofs.read_on.Statement.{statement}
@@ -45,11 +45,11 @@ returns-2 c =
     let span = at-make-room .make-room .result in
     let h = at-make-room .make-room .ensures .room in
     let before-it = at-make-room .make-room .last .0 in
-    let behind-it = at-read-more .read-more .last .0 in
+    let after-it = at-read-more .read-more .last .0 in
     let more = at-read-more .read-more .result .more in
-    going-turned (at-args .args .progress) (take more (drop (span .to) behind-it)) (c .going .ensures) (omega arith) (omega (arith, o)) (omega (arith, m, i)) (at-args .pre .2)
+    going-turned (at-args .args .progress) (take more (drop (span .to) after-it)) (c .going .ensures) (omega arith) (omega (arith, o)) (omega (arith, m, i)) (at-args .pre .2)
     (at-args .pre .0 .of-lines)
-    (read-behind (span .from) (span .to) more behind-it before-it o (omega (arith, h, i)) (at-read-more .read-more .ensures .0) (at-make-room .make-room .ensures .same))
+    (read-after (span .from) (span .to) more after-it before-it o (omega (arith, h, i)) (at-read-more .read-more .ensures .0) (at-make-room .make-room .ensures .same))
 
 going-requires-2 : tie.Need-going-requires-2
 going-requires-2 c κs = search needs

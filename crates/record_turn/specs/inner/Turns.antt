@@ -4,7 +4,7 @@ use mathlib.Core.Bool.{true, false}
 use mathlib.Core.List.{List, _++_}
 use mathlib.Core.Path.{_≡_}
 use lib.ListN.{length, take, drop}
-use Rattle.record_progress.specs.inner.Taken.{Room, Stands}
+use Rattle.record_progress.specs.inner.Taken.{Room, Within}
 use Rattle.record_turn.specs.declared.feeding.Span.{Span}
 use Rattle.record_turn.specs.declared.Turn.{Turn}
 use Rattle.record_progress.specs.declared.Progress.{Progress}
@@ -22,7 +22,7 @@ pub record RoomMade (input : List ℕ) (from to : ℕ) (r : Span) (input′ : Li
 
 -- records were taken from the first `to` bytes
 pub record Reads (p : Progress) (to : ℕ) (input lines : List ℕ) : Type 0 where
-  pub stands : Stands p (take to input) lines
+  pub within : Within p (take to input) lines
   pub inside : to ≤ length input
   pub of-input : length input ≡ 65536
   pub of-lines : length lines ≡ 65536

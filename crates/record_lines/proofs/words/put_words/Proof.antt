@@ -1,5 +1,5 @@
 -- `record_lines::words::put_words` meets its contract: one law for each answer. Assumes nothing.
-use Rattle.record_lines.proofs.Laws.{identified, set-up, heard, refused, unknown, too-long}
+use Rattle.record_lines.proofs.Laws.{identified, set-up, audio-read, refused, unknown, too-long}
 use Rattle.record_lines.specs.Text.{text, codesFrom}
 use borrow.Author.Needs.{needs}
 use Rattle.record_lines.proofs.words.put_words.Statement.{statement}
@@ -20,8 +20,8 @@ put-set-up-requires c κs = search needs
 enum-known-answer-3 : tie.Need-enum-known-answer-3
 enum-known-answer-3 c = search needs
 
-put-heard-requires : tie.Need-put-heard-requires
-put-heard-requires c κs = search needs
+put-audio-requires : tie.Need-put-audio-requires
+put-audio-requires c κs = search needs
 
 enum-known-answer-4 : tie.Need-enum-known-answer-4
 enum-known-answer-4 c = search needs
@@ -66,7 +66,7 @@ same-length-3 : tie.Need-same-length-3
 same-length-3 c = search needs
 
 returns-3 : tie.Need-returns-3
-returns-3 c = search (needs, heard)
+returns-3 c = search (needs, audio-read)
 
 same-length-4 : tie.Need-same-length-4
 same-length-4 c = search needs
@@ -98,7 +98,7 @@ put-words-spec =
     enum-known-answer-2
     put-set-up-requires
     enum-known-answer-3
-    put-heard-requires
+    put-audio-requires
     enum-known-answer-4
     slice-aggregate-put-short-field
     put-short-field-requires

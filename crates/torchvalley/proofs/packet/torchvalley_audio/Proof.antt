@@ -243,8 +243,8 @@ module _ {M : Type 1} (𝓤 : URA M) (H : Heap 𝓤) (A : Atoms 𝓤) (W : Given
   abbrev ofWords : Lasts g.ended κs (h, rest) → List ℕ
   ofWords zs = zs .1 .1 .1 .1 .1 .1 .1 .1 .1 .1 .1 .1 .1 .1 .0
 
-  abbrev Says : AudioLeft → Lasts g.ended κs (h, rest) → Type 0
-  Says r zs =
+  abbrev CalleeEnsures : AudioLeft → Lasts g.ended κs (h, rest) → Type 0
+  CalleeEnsures r zs =
       leftOf (r .answer) (r .tally) (ofCurves zs) (ofWords zs)
       ≡ audioCall standard i (allTables (counts .now) (books .now) (lengths .now) (codewords .now) (multiplicands .now) (floors .now) (residues .now) (plans .now) (mappings .now) (modes .now))
       h (packet .now) (roomOf (curves .now) (words .now))
@@ -262,7 +262,7 @@ module _ {M : Type 1} (𝓤 : URA M) (H : Heap 𝓤) (A : Atoms 𝓤) (W : Given
       onExit 𝓤 H A f.ended stayed (κ, κs) (q, qs) (vptr b o ∷ [], rest-at) (mach-e (r .answer)) (r .answer) (tally-ref, rest)
       (r .tally, (tt, (tt, (tt, (tt, (tt, (tt, (tt, (tt, (tt, (tt, (tt, (tt, (ofCurves zs, (ofWords zs, tt)))))))))))))))
 
-  exits : (r : AudioLeft) (zs : Lasts g.ended κs (h, rest)) → Says r zs → length (ofCurves zs) ≡ length (curves .now) → length (ofWords zs) ≡ length (words .now)
+  exits : (r : AudioLeft) (zs : Lasts g.ended κs (h, rest)) → CalleeEnsures r zs → length (ofCurves zs) ≡ length (curves .now) → length (ofWords zs) ≡ length (words .now)
       → Is E.the-row (r .answer) (mach-e (r .answer) ∷ [])
       → ent 𝓤 (⋆ 𝓤 H A (‵ (fobs γ (T.the-row .coded .code (r .tally))) ∷ ‵ (fbor κ (Body (mem T.the-row) b o γ)) ∷ ‵ (flft κ q) ∷ raw tokens
       ∷ ‵ (finally u32 (words .name) (ofWords zs)) ∷ ‵ (finally u8 (curves .name) (ofCurves zs)) ∷ [])) (Post (mach-e (r .answer)))
@@ -271,7 +271,7 @@ module _ {M : Type 1} (𝓤 : URA M) (H : Heap 𝓤) (A : Atoms 𝓤) (W : Given
       ∷ ‵ (finally u32 (words .name) (ofWords zs)) ∷ ‵ (finally u8 (curves .name) (ofCurves zs)) ∷ []) ∵
       suffices ! _ (ends-at 𝓤 H A f.ended stayed (f.clauses 𝓤 H A at-mem run) W (((κ, κs), (q, qs), bounds, (tally-ref, rest), (vptr b o ∷ [], rest-at)), tt)
       (mach-e (r .answer)) (r .answer) (r .tally, (tt, (tt, (tt, (tt, (tt, (tt, (tt, (tt, (tt, (tt, (tt, (tt, (ofCurves zs, (ofWords zs, tt)))))))))))))))
-      (tt, (tt, (tt, (tt, (tt, (tt, (tt, (tt, (tt, (tt, (tt, (tt, (tt, (lc, (lw, tt)))))))))))))))) $ suffices ! _ (assoc∗ 𝓤 (had r zs) (fact 𝓤 (Says r zs)) (fact 𝓤 Second)) $ says ! second $ says ! e $
+      (tt, (tt, (tt, (tt, (tt, (tt, (tt, (tt, (tt, (tt, (tt, (tt, (tt, (lc, (lw, tt)))))))))))))))) $ suffices ! _ (assoc∗ 𝓤 (had r zs) (fact 𝓤 (CalleeEnsures r zs)) (fact 𝓤 Second)) $ says ! second $ says ! e $
       move ! (2 ∷ 3 ∷ []) $ join ! $ frame ! $ feqI ! (List Val) (vptr b o ∷ []) (vptr b o ∷ []) refl $ fjoin3 ! $
       nothing ! $ move ! (2 ∷ 0 ∷ []) $ fjoin ! $ move ! (2 ∷ 0 ∷ []) $ fjoin ! $
       nothing ! $ fjoin ! $ nothing ! $ fjoin ! $ nothing ! $ fjoin ! $ nothing ! $ fjoin ! $ nothing ! $ fjoin ! $ nothing ! $ fjoin ! $
@@ -359,8 +359,8 @@ module _ {M : Type 1} (𝓤 : URA M) (H : Heap 𝓤) (A : Atoms 𝓤) (W : Given
         (no-more !)))))))))))))))) (λ v.
         use1 W (later (some (λ (r : AudioLeft). (raw tokens ⊛ ‵ (D.the-row .own r (v ∷ []))) ⊛ raw (ensured 𝓤 H A g.ended (g.clauses 𝓤 H A at-mem run) κs (h, rest) tt r)))) (id⊢ 𝓤 _) $
         await ! tt $ pick ! (λ r. split ! $ move ! (1 ∷ []) $
-        use1 W (some (λ (zs : Lasts g.ended κs (h, rest)). ‵ (lasts g.ended κs (h, rest) zs) ⊛ raw (fact 𝓤 (Says r zs)))) (id⊢ 𝓤 _) $ pick ! (λ zs.
-        split ! $ move ! (1 ∷ []) $ heard ! (Says r zs) (λ e.
+        use1 W (some (λ (zs : Lasts g.ended κs (h, rest)). ‵ (lasts g.ended κs (h, rest) zs) ⊛ raw (fact 𝓤 (CalleeEnsures r zs)))) (id⊢ 𝓤 _) $ pick ! (λ zs.
+        split ! $ move ! (1 ∷ []) $ heard ! (CalleeEnsures r zs) (λ e.
         fsplit ! $ drop ! $ fsplit ! $ drop ! $ fsplit ! $ drop ! $ fsplit ! $ drop ! $ fsplit ! $ drop ! $ fsplit ! $ drop ! $ fsplit ! $ drop ! $ fsplit ! $
         drop ! $ fsplit ! $ drop ! $ fsplit ! $ drop ! $ fsplit ! $ drop ! $ fsplit ! $ drop ! $ fsplit ! $ drop ! $
         fsplit ! $ fsplit ! $ move ! (1 ∷ []) $ feqL ! (λ lc. move ! (1 ∷ []) $ fsplit ! $ fsplit ! $ move ! (1 ∷ []) $ feqL ! (λ lw.

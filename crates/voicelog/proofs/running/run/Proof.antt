@@ -4,7 +4,7 @@ use mathlib.Core.Path.{refl, sym, _∙_}
 use lib.Seq.{length-take-le}
 use Rattle.setup.specs.Layout.{tables}
 use Rattle.record_step.proofs.StartLaws.{start-tables, start-outputs}
-use Rattle.record_progress.proofs.TakingLaws.{kept-same, stands-long}
+use Rattle.record_progress.proofs.TakingLaws.{kept-same, within-long}
 use Rattle.voicelog.proofs.RunningLaws.{Running, first-room}
 use borrow.Author.Needs.{needs}
 use Rattle.voicelog.proofs.running.run.Statement.{statement}
@@ -52,7 +52,7 @@ after-records-requires c κs =
     let at-loop = at-take-records .before .before .before .before .before .before .before .before .before .before .before .before .before .before .before in
     let at-pre = at-loop .before .before .before .before .before .before .before .before .before .before .before .before .before .before .before .before in
     record {
-      stands = stands-long (at-take-records .take-records .ensures .1 .1) (sym (at-lines .lines .given));
+      within = within-long (at-take-records .take-records .ensures .1 .1) (sym (at-lines .lines .given));
       inside = at-loop .loop .inv .inside;
       of-input = at-loop .loop .inv .of-input ∙ at-pre .pre .of-input;
       of-lines = at-lines .lines .given ∙ at-loop .loop .inv .of-lines ∙ at-pre .pre .of-lines;

@@ -8,7 +8,7 @@ use Rattle.limits.specs.Standard.{standard}
 use Rattle.setup.specs.Layout.{Tables, hasRoom}
 
 -- the memory that the tool lends
-pub record Lent (t : Tables) (curves words input lines : List ℕ) : Type 0 where
+pub record Buffers (t : Tables) (curves words input lines : List ℕ) : Type 0 where
   pub tables : hasRoom standard t ≡ true
   pub of-curves : length curves ≡ 32768
   pub of-words : length words ≡ 16384

@@ -1,10 +1,10 @@
--- `record_lines::words::put_heard` meets its contract: three fields. Assumes nothing.
-use Rattle.record_lines.proofs.Laws.{join, known-most, heard-words}
+-- `record_lines::words::put_audio` meets its contract: three fields. Assumes nothing.
+use Rattle.record_lines.proofs.Laws.{join, known-most, audio-words}
 use Rattle.record_lines.specs.Text.{text, codesFrom}
 use native.Mathlib.Omega.{arith}
 use borrow.Author.Needs.{needs}
-use Rattle.record_lines.proofs.words.put_heard.Statement.{statement}
-use Rattle.record_lines.proofs.words.put_heard.Tie as tie
+use Rattle.record_lines.proofs.words.put_audio.Statement.{statement}
+use Rattle.record_lines.proofs.words.put_audio.Tie as tie
 
 slice-aggregate-put-short-field : tie.Need-slice-aggregate-put-short-field
 slice-aggregate-put-short-field c = search needs
@@ -32,10 +32,10 @@ unfolding text codesFrom
 returns c =
     known-most
     (join (join (c .before .before .before .before .before .before .before .before .before .before .before .before .put-short-field .ensures) (c .before .before .before .before .before .before .before .put-field .ensures)) (c .before .before .put-field2 .ensures))
-    (heard-words _ _ _) (omega arith)
+    (audio-words _ _ _) (omega arith)
 
-pub put-heard-spec : {M : Type 1} → statement M
-put-heard-spec =
+pub put-audio-spec : {M : Type 1} → statement M
+put-audio-spec =
     tie.close
     (tie.spec
     slice-aggregate-put-short-field
