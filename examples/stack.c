@@ -1,5 +1,5 @@
-/* The packets that ask for most, to be run with a small stack: a codebook with one used entry takes no bits, so that a few bytes name as many class
- * words and vectors as eight channels of the largest block can have. `examples/run` builds it and allows it 64 KiB of stack. */
+/* The packets that ask for most, to be run with a small stack: codewords of one bit, as many class words and vectors as eight channels of the
+ * largest block can have. `examples/run` builds it and allows it 64 KiB of stack. */
 #include "tables.h"
 #include "writer.h"
 #include <inttypes.h>
@@ -11,6 +11,7 @@ static const struct torchvalley_identity identity = {.channels = 8, .rate = 8000
 
 static uint8_t curves[32768];
 static uint32_t codewords[294912];
+static uint8_t audio[36868];
 
 /* Partitions of one place; each has a class word and, in each of so many passes, a vector. All channels are coupled to the first. */
 static void write_setup(uint32_t residue_type, uint32_t passes) {
@@ -35,17 +36,26 @@ static void write_setup(uint32_t residue_type, uint32_t passes) {
     put(1, 1);                                               /* the framing bit */
 }
 
+/* The packet with so many codewords: type and window flags 0, a used floor of two Y, seven unused ones, which are 27 bits; then a bit for each
+ * codeword, of either value. */
+static size_t write_audio(uint32_t words) {
+    size_t bytes = (27 + words + 7) / 8;
+    memset(audio, 0xA8, bytes);
+    audio[0] = 0x08, audio[1] = 0, audio[2] = 0;
+    return bytes;
+}
+
 /* Both calls, the one that changes the tally where it lies and the one that takes it by value. */
 static void print_audio(uint32_t residue_type, uint32_t passes, size_t places) {
-    const uint8_t audio[4] = {0x08}; /* type and window flags 0, a used floor of two Y, seven unused ones */
     const struct torchvalley_tally before = {.blocksize = 8192, .samples = 5};
     struct torchvalley_tally tally = before;
+    size_t length = write_audio(32768 * (1 + passes));
     write_setup(residue_type, passes);
     uint32_t refusal = torchvalley_setup(identity, packet, (bits + 7) / 8, TABLES);
     struct torchvalley_audio_answer answer =
-        torchvalley_audio(&tally, identity, TABLES, audio, sizeof audio, curves, sizeof curves, codewords, places);
+        torchvalley_audio(&tally, identity, TABLES, audio, length, curves, sizeof curves, codewords, places);
     struct torchvalley_audio_left left =
-        torchvalley_audio_by_value(before, identity, TABLES, audio, sizeof audio, curves, sizeof curves, codewords, places);
+        torchvalley_audio_by_value(before, identity, TABLES, audio, length, curves, sizeof curves, codewords, places);
     bool same = left.answer.refusal == answer.refusal && left.answer.codewords == answer.codewords && left.tally.blocksize == tally.blocksize &&
                 left.tally.samples == tally.samples;
     printf("type %" PRIu32 ", %" PRIu32 " passes, %zu places: setup %" PRIu32 ", refusal %" PRIu32 ", codewords %" PRIu64, residue_type, passes,

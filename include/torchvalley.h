@@ -111,7 +111,7 @@ struct torchvalley_codeword {
 };
 
 /* Reads one codeword of book number `book` of the tables, in any packet, from bit 8 * byte + bit of it on. Bit 0 is the lowest of its byte, and a bit
- * above 7 counts on into the next bytes. A sole used entry takes no bit, and is there at the packet's end too. */
+ * above 7 counts on into the next bytes. A sole used entry takes one bit, which may be either. */
 struct torchvalley_codeword torchvalley_codeword(struct torchvalley_identity identity, const uint32_t *counts, size_t counts_length,
                                                  const uint32_t *books, size_t books_length, const uint8_t *lengths, size_t lengths_length,
                                                  const uint32_t *codewords, size_t codewords_length, const uint16_t *multiplicands,

@@ -15,7 +15,7 @@ pub struct Book {
     dimensions: u32,
     lengths: Vec<u8>,
     values: Option<Values>,
-    decoder: Decoder,
+    tree: Tree,
 }
 
 /// The numbers behind a book's vectors: lookup type 1 or 2.
@@ -77,8 +77,7 @@ pub fn sole_entry(lengths: &[u8]) -> Option<u32> {
 }
 
 /// Reads one codeword of the book with these entry lengths: the entry and the
-/// position behind it, or the cut. A sole used entry takes 0 bits (000, section
-/// 3.2.1). `None` where the lengths make no book.
+/// position behind it, or the cut. `None` where the lengths make no book.
 pub fn read_codeword(lengths: &[u8], packet: &[u8], position: u64) -> Option<Result<(u32, u64), Cut>> {
     let book = Book::new(1, lengths.to_vec(), None).ok()?;
     let mut cursor = Cursor::at(packet, position);
@@ -115,8 +114,8 @@ impl Book {
     pub fn new(dimensions: u32, lengths: Vec<u8>, values: Option<Values>) -> Result<Book, Verdict> {
         match verdict(&lengths) {
             Verdict::Accepted(codewords) => {
-                let decoder = Decoder::new(&codewords);
-                Ok(Book { dimensions, lengths, values, decoder })
+                let tree = Tree::new(&codewords);
+                Ok(Book { dimensions, lengths, values, tree })
             }
             refused => Err(refused),
         }
@@ -142,17 +141,15 @@ impl Book {
 
     /// The entry whose codeword comes next.
     pub fn read_entry(&self, cursor: &mut Cursor) -> Result<u32, Cut> {
-        self.decoder.read(cursor)
+        let cut = Cut { place: cursor.position() };
+        self.tree.walk(cursor).ok_or(cut)
     }
 }
 
-/// Finds entries from bits.
+/// The decision tree of 002; node 0 is the root.
 #[derive(Clone, Debug, PartialEq, Eq)]
-enum Decoder {
-    /// A sole used entry, read with 0 bits.
-    Lone(u32),
-    /// The decision tree of 002; node 0 is the root.
-    Tree(Vec<[Branch; 2]>),
+struct Tree {
+    nodes: Vec<[Branch; 2]>,
 }
 
 /// Where a bit leads in the decision tree.
@@ -163,53 +160,46 @@ enum Branch {
     Entry(u32),
 }
 
-impl Decoder {
+impl Tree {
     fn new(codewords: &[Option<Codeword>]) -> Self {
-        let used = || (0..).zip(codewords).filter_map(|(entry, word)| Some((entry, (*word)?)));
-        if let (1, Some((entry, _))) = (used().count(), used().next()) {
-            return Decoder::Lone(entry);
+        let used: Vec<_> = (0..).zip(codewords).filter_map(|(entry, word)| Some((entry, (*word)?))).collect();
+        // A sole used entry takes one bit, whatever it is (02, wish 3): both ways lead to it.
+        if let [(entry, _)] = used[..] {
+            return Tree { nodes: vec![[Branch::Entry(entry); 2]] };
         }
-        let mut nodes = vec![[Branch::Nowhere; 2]];
-        for (entry, codeword) in used() {
-            add_leaf(&mut nodes, entry, codeword);
+        let mut tree = Tree { nodes: vec![[Branch::Nowhere; 2]] };
+        for (entry, codeword) in used {
+            tree.add_leaf(entry, codeword);
         }
-        Decoder::Tree(nodes)
+        tree
     }
 
-    fn read(&self, cursor: &mut Cursor) -> Result<u32, Cut> {
-        let cut = Cut { place: cursor.position() };
-        match self {
-            Decoder::Lone(_) if cursor.has_ended() => Err(cut),
-            Decoder::Lone(entry) => Ok(*entry),
-            Decoder::Tree(nodes) => walk(nodes, cursor).ok_or(cut),
+    fn add_leaf(&mut self, entry: u32, codeword: Codeword) {
+        let nodes = &mut self.nodes;
+        let mut node = 0;
+        for place in 0..codeword.length - 1 {
+            let side = codeword.bit(place) as usize;
+            node = match nodes[node][side] {
+                Branch::Node(next) => next as usize,
+                _ => {
+                    nodes[node][side] = Branch::Node(nodes.len() as u32);
+                    nodes.push([Branch::Nowhere; 2]);
+                    nodes.len() - 1
+                }
+            };
         }
+        nodes[node][codeword.bit(codeword.length - 1) as usize] = Branch::Entry(entry);
     }
-}
 
-fn add_leaf(nodes: &mut Vec<[Branch; 2]>, entry: u32, codeword: Codeword) {
-    let mut node = 0;
-    for place in 0..codeword.length - 1 {
-        let side = codeword.bit(place) as usize;
-        node = match nodes[node][side] {
-            Branch::Node(next) => next as usize,
-            _ => {
-                nodes[node][side] = Branch::Node(nodes.len() as u32);
-                nodes.push([Branch::Nowhere; 2]);
-                nodes.len() - 1
+    /// Walks the tree one bit at a time; `None` where the packet ends on the way.
+    fn walk(&self, cursor: &mut Cursor) -> Option<u32> {
+        let mut node = 0;
+        loop {
+            match self.nodes[node][cursor.next_bit()? as usize] {
+                Branch::Node(next) => node = next as usize,
+                Branch::Entry(entry) => return Some(entry),
+                Branch::Nowhere => unreachable!("an accepted book's tree is full"),
             }
-        };
-    }
-    nodes[node][codeword.bit(codeword.length - 1) as usize] = Branch::Entry(entry);
-}
-
-/// Walks the tree one bit at a time; `None` where the packet ends on the way.
-fn walk(nodes: &[[Branch; 2]], cursor: &mut Cursor) -> Option<u32> {
-    let mut node = 0;
-    loop {
-        match nodes[node][cursor.next_bit()? as usize] {
-            Branch::Node(next) => node = next as usize,
-            Branch::Entry(entry) => return Some(entry),
-            Branch::Nowhere => unreachable!("an accepted book's tree is full"),
         }
     }
 }

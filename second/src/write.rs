@@ -80,7 +80,8 @@ impl BitWriter {
         self.written
     }
 
-    fn bit(&mut self, bit: u32) {
+    /// One bit, which is no field.
+    pub fn bit(&mut self, bit: u32) {
         if self.bits.is_multiple_of(8) {
             self.written.bytes.push(0);
         }

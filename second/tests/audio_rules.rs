@@ -147,8 +147,9 @@ fn no_residue_after_a_cut_floor_even_of_lone_entries() {
     let words = |packet: &[u8]| {
         read_with(&IDENTITY, &setup, Tally::default(), packet).answer.map(|answer| answer.words)
     };
-    let whole = pack(&[(0, 1), (0, 2), (1, 1), (0, 16), (0, 1), (0, 1)]);
+    let whole = pack(&[(0, 1), (0, 2), (1, 1), (0, 16), (0, 1), (0, 1), (0b01_1010, 6)]);
     assert_eq!(words(&whole), Ok(6), "three class words for the live channels 0 and 1");
+    assert_eq!(words(&whole[..3]), Ok(2), "the bits behind the floors");
     assert_eq!(words(&whole[..2]), Ok(0), "cut in the first floor");
 }
 
@@ -241,9 +242,9 @@ fn samples_are_0_for_the_first_and_quarters_after() {
     assert_eq!(refused.tally, second.tally);
 }
 
-/// Four bytes ask for 294,912 places (01 gives 17 where the room is less).
+/// One bit for each of 294,912 places (01 gives 17 where the room is less).
 #[test]
-fn lone_entries_fill_the_room_without_bits() {
+fn lone_entries_fill_the_room_bit_by_bit() {
     let identity = Identity { channels: 8, block_sizes: [8_192, 8_192], ..IDENTITY };
     let lone = [("sparse 0", 1, 1), ("used", 1, 1), ("length", 0, 5), ("used", 0, 1)];
     let values =
@@ -288,13 +289,16 @@ fn lone_entries_fill_the_room_without_bits() {
         ],
     );
     let setup = setup(&identity, &fields.pack(), &Limits::BASE).expect("accepted");
-    let packet = pack(&[(0, 1), (0, 2), (1, 1), (0, 16), (0, 7), (0, 5)]);
-    assert_eq!(packet.len(), 4);
+    let floors = pack(&[(0, 1), (0, 2), (1, 1), (0, 16), (0, 7), (0b10101, 5)]);
+    let packet = [floors, vec![0xC5; 294_912 / 8]].concat();
     let (mut curves, mut words) = (vec![0; 32_768], vec![0; 294_912]);
-    let mut read = |words: &mut [u32]| {
-        let answer = audio(&identity, &setup, &mut Tally::default(), &packet, &mut curves, words);
+    let mut read = |bytes: usize, words: &mut [u32]| {
+        let answer = audio(&identity, &setup, &mut Tally::default(), &packet[..bytes], &mut curves, words);
         answer.map(|answer| answer.words).map_err(|refusal| refusal.number)
     };
-    assert_eq!(read(&mut words), Ok(294_912));
-    assert_eq!(read(&mut words[..294_911]), Err(17));
+    assert_eq!(read(4, &mut words), Ok(5));
+    assert_eq!(read(4, &mut words[..4]), Err(17));
+    assert_eq!(read(packet.len() - 1, &mut words), Ok(294_909));
+    assert_eq!(read(packet.len(), &mut words), Ok(294_912));
+    assert_eq!(read(packet.len(), &mut words[..294_911]), Err(17));
 }

@@ -149,9 +149,14 @@ fn a_codeword_is_read_bit_by_bit() {
 }
 
 #[test]
-fn a_sole_entry_is_read_with_0_bits_up_to_the_end() {
-    assert_eq!(read_codeword(&[0, 1], &[0xFF], 8), Some(Ok((1, 8))));
-    assert!(matches!(read_codeword(&[0, 1], &[0xFF], 9), Some(Err(_))));
+fn a_sole_entry_takes_one_bit_of_either_value() {
+    let packet = [0b0111_0110];
+    for position in 0..8 {
+        assert_eq!(read_codeword(&[0, 1], &packet, position), Some(Ok((1, position + 1))));
+    }
+    assert!(matches!(read_codeword(&[0, 1], &packet, 8), Some(Err(cut)) if cut.place == 8));
+    assert!(matches!(read_codeword(&[0, 1], &packet, 9), Some(Err(_))));
+    assert!(matches!(read_codeword(&[1], &[], 0), Some(Err(cut)) if cut.place == 0));
 }
 
 #[test]

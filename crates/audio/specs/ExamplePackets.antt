@@ -32,9 +32,10 @@ shortAnswer used codewords =
       used = used ∷ replicate 254 0;
     }
 
--- type bit 0, mode 0; channel 0: flag 1, values 8 and 2 in 6 bits each; channel 1: flag 0. What follows takes no bits, and 7 bits are ignored
+-- type bit 0, mode 0; channel 0: flag 1, values 8 and 2 in 6 bits each, the third by a 1; channel 1: flag 0. Then 16 codewords of a bit each, and 6 bits
+-- are ignored
 abbrev pub short : List ℕ
-short = 0b10001000 ∷ 0b00001000 ∷ 0b11111110 ∷ []
+short = 0b10001000 ∷ 0b00001000 ∷ 0b10110101 ∷ 0b01100110 ∷ 0b11111101 ∷ []
 
 -- values 8, 2 and 1 have final Y 8, 2 and 4; times 4, the curve falls from 32 at X 0 to 16 at X 16, and to 8 at X 32
 abbrev pub drawn : List ℕ
@@ -47,12 +48,13 @@ drawn =
 abbrev pub codewordsOfShort : List ℕ
 codewordsOfShort = 4 ∷ 4 ∷ 3 ∷ 3 ∷ 3 ∷ 3 ∷ 4 ∷ 4 ∷ 3 ∷ 3 ∷ 3 ∷ 3 ∷ 3 ∷ 3 ∷ 3 ∷ 3 ∷ []
 
--- type bit 0, mode 1, flags 1 and 0; both channels: flag 1, values 8 and 2. One bit is left for a class word of 4 bits
+-- type bit 0, mode 1, flags 1 and 0; both channels: flag 1, values 8 and 2, the third by a 1 and by a 0. Seven bits are left for a class word of 8 bits
 abbrev pub long : List ℕ
-long = 0b00101010 ∷ 0b00100010 ∷ 0b01000100 ∷ 0b10000100 ∷ []
+long = 0b00101010 ∷ 0b00100010 ∷ 0b10001100 ∷ 0b00001000 ∷ 0b11110100 ∷ []
 
-abbrev pub longAnswer : AudioAnswer
-longAnswer =
+-- where channel 1 has a used floor or not
+abbrev pub longAnswer : ℕ → AudioAnswer
+longAnswer used =
     record {
       refusal = 0;
       mode = 1;
@@ -62,21 +64,19 @@ longAnswer =
       window = record { «left_start» = 0; «left_end» = 64; «right_start» = 80; «right_end» = 112 };
       samples = 48;
       codewords = 0;
-      used = 1 ∷ 1 ∷ replicate 253 0;
+      used = 1 ∷ used ∷ replicate 253 0;
     }
 
--- type bit 0, mode 2; both channels: flag 1, values 8 and 2. Three bits are left for a vector of 4 bits, behind two class words that take none
+-- type bit 0, mode 2; both channels: flag 1, values 8 and 2, the third by a 0 and by a 1. Two class words, by a 0, which is the last bit of the fourth byte,
+-- and by a 1. Seven bits are left for a vector of 8 bits
 abbrev pub uncoupled : List ℕ
-uncoupled = 0b10001100 ∷ 0b00001000 ∷ 0b00010001 ∷ 0b11100001 ∷ []
+uncoupled = 0b10001100 ∷ 0b00001000 ∷ 0b00100010 ∷ 0b01000010 ∷ 0b11101111 ∷ []
 
--- the same of one channel, whose floor ends with the packet
-abbrev pub of-one-channel : List ℕ
-of-one-channel = 0b10001100 ∷ 0b00001000 ∷ []
-
--- and a byte more, with the codewords 01 and 001
+-- the same of one channel, whose third value is read by a 1; then the codewords 01 and 001, each behind a class word, the first by a 0, the second by a 1
 abbrev pub vectors-of-one-channel : List ℕ
-vectors-of-one-channel = 0b10001100 ∷ 0b00001000 ∷ 0b00010010 ∷ []
+vectors-of-one-channel = 0b10001100 ∷ 0b00001000 ∷ 0b10011001 ∷ []
 
--- type bit 0, mode 1, flags 1 and 0; channel 0: flag 1, values 8 and 2; then the class words 1 and 01
+-- type bit 0, mode 1, flags 1 and 0; channel 0: flag 1, values 8 and 2, the third by a 0; then the class words 1 and 01, each with two vectors behind it, by a 1
+-- and a 0
 abbrev pub class-words-of-one-channel : List ℕ
-class-words-of-one-channel = 0b00101010 ∷ 0b00100010 ∷ 0b00010100 ∷ []
+class-words-of-one-channel = 0b00101010 ∷ 0b00100010 ∷ 0b10011000 ∷ 0b00000001 ∷ []

@@ -1,4 +1,4 @@
--- A small setup for worked packets (specs/ExamplePackets.antt). A sole used entry takes no bits, so packets stay short and no ledger has to be worked out.
+-- A small setup for worked packets (specs/ExamplePackets.antt). A sole used entry takes one bit, of either value, so packets stay short and no ledger has to be worked out.
 use Prim.Native.Nat.{ℕ}
 use mathlib.Core.List.{List, [], _∷_}
 use lib.IntN.{pos}
@@ -34,13 +34,13 @@ abbrev bookOf : ℕ → ℕ → List ℕ → Book
 bookOf dimensions values lengths =
     record { dimensions = dimensions; lengths = lengths; lookup = 1; minimum = 0; delta = 0; width = 1; sequence = 0; multiplicands = replicate values 0 }
 
--- book 0 gives entry 1, and book 1 entry 2, without bits; then book 2
+-- book 0 gives entry 1, and book 1 entry 2, by one bit each; then book 2
 abbrev books : Book → List Book
 books book = bookOf 1 2 (0 ∷ 1 ∷ []) ∷ bookOf 2 2 (0 ∷ 0 ∷ 1 ∷ 0 ∷ []) ∷ book ∷ []
 
--- for book 2: every codeword has 4 bits; the codewords are 000, 1, 001 and 01
-abbrev fourBits : Book
-fourBits = bookOf 2 4 (replicate 16 4)
+-- for book 2: every codeword has 8 bits; the codewords are 000, 1, 001 and 01
+abbrev eightBits : Book
+eightBits = bookOf 2 16 (replicate 256 8)
 
 abbrev pub lengthsCoded : List ℕ
 lengthsCoded = 3 ∷ 1 ∷ 3 ∷ 2 ∷ []
@@ -73,7 +73,7 @@ residueOf classbook first third =
       plan = (0 ∷ 0 ∷ third ∷ 0 ∷ 0 ∷ 0 ∷ 0 ∷ 0 ∷ []) ∷ (first ∷ 0 ∷ 0 ∷ 0 ∷ 0 ∷ 0 ∷ 0 ∷ 0 ∷ []) ∷ [];
     }
 
--- the first takes no bits; the second has the vectors of book 2, the third its class words
+-- the first has sole entries alone; the second has the vectors of book 2, the third its class words
 abbrev residues : List Residue
 residues = residueOf 1 1 1 ∷ residueOf 1 3 0 ∷ residueOf 2 1 0 ∷ []
 
@@ -94,10 +94,7 @@ setupOf book couplings = record { books = books book; floors = floors; residues 
 
 -- for two channels, which the first mapping couples; and for one
 abbrev pub small : Setup
-small = setupOf fourBits (record { magnitude = 0; angle = 1 } ∷ [])
-
-abbrev pub smallMono : Setup
-smallMono = setupOf fourBits []
+small = setupOf eightBits (record { magnitude = 0; angle = 1 } ∷ [])
 
 abbrev pub codedMono : Setup
 codedMono = setupOf codedBook []

@@ -13,8 +13,8 @@ use Rattle.audio.specs.Packet.{Audio, standing}
 use Rattle.audio.specs.Tally.{finished}
 use Rattle.audio.specs.Call.{Room, Left, audioBy}
 use Rattle.audio.specs.Computation.{computation}
-use Rattle.audio.specs.ExampleSetup.{mono, stereo, small, smallMono}
-use Rattle.audio.specs.ExamplePackets.{last, roomOf, leftBy, shortAnswer, short, drawn, codewordsOfShort, long, longAnswer, uncoupled, of-one-channel}
+use Rattle.audio.specs.ExampleSetup.{stereo, small}
+use Rattle.audio.specs.ExamplePackets.{last, roomOf, leftBy, shortAnswer, short, drawn, codewordsOfShort, long, longAnswer, uncoupled}
 
 -- n 2048, short 256, both flags 0: left 448 to 576, right 1472 to 1600 (01)
 pub figure-window :
@@ -65,25 +65,34 @@ pub record PacketVectors : Type 0 where
   pub unsound : called (record { blocksize = 65; samples = 0 }) (0b1 ∷ []) room ≡ leftBy 18 (record { blocksize = 65; samples = 0 }) room
   pub too-many : called (last (2 ^ 64 - 32)) short room ≡ leftBy 19 (last (2 ^ 64 - 32)) room
   pub most : called (last (2 ^ 64 - 33)) short room .tally ≡ last (2 ^ 64 - 1)
-  -- CUT in the floor of channel 0: both are unused; just behind it: channel 1 is unused, and no codeword is read, though none would take a bit
+  -- CUT in the floor of channel 0, and just before its last value, which has one bit: both floors are unused
   pub in-floor :
       called (last 100) (take 1 short) room
       ≡ record { answer = shortAnswer 0 0; curves = replicate 66 0; codewords = replicate 18 0; tally = last 132 }
-  pub after-floor :
+  pub before-last-value :
       called (last 100) (take 2 short) room
-      ≡ record { answer = shortAnswer 1 0; curves = drawn ++ replicate 34 0; codewords = replicate 18 0; tally = last 132 }
+      ≡ record { answer = shortAnswer 0 0; curves = replicate 66 0; codewords = replicate 18 0; tally = last 132 }
+  -- cut in the floor of channel 1: it is unused, that of channel 0 stands, and no codeword is read
+  pub in-second-floor :
+      called (last 100) (take 3 long) (roomOf 128 1)
+      ≡ record {
+        answer = longAnswer 0;
+        curves = drawn ++ replicate 32 8 ++ replicate 64 0;
+        codewords = 0 ∷ [];
+        tally = record { blocksize = 128; samples = 148 };
+      }
   -- cut in a class word: both floors stand, flat from X 32 on
   pub in-class-word :
       called (last 100) long (roomOf 128 1)
       ≡ record {
-        answer = longAnswer;
+        answer = longAnswer 1;
         curves = drawn ++ replicate 32 8 ++ drawn ++ replicate 32 8;
         codewords = 0 ∷ [];
         tally = record { blocksize = 128; samples = 148 };
       }
-  -- cut in a vector: the class words before it are listed; exactly at the end of the packet a class word without bits is, and no vector
+  -- cut in a vector: the class words before it are listed; a class word whose one bit is missing, exactly at the end of the packet, is not
   pub in-vector : called (last 100) uncoupled room .codewords ≡ 4 ∷ 4 ∷ replicate 16 0
-  pub at-the-end : audioBy smallMono mono (last 100) of-one-channel room .codewords ≡ 4 ∷ replicate 17 0
+  pub at-the-end : called (last 100) (take 4 uncoupled) room .codewords ≡ 4 ∷ replicate 17 0
 
 pub packets : PacketVectors
 unfolding computation
@@ -102,7 +111,8 @@ packets =
       too-many = refl;
       most = refl;
       in-floor = refl;
-      after-floor = refl;
+      before-last-value = refl;
+      in-second-floor = refl;
       in-class-word = refl;
       in-vector = refl;
       at-the-end = refl;

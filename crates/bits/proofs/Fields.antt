@@ -1,6 +1,5 @@
 -- Laws of reading a field: whole or cut and never both, its value, where it ends, two reads in a row. Assumes nothing.
 use Prim.Native.Nat.{ℕ, zero, suc, _+_, _-_, _*_, _/_, _%_, _^_, _≤_, _<_}
-use native.Mathlib.Nat.{add-zero}
 use native.Mathlib.Omega.{arith}
 use mathlib.Core.List.{List}
 use mathlib.Core.Path.{_≡_, refl, ap, sym, _∙_}
@@ -55,11 +54,6 @@ module _ (s : List ℕ) (k w : ℕ) where
       go false p q = record { why = cc; past = leb-false _ _ p }
 
 module _ (s : List ℕ) where
-  -- no bits are always there, up to the end
-  pub field-none : (k : ℕ) → k ≤ 8 * length s → field 0 s k ≡ ok (0, k)
-  unfolding field valueAt
-  field-none k h = rw (add-zero, le-leb _ _ h)
-
   -- reading m and then n bits is reading m + n
   pub field-join : (k m n : ℕ) {v w j i : ℕ} → field m s k ≡ ok (v, j) → field n s j ≡ ok (w, i) → field (m + n) s k ≡ ok (v + w * 2 ^ m, i)
   field-join k m n {v} {w} {j} {i} p q =

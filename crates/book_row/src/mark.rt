@@ -1,5 +1,5 @@
-// The mark of a book in its row: whether it has a sole used entry of length 1, and which. Reading such an entry takes no bits (01, "Bits and books"), so
-// that a packet of a few bytes can ask for very many: each has to be found without a search.
+// The mark of a book in its row: whether it has a sole used entry of length 1, and which. Reading such an entry takes one bit, whatever it is
+// (02, wish 3), so that a packet can ask for as many as it has bits: each has to be found without a search.
 use reading::widths::wide_u32;
 ghost use mathlib.Core.Path.{_≡_};
 ghost use mathlib.Core.Bool.{true};

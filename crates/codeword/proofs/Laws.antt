@@ -1,6 +1,5 @@
 -- What reading a codeword promises (specs/Claims.antt), and reading from a packet that is cut. Assumes nothing.
 use Prim.Native.Nat.{ℕ, zero, suc, _+_, _-_, _*_, _/_, _^_, _≤_, _<_}
-use native.Mathlib.Nat.{add-zero}
 use native.Mathlib.Omega.{arith}
 use mathlib.Core.Bool.{Bool, true, false, cond, _&&_}
 use mathlib.Core.List.{List, []}
@@ -16,7 +15,7 @@ use Rattle.reading.specs.Reader.{mapped}
 use Rattle.reading.specs.Least.{lowest, Least}
 use Rattle.reading.proofs.Least.{lowest-some, lowest-ok, IsLowest, and-split, lt-or-le, true-or-false, no-true}
 use Rattle.bits.specs.Field.{field}
-use Rattle.bits.proofs.Fields.{field-none, field-ok}
+use Rattle.bits.proofs.Fields.{field-whole, field-cut, field-ok}
 use Rattle.bits.proofs.Cuts.{field-cut-packet}
 use Rattle.codeword_assignment.specs.Book.{used, isUsed, isLone, firstUsed, loneMark, orZero, ledgerCodewords, verdict, Begins, PrefixCode, Decodable}
 use Rattle.codespace.specs.Ledger.{share}
@@ -76,10 +75,15 @@ module _ (ls : List ℕ) (accepted : verdict ls ≡ Accepted) where
     unfolding codeword
     read-whole l = let u = b .used in rw l (found (len - 1) 0 (omega arith))
 
--- a lone entry
-pub read-lone : (ls s : List ℕ) (k : ℕ) → isLone (used ls) ≡ true → k ≤ 8 * length s → codeword ls s k ≡ ok (firstUsed ls, k)
-unfolding codeword mapped
-read-lone ls s k l h = rw (l, field-none s k h)
+-- a lone entry, and its missing bit
+module _ (ls s : List ℕ) (k : ℕ) (l : isLone (used ls) ≡ true) where
+  pub read-lone : k + 1 ≤ 8 * length s → codeword ls s k ≡ ok (firstUsed ls, k + 1)
+  unfolding codeword mapped
+  read-lone h = rw (l, field-whole s k loneBits h)
+
+  pub cut-lone : 8 * length s ≤ k → codeword ls s k ≡ bad (refusal 1 k)
+  unfolding codeword mapped
+  cut-lone h = rw (l, field-cut s k loneBits (omega arith))
 
 -- the entry that is read is used, and its codeword lies in the packet whole
 matched-used : (ls s : List ℕ) (k : ℕ) (m n e i : ℕ) → matching ls n m s k ≡ ok (e, i) → (e < length ls) × (0 < getD ls e 0) × (i ≤ 8 * length s)
@@ -121,9 +125,9 @@ first-used ls l = go (lowest (isUsed ls) (length ls)) (lowest-ok (isUsed ls) (le
 
 pub read-used : (ls s : List ℕ) (k e n : ℕ) → codeword ls s k ≡ ok (e, n) → (e < length ls) × (0 < getD ls e 0) × (n ≤ 8 * length s)
 unfolding codeword mapped
-read-used ls s k e n q = go (isLone (used ls)) refl (field 0 s k) refl q
+read-used ls s k e n q = go (isLone (used ls)) refl (field loneBits s k) refl q
   where
-    go : (t : Bool) → isLone (used ls) ≡ t → (o : Outcome (ℕ × ℕ)) → field 0 s k ≡ o
+    go : (t : Bool) → isLone (used ls) ≡ t → (o : Outcome (ℕ × ℕ)) → field loneBits s k ≡ o
         → cond t (mapped (λ _. firstUsed ls) o) (matching ls 0 32 s k) ≡ ok (e, n) → (e < length ls) × (0 < getD ls e 0) × (n ≤ 8 * length s)
     go false l o p q = matched-used ls s k 32 0 e n q
     go true l (ok x) p q =
@@ -131,7 +135,7 @@ read-used ls s k e n q = go (isLone (used ls)) refl (field 0 s k) refl q
         let z : firstUsed ls ≡ e = ap (λ (p : ℕ × ℕ). p .0) y in
         let i : x .1 ≡ n = ap (λ (p : ℕ × ℕ). p .1) y in
         let u = first-used ls l in
-        (rw (← z) (u .0), rw (← z) (u .1), rw (← i) (field-ok s k 0 p .within))
+        (rw (← z) (u .0), rw (← z) (u .1), rw (← i) (field-ok s k loneBits p .within))
     go true l (bad z) p q = let c : _≡_ {A = ℕ} 0 1 = cc in absurd (omega arith)
 
 -- A PACKET CUT after any byte gives the same entry, or a cut
@@ -164,12 +168,12 @@ module _ (ls s : List ℕ) (b k : ℕ) where
 
   pub codeword-cut-packet : (codeword ls (take b s) k ≡ codeword ls s k) ⊎ (codeword ls (take b s) k ≡ bad (refusal 1 k))
   unfolding codeword mapped
-  codeword-cut-packet = go (isLone (used ls)) (same-or-cut 32 0) (field-cut-packet s b 0 k)
+  codeword-cut-packet = go (isLone (used ls)) (same-or-cut 32 0) (field-cut-packet s b loneBits k)
     where
       go : (t : Bool) → (matching ls 0 32 (take b s) k ≡ matching ls 0 32 s k) ⊎ (matching ls 0 32 (take b s) k ≡ bad (refusal 1 k))
-          → (field 0 (take b s) k ≡ field 0 s k) ⊎ (field 0 (take b s) k ≡ bad (refusal 1 k))
-          → (cond t (mapped (λ _. firstUsed ls) (field 0 (take b s) k)) (matching ls 0 32 (take b s) k) ≡ cond t (mapped (λ _. firstUsed ls) (field 0 s k)) (matching ls 0 32 s k))
-          ⊎ (cond t (mapped (λ _. firstUsed ls) (field 0 (take b s) k)) (matching ls 0 32 (take b s) k) ≡ bad (refusal 1 k))
+          → (field loneBits (take b s) k ≡ field loneBits s k) ⊎ (field loneBits (take b s) k ≡ bad (refusal 1 k))
+          → (cond t (mapped (λ _. firstUsed ls) (field loneBits (take b s) k)) (matching ls 0 32 (take b s) k) ≡ cond t (mapped (λ _. firstUsed ls) (field loneBits s k)) (matching ls 0 32 s k))
+          ⊎ (cond t (mapped (λ _. firstUsed ls) (field loneBits (take b s) k)) (matching ls 0 32 (take b s) k) ≡ bad (refusal 1 k))
       go false h f = h
       go true h (inl p) = inl (ap (mapped (λ _. firstUsed ls)) p)
       go true h (inr p) = inr (ap (mapped (λ _. firstUsed ls)) p)
@@ -183,6 +187,7 @@ settled ls accepted =
           let b = d .complete l (bitsAt s k 32) (bits-lt s k 32) in
           (b .0, b .1, (λ f g. d .prefixCode .atMostOne (bitsAt s k 32) f (b .0) g (b .1)), read-whole ls accepted s k h (b .0) (b .1) l);
       lone = λ l s k h. read-lone ls s k l h;
+      lone-cut = λ l s k h. cut-lone ls s k l h;
       used = λ s k e n q. let u = read-used ls s k e n q in (u .0, u .1);
       within = λ s k e n q. read-used ls s k e n q .2;
       cut = λ s b k. codeword-cut-packet ls s b k;

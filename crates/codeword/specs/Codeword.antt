@@ -38,9 +38,9 @@ matching lengths n (suc m) s k =
     need (ltb (k + n) (8 * length s)) (refusal 1 k)
     (orGoOn (entryOf lengths (suc n) (bitsAt s k (suc n))) (k + suc n) (matching lengths (suc n) m s k))
 
--- how many bits a sole used entry takes (01; 000, 3.2.1)
+-- how many bits a sole used entry takes, whatever they are (02, wish 3, in place of 01's and 000's 0 bits: docs/DECISIONS.md)
 abbrev pub loneBits : ℕ
-loneBits = 0
+loneBits = 1
 
 -- ONE CODEWORD: its entry, with the position behind it, or the cut. 32 bits always settle it
 unfoldable pub codeword : List ℕ → Reader ℕ

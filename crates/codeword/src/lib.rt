@@ -38,11 +38,11 @@ pub fn read_codeword(
     match_codeword(packet, from, lengths, codewords)
 }
 
-// A sole used entry takes no bits.
+// A sole used entry takes one bit, which may be either (02, wish 3).
 fn lone_entry(packet: &[u8], from: Cursor, entry: u32) -> Field
     ensures { λ r. ⌜ outcome r ≡ mapped (λ _. entry) (field loneBits (now (packet .entry)) (position from)) ⌝ }
 {
-    match from.field(packet, 0) {
+    match from.field(packet, 1) {
         Field::Refused(z) => Field::Refused(z),
         Field::Value(_, next) => Field::Value(entry, next),
     }

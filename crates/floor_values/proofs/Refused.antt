@@ -11,7 +11,7 @@ use Rattle.reading.specs.Outcome.{Refusal, refusal, Outcome, ok, bad, then, nee
 use Rattle.reading.specs.Reader.{Reader, many, each, mapped}
 use Rattle.bits.specs.Field.{valueAt, field}
 use Rattle.codeword_assignment.specs.Book.{used, isLone, firstUsed}
-use Rattle.codeword.specs.Codeword.{bitsAt, entryOf, orGoOn, matching, codeword}
+use Rattle.codeword.specs.Codeword.{bitsAt, entryOf, orGoOn, matching, loneBits, codeword}
 use Rattle.floor.specs.Content.{Class, noClass, Floor}
 use Rattle.floor_partition.specs.Partition.{classValue, chosen, value, partition, whole}
 use Rattle.floor_values.specs.Values.{firstBits, partitionOf, usedValues, floorValues}
@@ -57,7 +57,7 @@ module _ (s : List ℕ) where
   codeword-cut : (ls : List ℕ) (k : ℕ) → Cut (codeword ls s k)
   unfolding codeword
   codeword-cut ls k =
-      cond-cut (isLone (used ls)) (mapped (λ _. firstUsed ls) (field 0 s k)) (matching ls 0 32 s k) (mapped-cut (λ _. firstUsed ls) (field 0 s k) (field-cut 0 k)) (matching-cut ls k 32 0)
+      cond-cut (isLone (used ls)) (mapped (λ _. firstUsed ls) (field loneBits s k)) (matching ls 0 32 s k) (mapped-cut (λ _. firstUsed ls) (field loneBits s k) (field-cut loneBits k)) (matching-cut ls k 32 0)
 
   many-cut : {A : Type 0} (r : Reader A) → ((k : ℕ) → Cut (r s k)) → (n k : ℕ) → Cut (many r n s k)
   unfolding many

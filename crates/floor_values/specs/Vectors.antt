@@ -1,4 +1,4 @@
--- Worked examples. The books have a sole used entry each, which takes no bits: book 0 gives 2, every other book gives 1.
+-- Worked examples. The books have a sole used entry each, which takes one bit: book 0 gives 2, every other book gives 1.
 use Prim.Native.Nat.{ℕ, zero, suc}
 use mathlib.Core.List.{List, [], _∷_, map}
 use mathlib.Core.Option.{none, some}
@@ -32,8 +32,11 @@ floor =
     }
 
 pub record ValueVectors : Type 0 where
-  -- the flag, 5 and 33 in 6 bits each; then the class value 2, whose digits 0 and 1 choose no book and book 1
-  pub used-floor : floorValues lengthsOf floor (139 ∷ 16 ∷ []) 0 ≡ ok (some (5 ∷ 33 ∷ 0 ∷ 1 ∷ []), 13)
+  -- the flag, 5 and 33 in 6 bits each; then the class value 2, by a 1, whose digits 0 and 1 choose no book and book 1, by a 0
+  pub used-floor : floorValues lengthsOf floor (0b10001011 ∷ 0b00110000 ∷ []) 0 ≡ ok (some (5 ∷ 33 ∷ 0 ∷ 1 ∷ []), 15)
+  -- the same from bit 2 on and from bit 3 on: the packet ends before the bit of the second value, and before that of the class value
+  pub cut-value : floorValues lengthsOf floor (0b00101100 ∷ 0b11000010 ∷ []) 2 ≡ bad (refusal 1 16)
+  pub cut-class-value : floorValues lengthsOf floor (0b01011000 ∷ 0b10000100 ∷ []) 3 ≡ bad (refusal 1 16)
   -- the second value is cut after its first bit
   pub cut-floor : floorValues lengthsOf floor (139 ∷ []) 0 ≡ bad (refusal 1 7)
   pub unused-floor : floorValues lengthsOf floor (138 ∷ []) 0 ≡ ok (none, 1)
@@ -43,4 +46,4 @@ pub record ValueVectors : Type 0 where
 
 pub vectors : ValueVectors
 unfolding floorValues usedValues firstBits classValue chosen value partition partitionOf whole many each mapped rows field valueAt bitAt ilog highestSet rangeOf codeword firstUsed used isUsed isLone lowest
-vectors = record { used-floor = refl; cut-floor = refl; unused-floor = refl; no-flag = refl; first-bits = refl }
+vectors = record { used-floor = refl; cut-value = refl; cut-class-value = refl; cut-floor = refl; unused-floor = refl; no-flag = refl; first-bits = refl }

@@ -17,7 +17,7 @@ unfoldable pub read : (ℕ → List ℕ) → Request → Reader ℕ
 read lengthsOf (number width) = field width
 read lengthsOf (word book role) = codeword (lengthsOf book)
 
--- how many bits carry an answer: a field's width, a codeword's length; a sole used entry takes none (000, 3.2.1)
+-- how many bits carry an answer: a field's width, a codeword's length; those of a sole used entry (02, wish 3)
 unfoldable pub bitsOf : (ℕ → List ℕ) → Request → ℕ → ℕ
 bitsOf lengthsOf (number width) v = width
 bitsOf lengthsOf (word book role) e = cond (isLone (used (lengthsOf book))) loneBits (getD (lengthsOf book) e 0)

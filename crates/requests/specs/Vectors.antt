@@ -16,7 +16,7 @@ use Rattle.requests.specs.Run.{read, item, ended, run}
 use Rattle.requests.specs.Values.{wholeValues}
 use Rattle.requests.specs.Refusing.{andThen, inTurn, valuesOf, cameTo}
 
--- every book has a sole used entry, its second, which takes no bits (000, 3.2.1)
+-- every book has a sole used entry, its second, which takes one bit, of either value (02, wish 3)
 abbrev lengthsOf : ℕ → List ℕ
 lengthsOf b = 0 ∷ 1 ∷ []
 
@@ -34,13 +34,18 @@ pub record RunVectors : Type 0 where
       ≡ ended (item (number 2) 2 ∷ item (number 3) 6 ∷ item (number 3) 5 ∷ []) 8 (some (6 ∷ 5 ∷ []))
   -- three such trees, of numbers of 3, 8 and 0 bits: the second is cut behind its count
   pub whole-before-cut : wholeValues (read lengthsOf) (λ w. bind (request (number 2)) (λ n. many (request (number w)) n)) (3 ∷ 8 ∷ 0 ∷ []) (0b10111010 ∷ 1 ∷ []) 0 ≡ (6 ∷ 5 ∷ []) ∷ []
-  -- a sole entry stands at the exact end of a packet too, but not behind a cut
+  -- a sole entry is read by a 1, by a 0, and by the packet's last bit
   pub lone :
-      run (read lengthsOf) (bind (many (request (word 3 floor)) 2) (λ _. bind (request (number 8)) (λ _. request (word 5 class)))) (9 ∷ []) 0
-      ≡ ended (item (word 3 floor) 1 ∷ item (word 3 floor) 1 ∷ item (number 8) 9 ∷ item (word 5 class) 1 ∷ []) 8 (some 1)
+      run (read lengthsOf) (bind (many (request (word 3 floor)) 2) (λ _. bind (request (number 5)) (λ _. request (word 5 class)))) (0b01001101 ∷ []) 0
+      ≡ ended (item (word 3 floor) 1 ∷ item (word 3 floor) 1 ∷ item (number 5) 19 ∷ item (word 5 class) 1 ∷ []) 8 (some 1)
+  -- at the exact end of a packet it is cut, where a number of 0 bits is there
+  pub lone-at-the-end : run (read lengthsOf) (bind (request (number 8)) (λ _. request (word 5 class))) (9 ∷ []) 0 ≡ ended (item (number 8) 9 ∷ []) 8 none
+  pub no-bits-at-the-end :
+      run (read lengthsOf) (bind (request (number 8)) (λ _. request (number 0))) (9 ∷ []) 0 ≡ ended (item (number 8) 9 ∷ item (number 0) 0 ∷ []) 8 (some 0)
+  -- behind a cut it is not read, though there are bits
   pub lone-after-cut :
       run (read lengthsOf) (bind (request (word 3 (vector first))) (λ _. bind (request (number 9)) (λ _. request (word 5 (vector first))))) (9 ∷ []) 0
-      ≡ ended (item (word 3 (vector first)) 1 ∷ []) 0 none
+      ≡ ended (item (word 3 (vector first)) 1 ∷ []) 1 none
 
 -- a number of w bits, which refuses 3 with number 21
 abbrev notThree : ℕ → Requests (Outcome ℕ)
@@ -59,7 +64,7 @@ pub record RefusingVectors : Type 0 where
 
 pub runs : RunVectors
 unfolding wholeValues run read request bind many each field valueAt bitAt codeword mapped used isUsed isLone firstUsed lowest
-runs = record { cut = refl; counted = refl; whole-before-cut = refl; lone = refl; lone-after-cut = refl }
+runs = record { cut = refl; counted = refl; whole-before-cut = refl; lone = refl; lone-at-the-end = refl; no-bits-at-the-end = refl; lone-after-cut = refl }
 
 pub refusing : RefusingVectors
 unfolding wholeValues run read request bind field valueAt bitAt mapped andThen inTurn valuesOf cameTo

@@ -13,7 +13,7 @@ use Rattle.codeword_assignment.specs.declared.book.Assigned.the-variants.{Accep
 use Rattle.codespace.proofs.Claimed.{balanced}
 use Rattle.codeword_assignment.proofs.Laws.{exactly-one-entry}
 use Rattle.codeword.specs.Codeword.{codeword}
-use Rattle.codeword.proofs.Laws.{read-whole, read-lone}
+use Rattle.codeword.proofs.Laws.{read-whole, read-lone, cut-lone}
 use Rattle.book.specs.Content.{Book}
 use Rattle.book.specs.HeadReading.{Before}
 use Rattle.book.specs.Reading.{andThis}
@@ -62,6 +62,7 @@ module _ {limits : Limits} {i : Identity} {t : Tables} {b : ℕ} (ls : List ℕ)
               (λ s k there same. call s k ∙ read-whole ls accepted s k there (one .0) (subst (λ (v : ℕ). Begins ls (ledgerCodewords ls) v (one .0)) (sym same) (one .1 .0)) (full-not-lone ls free)),
             );
         lone = λ l s k h. call s k ∙ read-lone ls s k l h;
+        lone-cut = λ l s k h. call s k ∙ cut-lone ls s k l h;
       }
 
 -- an accepted call left sound tables, whose content is what was read

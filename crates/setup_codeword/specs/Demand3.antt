@@ -1,4 +1,4 @@
--- DEMAND 3, WHOLE: code space balances like a quota, and a book of an accepted setup is read by it (01, demand 3; "Bits and books").
+-- DEMAND 3, WHOLE: code space balances like a quota, and a book of an accepted setup is read by it (01, demand 3, as 02, wish 3, amends it; "Bits and books").
 -- The ledger and its claim over a whole list of lengths, `Balanced`: crates/codespace/specs/Ledger.antt and Claims.antt. Entering, the program's
 -- call for one length, answers as the ledger does: crates/codespace/src/space.rt.
 use Prim.Native.Nat.{ℕ, _+_, _*_, _≤_, _<_}
@@ -6,7 +6,7 @@ use mathlib.Core.Bool.{true}
 use mathlib.Core.List.{List, []}
 use mathlib.Core.Path.{_≡_}
 use lib.ListN.{length, getD}
-use Rattle.reading.specs.Outcome.{Outcome, ok}
+use Rattle.reading.specs.Outcome.{refusal, Outcome, ok, bad}
 use Rattle.limits.specs.declared.Limits.{Limits}
 use Rattle.identification.specs.declared.Identity.{Identity}
 use Rattle.codespace.specs.Ledger.{answers}
@@ -35,8 +35,9 @@ pub record BookDecodes (limits : Limits) (i : Identity) (t : Tables) (b : ℕ) (
       × Begins ls (ledgerCodewords ls) string e
       × ((f : ℕ) → Begins ls (ledgerCodewords ls) string f → f ≡ e)
       × ((s : List ℕ) (k : ℕ) → k + 32 ≤ 8 * length s → bitsAt s k 32 ≡ string → codewordCall limits i t b s k ≡ ok (e, k + getD ls e 0))
-  -- a lone entry of length one is given for every string, and takes none of its bits
-  pub lone : isLone (used ls) ≡ true → (s : List ℕ) (k : ℕ) → k ≤ 8 * length s → codewordCall limits i t b s k ≡ ok (firstUsed ls, k)
+  -- every string's first bit, alone taken, leads to a lone entry of length one; where no bit is left, the call gives the cut
+  pub lone : isLone (used ls) ≡ true → (s : List ℕ) (k : ℕ) → k + 1 ≤ 8 * length s → codewordCall limits i t b s k ≡ ok (firstUsed ls, k + 1)
+  pub lone-cut : isLone (used ls) ≡ true → (s : List ℕ) (k : ℕ) → 8 * length s ≤ k → codewordCall limits i t b s k ≡ bad (refusal 1 k)
 
 pub record Demand3 (limits : Limits) : Type 0 where
   -- every list of lengths, entered one by one from an empty space, refused ones included; `torchvalley_enter_lengths` gives these answers

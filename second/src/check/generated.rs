@@ -133,7 +133,8 @@ impl Check {
         claim(read == Err(Refusal::without_place(18)), || "unsound identity".into())
     }
 
-    /// Codewords are those of the ledger, and each one leads to its entry.
+    /// Codewords are those of the ledger, and each one leads to its entry; to a sole used entry
+    /// either bit leads (02, wish 3).
     fn book(&mut self, book: &Book, random: &mut Random) -> Result<(), String> {
         let lengths = book.lengths();
         let Verdict::Accepted(codewords) = verdict(lengths) else {
@@ -149,11 +150,13 @@ impl Check {
             let lead = random.below(20);
             let mut writer = BitWriter::default();
             writer.field(0, lead);
-            writer.codeword(codeword);
+            match used.len() {
+                1 => writer.bit(random.below(2)),
+                _ => writer.codeword(codeword),
+            }
             let packet = writer.finish().bytes;
-            let taken = if used.len() == 1 { 0 } else { codeword.length };
             let read = read_codeword(lengths, &packet, u64::from(lead));
-            let expected = (entry, u64::from(lead + taken));
+            let expected = (entry, u64::from(lead + codeword.length));
             claim(read == Some(Ok(expected)), || format!("{lengths:?} {codeword:?} read as {read:?}"))?;
             self.seen.codewords += 1;
         }

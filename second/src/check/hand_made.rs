@@ -159,7 +159,7 @@ pub fn most() -> HandMade {
             making = making
                 .record(SETUP, &lone_setup(residue_type, 0xFF_FFFF, passes), "setup books 1 modes 1")
                 .record(AUDIO, &NO_FLOOR, "audio block 8192 samples 0 words 0")
-                .record(AUDIO, &ONE_FLOOR, "refused 17")
+                .record(AUDIO, &one_floor(32_768 * (1 + passes)), "refused 17")
                 .record(AUDIO, &NO_FLOOR, "audio block 8192 samples 4096 words 0");
         }
     }
@@ -407,23 +407,25 @@ fn words() -> HandMade {
         .end("words of a packet cut after every byte")
 }
 
-/// 16,384 places are enough for as many words, and one word more is 17; the tally stays then.
+/// 16,384 places are enough for as many words, and one word more is 17; the tally stays then. A
+/// packet that ends in front of them has as many words as bits.
 fn class_words_to_the_last_place() -> HandMade {
     let exact = "audio block 8192 samples 4096 words 16384";
     Making::default()
         .record(IDENTIFICATION, &large_identification(), LARGE_LINE)
         .record(SETUP, &lone_setup(2, 16_384, 0), "setup books 1 modes 1")
-        .record(AUDIO, &ONE_FLOOR, "audio block 8192 samples 0 words 16384")
-        .record(AUDIO, &ONE_FLOOR, exact)
+        .record(AUDIO, &one_floor(16_384), "audio block 8192 samples 0 words 16384")
+        .record(AUDIO, &filled(&one_floor(16_384), 3_000), exact)
+        .record(AUDIO, &one_floor(16_384 - 8), "audio block 8192 samples 4096 words 16381")
         .record(AUDIO, &NO_FLOOR, "audio block 8192 samples 4096 words 0")
         .record(SETUP, &lone_setup(2, 16_385, 0), "setup books 1 modes 1")
-        .record(AUDIO, &ONE_FLOOR, "refused 17")
-        .record(AUDIO, &NO_FLOOR, "audio block 8192 samples 0 words 0")
-        .record(AUDIO, &ONE_FLOOR, "refused 17")
+        .record(AUDIO, &one_floor(16_385), "refused 17")
+        .record(AUDIO, &one_floor(0), "audio block 8192 samples 0 words 5")
+        .record(AUDIO, &one_floor(16_385), "refused 17")
         .record(AUDIO, &NO_FLOOR, "audio block 8192 samples 4096 words 0")
         .record(SETUP, &lone_setup(1, 2_048, 0), "setup books 1 modes 1")
-        .record(AUDIO, &ONE_FLOOR, "audio block 8192 samples 0 words 16384")
-        .record(AUDIO, &ONE_FLOOR, exact)
+        .record(AUDIO, &one_floor(16_384), "audio block 8192 samples 0 words 16384")
+        .record(AUDIO, &one_floor(16_384), exact)
         .end("16,384 words and one more")
 }
 
@@ -475,13 +477,18 @@ fn large_identification() -> Vec<u8> {
     write_identification(&Identity { channels: 8, block_sizes: [8_192, 8_192], ..IDENTITY }).bytes
 }
 
-/// Type and window flags 0, a used floor of two Y, seven unused ones.
-const ONE_FLOOR: [u8; 4] = [8, 0, 0, 0];
+/// Type and window flags 0, a used floor of two Y, seven unused ones: 27 bits, and behind them
+/// as many for words, up to the end of the byte, of both values.
+fn one_floor(words: usize) -> Vec<u8> {
+    let mut packet = vec![0xA8; (27 + words).div_ceil(8)];
+    packet[..3].copy_from_slice(&[8, 0, 0]);
+    packet
+}
 
 /// Eight unused floors.
 const NO_FLOOR: [u8; 2] = [0, 0];
 
-/// One book with one used entry, which is read without bits: a class word for each place up to
+/// One book with one used entry, which takes one bit: a class word for each place up to
 /// `end`, and a vector in each of the passes. All channels are coupled to the first.
 fn lone_setup(residue_type: u32, end: u32, passes: usize) -> Vec<u8> {
     let values =

@@ -25,8 +25,8 @@ pub fn boundaries(random: &mut Random, report: &mut Report) -> Result<(), String
     orders(reader)?;
     around_small_packets(random, reader)?;
     tables_and_identities(reader)?;
-    lone_entries(reader)?;
-    ranges(reader)?;
+    lone_entries(random, reader)?;
+    ranges(random, reader)?;
     channels_and_submaps(random, reader)?;
     largest(random, reader)?;
     every_cut(random, reader)
@@ -232,32 +232,54 @@ const LONE: [Lone; 15] = [
 const LARGE: identification::Identity =
     identification::Identity { channels: 8, block_sizes: [8_192, 8_192], ..IDENTITY };
 
-/// Lone entries take no bits: a packet of floors alone asks for any number of places. Where it
-/// is cut in a floor, it asks for none.
-fn lone_entries(reader: &mut Reader) -> Result<(), String> {
+/// A lone entry takes one bit, whatever it is: a packet asks for as many places as it has bits
+/// behind the floors, up to what the residue asks for, and a missing bit ends it. Where it is
+/// cut in a floor, it asks for none.
+fn lone_entries(random: &mut Random, reader: &mut Reader) -> Result<(), String> {
     for lone in &LONE {
         for (entries, used) in [(1, 8), (3, 1)] {
             let held = &Held::new(&LARGE, lone.content(entries)?);
-            let floors = (0..8).flat_map(|channel| match channel < used {
-                true => vec![(1, 1), (17 * channel, 8), (255 - channel, 8)],
-                false => vec![(0, 1)],
-            });
-            let fields: Vec<_> = [(0, 1), (3, 2)].into_iter().chain(floors).collect();
-            let packet = pack(&fields);
-            let mut rooms = vec![lone.words, lone.words + 1, TOOL.words, TOOL.words + 1, 0, MOST_WORDS];
-            rooms.extend(lone.words.checked_sub(1));
-            for words in rooms {
-                let case = held.case(Tally::default(), &packet, Places { words, ..TOOL });
-                let number = if words < lone.words { 17 } else { 0 };
-                expect(&format!("{} words of lone entries", lone.words), number, &case, reader)?;
+            let floors = floors_of_eight(used);
+            let bits: usize = floors.iter().map(|&(_, width)| width as usize).sum();
+            let words = random.bytes(lone.words / 8 + 2).into_iter().map(|byte| (byte.into(), 8));
+            let packet = pack(&floors.into_iter().chain(words).collect::<Vec<_>>());
+            let (first, last) = (bits.div_ceil(8), (bits + lone.words).div_ceil(8));
+            for length in [first, first + 1, last - 1, last, last + 1] {
+                let words = lone.words.min((8 * length).saturating_sub(bits));
+                lone_words(held, &packet[..length], words, reader)?;
             }
-            for length in 1..packet.len() {
+            for length in 1..first {
                 let case = held.case(Tally::default(), &packet[..length], Places { words: 0, ..TOOL });
                 expect("lone entries behind a cut floor", 0, &case, reader)?;
             }
         }
     }
     Ok(())
+}
+
+/// The packet has so many codewords: accepted with room for them, and 17 with less.
+fn lone_words(held: &Held, packet: &[u8], words: usize, reader: &mut Reader) -> Result<(), String> {
+    let rooms = [words, words + 1, words.saturating_sub(1), TOOL.words, TOOL.words + 1, 0, MOST_WORDS];
+    for room in rooms {
+        let case = held.case(Tally::default(), packet, Places { words: room, ..TOOL });
+        let (answer, _) = reader.read(&case)?;
+        let right = if room < words { (17, 0) } else { (0, words as u64) };
+        if (answer.refusal, answer.codewords) != right {
+            let given = (answer.refusal, answer.codewords);
+            return Err(format!("{words} lone entries in room for {room}: both give {given:?}"));
+        }
+    }
+    Ok(())
+}
+
+/// A packet's fields up to its residue: the type, both window flags, and the floors of eight
+/// channels, of which the first so many are used.
+fn floors_of_eight(used: u32) -> Vec<(u32, u32)> {
+    let floors = (0..8).flat_map(|channel| match channel < used {
+        true => vec![(1, 1), (17 * channel, 8), (255 - channel, 8)],
+        false => vec![(0, 1)],
+    });
+    [(0, 1), (3, 2)].into_iter().chain(floors).collect()
 }
 
 impl Lone {
@@ -286,10 +308,11 @@ impl Lone {
 }
 
 /// Begin and end on both sides of half a block and of a submap's whole size, with class words
-/// that take no bits: one for each partition.
-fn ranges(reader: &mut Reader) -> Result<(), String> {
+/// of one bit: one for each partition.
+fn ranges(random: &mut Random, reader: &mut Reader) -> Result<(), String> {
     let identity = &identification::Identity { channels: 4, block_sizes: [64, 64], ..IDENTITY };
-    let packet = pack(&[(0, 1), (0, 2), (1, 1), (9, 8), (99, 8), (0, 1), (1, 1), (7, 8), (77, 8), (0, 1)]);
+    let floors = [(0, 1), (0, 2), (1, 1), (9, 8), (99, 8), (0, 1), (1, 1), (7, 8), (77, 8), (0, 1)];
+    let packet = [pack(&floors), random.bytes(16)].concat();
     let bounds = [0, 1, 31, 32, 33, 63, 64, 65, 127, 128, 129, 0xFF_FFFF];
     for residue_type in 0..3 {
         // One vector of four channels, or two vectors, which are live.
@@ -367,8 +390,7 @@ fn mapping(couplings: Vec<(u8, u8)>, multiplex: Vec<u8>) -> Mapping {
 
 /// Three residues of one type. The first has class words of two digits, and two vector books
 /// in pass 0, so that the order of partitions and vectors shows; so has the last, which begins
-/// late and ends past every block. The one between them has lone entries alone, which are not
-/// read behind a cut either.
+/// late and ends past every block. The one between them has lone entries alone.
 fn chained(residue_type: u32, mapping: Mapping) -> Result<Setup, String> {
     let mut plan = vec![[None; PASSES]; 2];
     plan[0][0] = Some(1);

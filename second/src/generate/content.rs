@@ -106,7 +106,7 @@ fn books(random: &mut Random) -> Vec<Book> {
     }
 }
 
-/// Books that are read without bits: with large blocks, words without end.
+/// Books of which each entry takes one bit: with large blocks, as many words as a packet has bits.
 fn lone_books(random: &mut Random) -> Vec<Book> {
     (0..random.between(1, 4)).map(|_| lone_book(random)).collect()
 }

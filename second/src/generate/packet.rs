@@ -196,15 +196,16 @@ struct Run<'a> {
 }
 
 impl Run<'_> {
-    /// Writes a random entry's codeword, nothing for a lone entry.
+    /// Writes a random entry's codeword, for a lone entry either bit.
     fn entry(&mut self, codes: &[(u32, Codeword)]) -> u32 {
         let mut place = self.random.place(codes.len());
         if !self.uniform {
             place = self.random.place(place + 1);
         }
         let (entry, codeword) = codes[place];
-        if codes.len() > 1 {
-            self.writer.codeword(codeword);
+        match codes.len() {
+            1 => self.writer.bit(self.random.below(2)),
+            _ => self.writer.codeword(codeword),
         }
         entry
     }

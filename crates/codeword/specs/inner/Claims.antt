@@ -15,8 +15,9 @@ pub record Settled (lengths : List ℕ) : Type 0 where
       → (e : ℕ) × Begins lengths (ledgerCodewords lengths) (bitsAt s k 32) e
       × ((f : ℕ) → Begins lengths (ledgerCodewords lengths) (bitsAt s k 32) f → f ≡ e)
       × (codeword lengths s k ≡ ok (e, k + getD lengths e 0))
-  -- a lone entry is given for every string and takes none of its bits, at the very end of the packet too
-  pub lone : isLone (used lengths) ≡ true → (s : List ℕ) (k : ℕ) → k ≤ 8 * length s → codeword lengths s k ≡ ok (firstUsed lengths, k)
+  -- every string's first bit, alone taken, leads to the lone entry; where no bit is left, it is the cut
+  pub lone : isLone (used lengths) ≡ true → (s : List ℕ) (k : ℕ) → k + 1 ≤ 8 * length s → codeword lengths s k ≡ ok (firstUsed lengths, k + 1)
+  pub lone-cut : isLone (used lengths) ≡ true → (s : List ℕ) (k : ℕ) → 8 * length s ≤ k → codeword lengths s k ≡ bad (refusal 1 k)
   -- the entry that is read is used
   pub used : (s : List ℕ) (k e n : ℕ) → codeword lengths s k ≡ ok (e, n) → (e < length lengths) × (0 < getD lengths e 0)
   -- and its codeword lies in the packet whole: a cut codeword is no entry
