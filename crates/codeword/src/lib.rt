@@ -7,6 +7,7 @@ use bits::Field;
 use bits::Refusal;
 use reading::widths::wide_u8;
 use unused::past_unused;
+use window::Window;
 use window::window_at;
 ghost use mathlib.Core.Path.{_≡_};
 ghost use Prim.Native.Nat.{_+_, _/_, _%_, _^_, _<_};
@@ -18,9 +19,11 @@ ghost use Rattle.codeword_assignment.specs.Book.{loneMark};
 ghost use Rattle.codeword.specs.Codeword.{codeword, loneBits, matching};
 ghost use Rattle.codeword.specs.inner.Book.{Codebook};
 ghost use Rattle.codeword.specs.inner.Claims.{Settled};
+ghost use Rattle.codeword.specs.inner.Window.{NextBits};
 
 // The entry whose codeword stands at the cursor, with the position behind it; or the cut, where the packet ends within the codeword. `lone` is the
-// number of the book's sole used entry of length 1 plus one, or 0 where it has none.
+// number of the book's sole used entry of length 1 plus one, or 0 where it has none. The next bits are taken before the two cases part: a caller's
+// loop then stays one loop, where two would leave the search fewer registers. The cases look at these bits alone; the packet is handed on for their contracts.
 pub fn read_codeword(
     packet: &[u8],
     from: Cursor,
@@ -32,30 +35,37 @@ pub fn read_codeword(
     ensures { λ r. ⌜ outcome r ≡ codeword (now (lengths .entry)) (now (packet .entry)) (position from) ⌝ }
     ensures { λ _. ⌜ Settled (now (lengths .entry)) ⌝ }
 {
+    let next = window_at(packet, from);
     if lone != 0 {
-        return lone_entry(packet, from, lone - 1);
+        return lone_entry(packet, from, next, lone - 1);
     }
-    match_codeword(packet, from, lengths, codewords)
+    match_codeword(packet, from, next, lengths, codewords)
 }
 
-// A sole used entry takes one bit, which may be either (02, wish 3).
-fn lone_entry(packet: &[u8], from: Cursor, entry: u32) -> Field
+// A sole used entry takes one bit, which may be either (02, wish 3): it is there where a bit is.
+fn lone_entry(packet: &[u8], from: Cursor, next: Window, entry: u32) -> Field
+    requires { ⌜ NextBits (now packet) (position from) (next .count) (next .bits) ⌝ }
     ensures { λ r. ⌜ outcome r ≡ mapped (λ _. entry) (field loneBits (now (packet .entry)) (position from)) ⌝ }
 {
-    match from.field(packet, 1) {
-        Field::Refused(z) => Field::Refused(z),
-        Field::Value(_, next) => Field::Value(entry, next),
+    if next.count == 0 {
+        return cut(from);
     }
+    Field::Value(entry, after(from, 1))
 }
 
 // Bits are taken one at a time until they are an entry's codeword. An entry whose codeword does not begin with the bits taken so far does not
 // begin with more of them either, so the entry search goes on where it stopped: it passes each entry once a codeword, not once a bit. Behind an entry
 // that is too short there are often many unused ones.
-fn match_codeword(packet: &[u8], from: Cursor, lengths: &[u8], codewords: &[u32]) -> Field
-    requires { ⌜ Codebook (now lengths) (now codewords) ⌝ }
+fn match_codeword(
+    packet: &[u8],
+    from: Cursor,
+    next: Window,
+    lengths: &[u8],
+    codewords: &[u32],
+) -> Field
+    requires { ⌜ Codebook (now lengths) (now codewords) × NextBits (now packet) (position from) (next .count) (next .bits) ⌝ }
     ensures { λ r. ⌜ outcome r ≡ matching (now (lengths .entry)) 0 32 (now (packet .entry)) (position from) ⌝ }
 {
-    let next = window_at(packet, from);
     let mut word: u32 = 0;
     let mut taken: usize = 0;
     let mut entry: usize = 0;

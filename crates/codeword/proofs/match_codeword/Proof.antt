@@ -9,19 +9,16 @@ use Rattle.codeword.proofs.match_codeword.Statement.{statement}
 use Rattle.codeword.proofs.match_codeword.Tie as tie
 
 abbrev Inv-entry : tie.InvT-entry
-Inv-entry packet from lengths codewords next word taken entry₀ entry = Searching lengths codewords packet (position from) (next .count) word taken entry
+Inv-entry packet from next lengths codewords word taken entry₀ entry = Searching lengths codewords packet (position from) (next .count) word taken entry
 
 abbrev μ-entry : tie.MeasureT-entry
-μ-entry packet from lengths codewords next word taken entry₀ entry = length lengths - entry
+μ-entry packet from next lengths codewords word taken entry₀ entry = length lengths - entry
 
 abbrev Inv-word : tie.InvT-word
-Inv-word packet from lengths codewords next word₀ taken₀ entry₀ word taken entry = Taking lengths codewords packet (position from) (next .count) word taken entry
+Inv-word packet from next lengths codewords word₀ taken₀ entry₀ word taken entry = Taking lengths codewords packet (position from) (next .count) word taken entry
 
 abbrev μ-word : tie.MeasureT-word
-μ-word packet from lengths codewords next word₀ taken₀ entry₀ word taken entry = next .count - taken
-
-window-at-requires : tie.Need-window-at-requires Inv-entry μ-entry Inv-word μ-word
-window-at-requires c κs = search needs
+μ-word packet from next lengths codewords word₀ taken₀ entry₀ word taken entry = next .count - taken
 
 word-holds : tie.Need-word-holds Inv-entry μ-entry Inv-word μ-word
 word-holds c = search loop-laws
@@ -44,7 +41,7 @@ add-taken c = search needs
 entry-holds : tie.Need-entry-holds Inv-entry μ-entry Inv-word μ-word
 entry-holds c =
     let w = c .before .before .before in
-    taken-one _ _ _ _ _ (w .before .window-at .ensures) _ _ _ (w .word .inv) (c .before .if1 .left) _ (c .bit .ensures)
+    taken-one _ _ _ _ _ (w .before .before .before .before .pre .1) _ _ _ (w .word .inv) (c .before .if1 .left) _ (c .bit .ensures)
 
 cut-requires-2 : tie.Need-cut-requires-2 Inv-entry μ-entry Inv-word μ-word
 cut-requires-2 c κs = search needs
@@ -64,14 +61,14 @@ shared-slice-read-if4 c = search loop-laws
 cast-if4 : tie.Need-cast-if4 Inv-entry μ-entry Inv-word μ-word
 cast-if4 c =
     let e = c .before .before .before .before in
-    let book = e .before .before .before .before .before .before .before .before .before .before .pre in
+    let book = e .before .before .before .before .before .before .before .before .before .pre .0 in
     let h = length-within _ _ book _ _ _ _ _ _ (e .before .entry .inv) (e .if2 .left) _ (c .before .before .wide-u8 .ensures) (c .before .if3 .taken) in
     omega arith
 
 shr-if4 : tie.Need-shr-if4 Inv-entry μ-entry Inv-word μ-word
 shr-if4 c =
     let e = c .before .before .before .before in
-    let book = e .before .before .before .before .before .before .before .before .before .before .pre in
+    let book = e .before .before .before .before .before .before .before .before .before .pre .0 in
     let h = length-within _ _ book _ _ _ _ _ _ (e .before .entry .inv) (e .if2 .left) _ (c .before .before .wide-u8 .ensures) (c .before .if3 .taken) in
     omega arith
 
@@ -125,7 +122,6 @@ match-codeword-spec =
     μ-entry
     Inv-word
     μ-word
-    window-at-requires
     word-holds
     cut-requires
     mul-word
