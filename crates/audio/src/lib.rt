@@ -1,16 +1,17 @@
 // An audio packet: what the call for one is lent and answers. Definitions and laws; the crates audio_head, audio_floors, audio_residues, audio_tally and
 // audio_call have the functions.
+#![tactic(auto)]
 
 // How far a stream has come: the last accepted block size, 0 before the first, and the samples so far (01, "What the reader takes and gives").
 #[repr(C)]
-#[derive(Drop)]
+#[derive(Clone, Copy)]
 pub struct Tally {
     pub blocksize: u32,
     pub samples: u64,
 }
 
 // What stands before the floors (003, 4.3.1).
-#[derive(Drop)]
+#[derive(Clone, Copy)]
 pub struct Head {
     // The number of the mode.
     pub mode: u32,
@@ -24,7 +25,7 @@ pub struct Head {
 
 // The window's points (003, 4.3.1, "packet type, mode and window decode").
 #[repr(C)]
-#[derive(Drop)]
+#[derive(Clone, Copy)]
 pub struct Window {
     pub left_start: u32,
     pub left_end: u32,
@@ -34,7 +35,7 @@ pub struct Window {
 
 // What an audio packet comes to, beside the curves and the codewords.
 #[repr(C)]
-#[derive(Drop)]
+#[derive(Clone, Copy)]
 pub struct AudioAnswer {
     // 0 where the packet is accepted, else 01's number of the refusal; all else is zero then.
     pub refusal: u32,
@@ -53,7 +54,7 @@ pub struct AudioAnswer {
 
 // What the call leaves beside its outputs, where the tally is handed over by value.
 #[repr(C)]
-#[derive(Drop)]
+#[derive(Clone, Copy)]
 pub struct AudioLeft {
     // The tally after the packet; as it was handed over on a refusal.
     pub tally: Tally,

@@ -1,4 +1,6 @@
 // The body of an audio packet: floors, then residues (01, "Audio order" 2 to 5).
+#![tactic(auto)]
+
 ghost use Rattle.std.specs.Prelude.{◌*◌, ◌≤◌, length};
 ghost use Rattle.bits.specs.Inner.Cursors.{position};
 ghost use Rattle.book_codeword.specs.Inner.Stored.{lengths_in};
@@ -12,7 +14,7 @@ use codeword_list::{ListRead, Progress};
 use reading::widths::wide_u32;
 
 // Which floors are used, and how reading the codewords of the residues ended.
-#[derive(Drop)]
+#[derive(Clone, Copy)]
 pub struct BodyRead {
     pub used: [u8; 255],
     pub words: ListRead,

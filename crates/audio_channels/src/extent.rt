@@ -11,7 +11,7 @@ use reading::widths::wide_u32;
 use residue::head::Head;
 
 // How much of a residue is read.
-#[derive(Drop)]
+#[derive(Clone, Copy)]
 pub struct Extent {
     pub vectors: usize,
     pub partitions: u32,

@@ -14,7 +14,7 @@ use floor_values::values::read_values;
 use reading::widths::{u8_from_u16, wide_u16};
 
 // What the floor of a channel comes to.
-#[derive(Drop)]
+#[derive(Clone, Copy)]
 pub struct ChannelRead {
     // The position behind the floor; on a cut the first bit of what is cut.
     pub at: Cursor,

@@ -1,4 +1,6 @@
 // The floors of an audio packet's channels: read in order of the channels, and their curves drawn into the lent bytes (01, "Audio order" 2 and 3).
+#![tactic(auto)]
+
 pub mod channel;
 
 ghost use Rattle.std.specs.Prelude.{◌≡◌, ◌*◌, ◌≤◌, ◌<◌, length};
@@ -14,7 +16,7 @@ use reading::buffers::clear_u8;
 use reading::widths::{wide_u8, wide_u32};
 
 // What the floors of all channels come to.
-#[derive(Drop)]
+#[derive(Clone, Copy)]
 pub struct FloorsRead {
     // The position behind the last floor; on a cut the first bit of what is cut.
     pub at: Cursor,

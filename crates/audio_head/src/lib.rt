@@ -1,5 +1,7 @@
 // The head of an audio packet: type bit, mode, window flags, read from the packet and the table of modes; and the window's points (01, "Audio order" 1; 003,
 // 4.3.1). Each field is judged as soon as it is read.
+#![tactic(auto)]
+
 pub mod points; // the window's points
 
 ghost use Rattle.std.specs.Prelude.{ℕ, ◌≤◌, List, ◌≡◌};
@@ -14,7 +16,7 @@ use audio::Head;
 use bits::{Cursor, Field, Refusal};
 use identification::Identity;
 
-#[derive(Drop)]
+#[derive(Clone, Copy)]
 pub enum HeadRead {
     // The head, and the position after it.
     Value(Head, Cursor),

@@ -1,4 +1,6 @@
 // An audio packet judged: the head, then room, floors, residues and the tally, in 01's order.
+#![tactic(auto)]
+
 ghost use Rattle.std.specs.Prelude.{ℕ, ◌+◌, ◌*◌, ◌<◌, ◌≡◌, get_or};
 ghost use Rattle.bits.specs.Inner.Cursors.{position};
 ghost use Rattle.mode.specs.Layout.{mode_width};

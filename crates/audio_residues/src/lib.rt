@@ -1,4 +1,6 @@
 // The residues of all submaps of an audio packet, read into the lent list (01, "Audio order" 5).
+#![tactic(auto)]
+
 pub mod power; // a power that is known to fit
 pub mod submap; // the residue of one submap
 

@@ -1,4 +1,6 @@
 // What a call leaves: the answer, and both outputs with nothing behind what the packet gave; or a refusal, with both outputs all zero.
+#![tactic(auto)]
+
 pub mod clear; // places of an output that an earlier packet left
 pub mod size; // how many curve bytes a packet has
 
@@ -11,7 +13,7 @@ use identification::Identity;
 use reading::buffers::{clear_u8, clear_u32};
 
 // What judging a packet comes to.
-#[derive(Drop)]
+#[derive(Clone, Copy)]
 pub struct Judged {
     // Whether the packet is accepted; else 01's number of the refusal, and all below is zero.
     pub accepted: bool,

@@ -1,4 +1,6 @@
 // The tally of a stream: whether it is sound, and its step (01, "What the reader takes and gives"; "Audio order" 6; refusals 18 and 19).
+#![tactic(auto)]
+
 ghost use Rattle.std.specs.Prelude.{◌&&◌, ℕ, eqb, ◌≡◌};
 ghost use Rattle.audio.specs.Tally.{tally_sound, finished, counted};
 ghost use Rattle.audio_tally.specs.Inner.Answers.{counted_as};
@@ -7,7 +9,7 @@ use audio::Tally;
 use identification::Identity;
 
 // What counting a block comes to.
-#[derive(Drop)]
+#[derive(Clone, Copy)]
 pub enum Counted {
     // The tally after it, and the samples that it finishes.
     Value(Tally, u64),

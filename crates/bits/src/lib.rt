@@ -1,5 +1,7 @@
 // A packet as bits: a position in it, and the fields that are read there (000, section 2).
 // A field is read by whole bytes and settled once for every width; a cut field leaves no position from which to read on.
+#![tactic(auto)]
+
 pub mod ilog;
 pub mod kind;
 
@@ -12,21 +14,21 @@ use reading::widths::wide_u8;
 
 // A position in a packet: bit `bit` of byte `byte`. A slice may have 2^63 - 1 bytes, so a count of bits would not fit 64 bits;
 // byte and bit apart always do. Any two numbers are a position: bit may pass 7.
-#[derive(Drop)]
+#[derive(Clone, Copy)]
 pub struct Cursor {
     pub byte: usize,
     pub bit: u8,
 }
 
 // Why a packet is sent back: 01's number, and where the judged field begins.
-#[derive(Drop)]
+#[derive(Clone, Copy)]
 pub struct Refusal {
     pub number: u8,
     pub place: Cursor,
 }
 
 // What reading a field finds.
-#[derive(Drop)]
+#[derive(Clone, Copy)]
 pub enum Field {
     // Its value, and the position after it.
     Value(u32, Cursor),
@@ -35,7 +37,7 @@ pub enum Field {
 }
 
 // What reading comes to where the values go elsewhere: into lent buffers, or beside it in a struct.
-#[derive(Drop)]
+#[derive(Clone, Copy)]
 pub enum Step {
     // The position to go on from.
     Next(Cursor),

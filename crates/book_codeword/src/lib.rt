@@ -1,4 +1,6 @@
 // One codeword of a book that lies in the tables of a setup (01, "Bits and books"; docs/TABLES.md).
+#![tactic(auto)]
+
 ghost use Rattle.std.specs.Prelude.{◌≡◌};
 ghost use Rattle.bits.specs.Inner.Cursors.{position, outcome};
 ghost use Rattle.codeword.specs.Codeword.{codeword};

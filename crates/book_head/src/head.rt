@@ -8,13 +8,13 @@ ghost use Rattle.book_head.specs.Inner.Answers.{head_read};
 use bits::{Cursor, Field, Refusal};
 use limits::Limits;
 
-#[derive(Drop)]
+#[derive(Clone, Copy)]
 pub struct Head {
     pub dimensions: u32,
     pub entries: u32,
 }
 
-#[derive(Drop)]
+#[derive(Clone, Copy)]
 pub enum HeadRead {
     Value(Head, Cursor),
     Refused(Refusal),

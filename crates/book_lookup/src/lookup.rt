@@ -9,7 +9,7 @@ ghost use Rattle.book_lookup.specs.Inner.Answers.{parameters_read, numbers_of};
 
 use bits::{Cursor, Field, Refusal, Step};
 
-#[derive(Drop)]
+#[derive(Clone, Copy)]
 pub struct Parameters {
     pub minimum: u32,
     pub delta: u32,
@@ -17,14 +17,14 @@ pub struct Parameters {
     pub sequence: u32,
 }
 
-#[derive(Drop)]
+#[derive(Clone, Copy)]
 pub enum ParametersRead {
     Value(Parameters, Cursor),
     Refused(Refusal),
 }
 
 // The numbers of a lookup, all 0 where there is none or it is refused; the multiplicands lie in their table.
-#[derive(Drop)]
+#[derive(Clone, Copy)]
 pub struct LookupRead {
     pub step: Step,
     pub lookup: u32,

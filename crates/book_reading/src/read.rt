@@ -22,7 +22,7 @@ use limits::Limits;
 use reading::buffers::write_u32;
 
 // Where reading goes on, or the refusal; and how many entries and multiplicands the books have by then.
-#[derive(Drop)]
+#[derive(Clone, Copy)]
 pub struct BooksRead {
     pub step: Step,
     pub entries: u32,
@@ -30,7 +30,7 @@ pub struct BooksRead {
 }
 
 // A book whose head is read: its first bit, its head, the limit on multiplicands, its number, and how many entries and multiplicands the books before it have.
-#[derive(Drop)]
+#[derive(Clone, Copy)]
 struct BookStart {
     place: Cursor,
     head: Head,

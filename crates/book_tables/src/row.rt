@@ -5,7 +5,7 @@ ghost use Rattle.book_tables.specs.Inner.Rules.{row_of};
 
 use reading::widths::wide_u32;
 
-#[derive(Drop)]
+#[derive(Clone, Copy)]
 pub struct Row {
     pub dimensions: u32,
     pub entries: u32,

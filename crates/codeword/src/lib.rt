@@ -1,4 +1,6 @@
 // Reading one codeword of a packet, bit by bit (01, "Bits and books"; 002, "Using a codebook").
+#![tactic(auto)]
+
 pub mod unused;
 pub mod window;
 

@@ -8,7 +8,7 @@ use bits::Cursor;
 use reading::widths::wide_u8;
 
 // The next bits of a packet: bit i of `bits` is the i-th from the position on, for i below `count`, which is 32 or as many as there are.
-#[derive(Drop)]
+#[derive(Clone, Copy)]
 pub struct Window {
     pub bits: u64,
     pub count: usize,

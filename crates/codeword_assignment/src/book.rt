@@ -11,7 +11,7 @@ use codespace::space::{VACANT, empty_space, enter, is_full};
 use reading::buffers::clear_u32;
 use reading::widths::u64_from_u32;
 
-#[derive(Drop)]
+#[derive(Clone, Copy)]
 pub enum Assigned {
     // Each used entry has its codeword, and no space is left over; or the only used entry has length 1.
     Accepted,

@@ -1,4 +1,6 @@
 // Codewords that are read into the lent list, one after the other, up to a cut or the list's end (01, "Audio order" 5).
+#![tactic(auto)]
+
 ghost use Rattle.std.specs.Prelude.{◌≡◌, ◌+◌, ◌*◌, ◌/◌, ◌≤◌, length};
 ghost use Rattle.reading.specs.Least.{one};
 ghost use Rattle.bits.specs.Inner.Cursors.{position};
@@ -13,14 +15,14 @@ use bits::{Cursor, Field};
 use reading::widths::wide_u32;
 
 // Where reading goes on, and how many codewords the list holds.
-#[derive(Drop)]
+#[derive(Clone, Copy)]
 pub struct Progress {
     pub at: Cursor,
     pub count: usize,
 }
 
 // What reading codewords into the list comes to.
-#[derive(Drop)]
+#[derive(Clone, Copy)]
 pub enum ListRead {
     // All that was asked.
     Whole(Progress),

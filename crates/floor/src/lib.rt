@@ -1,5 +1,6 @@
 // Floors of type 1: what one is, with its partition classes and its X list, its rules, how it is read, its row in the tables. Definitions and laws; the constants
 // of the layout.
+#![tactic(auto)]
 
 // The width of a floor's row in the table, the table's fixed need, where its parts begin, and how many places partitions and classes have (specs/Layout.antt).
 pub const FLOOR_WIDTH: usize = 277;

@@ -1,4 +1,6 @@
 // The partition classes of a floor (004, "header decode", steps 7 to 12). `book_count` is how many codebooks are set up.
+#![tactic(auto)]
+
 ghost use Rattle.std.specs.Prelude.{◌≡◌, ◌+◌, ◌*◌, ◌^◌, ◌<◌, ◌≤◌};
 ghost use Rattle.reading.specs.Reader.{many, into, into1};
 ghost use Rattle.reading.specs.Inner.Table.{table, put_row};

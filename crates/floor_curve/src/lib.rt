@@ -1,4 +1,6 @@
 // Floor 1: the curve that joins the flagged points (004, "curve computation", step 2; 01, "Audio order" 3).
+#![tactic(auto)]
+
 pub mod lines;
 mod points;
 

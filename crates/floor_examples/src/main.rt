@@ -1,5 +1,6 @@
 // Runs the worked figures of floor 1 (01, "Figures to check against") and writes what comes out, which has to be the file `stdout`. That they hold of the
 // definitions is in crate `figures`.
+#![tactic(auto)]
 
 // A number in three digits, and a newline.
 fn put(n: u8) {

@@ -1,4 +1,6 @@
 // Floor 1: the final Y values and the step 2 flags of a list of X and the values read (004, "curve computation", step 1).
+#![tactic(auto)]
+
 mod heights;
 
 ghost use Rattle.std.specs.Prelude.{◌≡◌, false, ◌≤◌, length, replicate};

@@ -1,5 +1,7 @@
 // Floors of a setup packet, read into the tables: floors of type 1 (004, "header decode"; 01, "Setup order"). A row is put together from three buffers:
 // partitions, classes, X list.
+#![tactic(auto)]
+
 ghost use Rattle.std.specs.Prelude.{◌≡◌, ◌++◌, ◌+◌, ◌*◌, ◌<◌, ◌≤◌, max, length, take};
 ghost use Rattle.std.proofs.lemmas.List.Edits.{sets};
 ghost use Rattle.reading.specs.Reader.{many, into, into1};

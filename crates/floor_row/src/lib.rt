@@ -1,5 +1,7 @@
 // The numbers of a floor, read from its row in the table: `floor` is the floor's number, its row begins at 277 * floor. A place past the
 // table's end reads as 0.
+#![tactic(auto)]
+
 pub mod counts; // how many classes and X values a floor has
 
 ghost use Rattle.std.specs.Prelude.{◌≡◌, ◌+◌, ◌*◌, ◌<◌, get_or};

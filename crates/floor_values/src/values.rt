@@ -103,7 +103,7 @@ fn read_used(
 }
 
 // Where reading goes on, and whether the floor is used. On a refusal, which is the cut, `used` and the list mean nothing.
-#[derive(Drop)]
+#[derive(Clone, Copy)]
 pub struct ValuesRead {
     pub step: Step,
     pub used: bool,

@@ -1,5 +1,7 @@
 // What follows a floor's classes in a setup packet: multiplier, range bits, X list (004, "header decode", steps 13 to 22).
 // Refusal 12 has its place at the floor's type, which stands at `place`.
+#![tactic(auto)]
+
 ghost use Rattle.std.specs.Prelude.{◌≡◌, ◌+◌, ◌<◌, ◌≤◌, replicate};
 ghost use Rattle.reading.specs.Reader.{mapped, into};
 ghost use Rattle.reading.specs.Inner.Table.{table, put_row};
@@ -38,7 +40,7 @@ pub fn read_x_values(
 }
 
 // What follows the classes, beside the X list that went into a buffer.
-#[derive(Drop)]
+#[derive(Clone, Copy)]
 pub struct Ends {
     pub multiplier: u32,
     pub rangebits: u32,

@@ -1,4 +1,6 @@
 // What opens and closes every header packet: the type byte with the name, and the framing bit (003, section 4.2.1; 01).
+#![tactic(auto)]
+
 ghost use Rattle.std.specs.Prelude.{◌≡◌};
 ghost use Rattle.bits.specs.Inner.Cursors.{position, outcome, stepped};
 ghost use Rattle.header.specs.Header.{common_header, framing};

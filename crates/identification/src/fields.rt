@@ -6,38 +6,38 @@ ghost use Rattle.identification.specs.Inner.Answers.{stream_read, bitrates_read,
 
 use bits::{Cursor, Field, Refusal};
 
-#[derive(Drop)]
+#[derive(Clone, Copy)]
 pub struct Stream {
     pub channels: u32,
     pub rate: u32,
 }
 
-#[derive(Drop)]
+#[derive(Clone, Copy)]
 pub enum StreamRead {
     Value(Stream, Cursor),
     Refused(Refusal),
 }
 
-#[derive(Drop)]
+#[derive(Clone, Copy)]
 pub struct Bitrates {
     pub maximum: i32,
     pub nominal: i32,
     pub minimum: i32,
 }
 
-#[derive(Drop)]
+#[derive(Clone, Copy)]
 pub enum BitratesRead {
     Value(Bitrates, Cursor),
     Refused(Refusal),
 }
 
-#[derive(Drop)]
+#[derive(Clone, Copy)]
 pub struct BlockSizes {
     pub first: u32,
     pub second: u32,
 }
 
-#[derive(Drop)]
+#[derive(Clone, Copy)]
 pub enum BlockSizesRead {
     Value(BlockSizes, Cursor),
     Refused(Refusal),

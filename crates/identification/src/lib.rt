@@ -1,4 +1,6 @@
 // The identification packet: from any bytes to the stream's identity, or one refusal (003, section 4.2.2; 01).
+#![tactic(auto)]
+
 pub mod fields;
 pub mod sound;
 
@@ -14,7 +16,7 @@ use limits::Limits;
 
 // What the identification packet says of a stream. Laid out for C, since the front door takes and answers it.
 #[repr(C)]
-#[derive(Drop)]
+#[derive(Clone, Copy)]
 pub struct Identity {
     pub channels: u32,
     pub rate: u32,
@@ -25,7 +27,7 @@ pub struct Identity {
     pub blocksize1: u32,
 }
 
-#[derive(Drop)]
+#[derive(Clone, Copy)]
 pub enum Identified {
     Accepted(Identity),
     Refused(Refusal),

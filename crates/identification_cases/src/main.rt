@@ -1,5 +1,7 @@
 // Identification packets on both sides of each rule, one line each: the 30 bytes of 01's last figure, changed and cut.
 // The line's number names the case: 1 to 99 by what is changed, 100 + n for a packet cut to n bytes, 200 + n for a wrong opening byte n.
+#![tactic(auto)]
+
 ghost use Rattle.std.specs.Prelude.{◌<◌, ◌≤◌};
 
 use records::Answer;

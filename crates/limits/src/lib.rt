@@ -1,8 +1,10 @@
 // 01's limits as a value, handed to whoever judges them, so that a caller can be given others without touching a judge.
+#![tactic(auto)]
+
 ghost use Rattle.std.specs.Prelude.{◌≡◌};
 
 // What refusal 14 judges (01, "When the packet is sent back").
-#[derive(Drop)]
+#[derive(Clone, Copy)]
 pub struct Limits {
     pub channels: u32,
     // The entries of one codebook, and of all together.

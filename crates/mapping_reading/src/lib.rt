@@ -1,5 +1,7 @@
 // Reading mappings into their table (003, section 4.2.4, "Mappings"; 01, refusals 9 and 11).
 // Each field is judged as soon as it is read; a refusal says nothing of the buffer, which the outermost function clears.
+#![tactic(auto)]
+
 pub mod counts; // how many submaps and coupling steps
 pub mod couplings; // the coupling steps, into their part of a mapping's row
 pub mod submaps; // each channel's submap, and the submaps, into theirs

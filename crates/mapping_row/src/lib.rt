@@ -1,5 +1,7 @@
 // The numbers of a mapping, read from its row in the table: `mapping` is the mapping's number, its row begins at 804 * mapping. A place past the table's end
 // reads as 0.
+#![tactic(auto)]
+
 ghost use Rattle.std.specs.Prelude.{◌+◌, ◌-◌, ◌*◌, ◌<◌, ◌≡◌, get_or};
 ghost use Rattle.mapping.specs.Layout.{mapping_width, couplings_place, multiplex_place, submaps_place};
 

@@ -1,5 +1,7 @@
 // Modes of a setup packet, read into the table (003, section 4.2.4, "Modes").
 // Each field is judged as soon as it is read; a refusal says nothing of the buffer, which the outermost function clears.
+#![tactic(auto)]
+
 ghost use Rattle.std.specs.Prelude.{◌≡◌, ◌+◌, ◌*◌, ◌≤◌};
 ghost use Rattle.reading.specs.Reader.{many, into, into1};
 ghost use Rattle.reading.specs.Inner.Table.{table, put_row};

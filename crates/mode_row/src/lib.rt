@@ -1,4 +1,6 @@
 // The numbers of a mode, read from its row in the table: `mode` is the mode's number, its row begins at 2 * mode. A place past the table's end reads as 0.
+#![tactic(auto)]
+
 ghost use Rattle.std.specs.Prelude.{◌+◌, ◌*◌, ◌<◌, ◌≡◌, get_or};
 ghost use Rattle.mode.specs.Layout.{mode_width};
 

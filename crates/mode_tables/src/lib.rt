@@ -1,2 +1,4 @@
 // Modes in the tables: whether a table that anyone hands in holds modes that meet every rule.
+#![tactic(auto)]
+
 pub mod recognise; // recognising a table that is handed in

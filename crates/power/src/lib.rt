@@ -1,4 +1,6 @@
 // Whether a power of two numbers of 32 bits stays within a bound, exactly, though the power itself may have billions of digits.
+#![tactic(auto)]
+
 ghost use Rattle.std.specs.Prelude.{◌≡◌, ◌^◌, ◌<◌, ◌*◌, ◌≤◌, leb};
 
 // A base of 2 or more passes any bound within 32 turns; 0 and 1 take none.

@@ -1,4 +1,6 @@
 // The tool's lines (01, the tool), put into a lent buffer.
+#![tactic(auto)]
+
 mod fields;
 mod words;
 

@@ -1,4 +1,6 @@
 // The tool's progress in its input, and what it writes for a whole one: all that needs no tables. Each function is on slices, without input and output.
+#![tactic(auto)]
+
 ghost use Rattle.std.specs.Prelude.{true, ◌≡◌, ◌+◌, ◌≤◌, ◌<◌, length};
 ghost use Rattle.std.proofs.lemmas.List.Edits.{sets};
 ghost use Rattle.setup.specs.Layout.{Tables};
@@ -8,7 +10,7 @@ use record_step::Kept;
 use records::Answer;
 
 // How far the program has come in its input.
-#[derive(Drop)]
+#[derive(Clone, Copy)]
 pub struct Progress {
     pub kept: Kept,
     // How many whole records there were.

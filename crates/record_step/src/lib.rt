@@ -1,4 +1,6 @@
 // THE TOOL'S STEP, by one record: identity, tables and tally from record to record, and what each came to (01, the tool).
+#![tactic(auto)]
+
 pub mod audio_step; // an audio record
 pub mod identification_step; // an identification record
 pub mod setup_step; // a setup record
@@ -18,7 +20,7 @@ use identification::Identity;
 use records::Answer;
 
 // What is kept from record to record beside the lent tables and outputs.
-#[derive(Drop)]
+#[derive(Clone, Copy)]
 pub struct Kept {
     pub has_identity: bool,
     pub identity: Identity,
@@ -31,7 +33,7 @@ pub struct Kept {
 }
 
 // What a record comes to, and what is kept after it.
-#[derive(Drop)]
+#[derive(Clone, Copy)]
 pub struct Stepped {
     pub kept: Kept,
     pub answer: Answer,

@@ -1,4 +1,6 @@
 // Records taken from the bytes that were read, each with its line: on slices, without input and output.
+#![tactic(auto)]
+
 ghost use Rattle.std.specs.Prelude.{◌≡◌, drop};
 ghost use Rattle.setup.specs.Handed.{handed, left_in};
 ghost use Rattle.audio_judge.specs.Inner.Ready.{lent_tables};

@@ -1,5 +1,7 @@
 // A turn of the tool's run, behind the records that were taken: their lines are written, and more is read where that is needed. The run's status is 0 where the
 // input was read to its end, 1 where standard output failed, 2 where standard input failed, 3 where there are more records than can be counted.
+#![tactic(auto)]
+
 pub mod feeding;
 
 ghost use Rattle.std.specs.Prelude.{true, ◌≡◌, ◌<◌};
@@ -10,7 +12,7 @@ use crate::feeding::{make_room, read_more};
 use record_progress::{MOST_RECORDS, Progress, put_last};
 
 // What a turn of the run came to.
-#[derive(Drop)]
+#[derive(Clone, Copy)]
 pub struct Turn {
     pub progress: Progress,
     // Where the bytes end that were read.

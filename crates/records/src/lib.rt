@@ -1,4 +1,6 @@
 // The records of the tool's input (01, the tool): where one begins and ends, of which kind it is, and what it can come to.
+#![tactic(auto)]
+
 ghost use Rattle.std.specs.Prelude.{◌≡◌, ◌≤◌, get_or};
 ghost use Rattle.records.specs.Records as records;
 ghost use Rattle.records.specs.Inner.Fronts.{front};
@@ -8,7 +10,7 @@ use reading::buffers::get_u8;
 use reading::widths::wide_u8;
 
 // What stands at the front of the bytes that were read so far.
-#[derive(Drop)]
+#[derive(Clone, Copy)]
 pub enum Front {
     // Less than a record.
     Partial,
@@ -19,7 +21,7 @@ pub enum Front {
 }
 
 // What a record came to.
-#[derive(Drop)]
+#[derive(Clone, Copy)]
 pub enum Answer {
     // An identification packet that was accepted.
     Identified(Identity),

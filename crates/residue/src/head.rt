@@ -1,5 +1,5 @@
 // The fields of a residue before its plan, as the program holds them (001, "header decode", steps 1 to 5).
-#[derive(Drop)]
+#[derive(Clone, Copy)]
 pub struct Head {
     pub kind: u32,
     pub begin: u32,

@@ -1,5 +1,7 @@
 // Residues: what one is, its rules, how it is read, its rows in the tables (001, "header decode"; 01, refusals 10, 11 and 13). Definitions and laws; the
 // constants of the layout; rule 13, which reader and recogniser judge alike.
+#![tactic(auto)]
+
 pub mod head; // the fields before the plan
 pub mod fits; // rule 13
 

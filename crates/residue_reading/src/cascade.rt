@@ -8,7 +8,7 @@ ghost use Rattle.residue.specs.Reading.{cascade};
 use bits::{Cursor, Field, Step};
 
 // The cascades of the classes and zeros behind them, and where reading goes on. On a refusal they mean nothing.
-#[derive(Drop)]
+#[derive(Clone, Copy)]
 pub struct Cascades {
     pub numbers: [u32; 64],
     pub step: Step,

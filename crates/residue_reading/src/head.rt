@@ -7,7 +7,7 @@ ghost use Rattle.residue_reading.specs.Inner.Heads.{head_read};
 use bits::{Cursor, Field, Refusal};
 use residue::head::Head;
 
-#[derive(Drop)]
+#[derive(Clone, Copy)]
 pub enum HeadRead {
     Value(Head, Cursor),
     Refused(Refusal),

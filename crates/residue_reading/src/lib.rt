@@ -1,4 +1,6 @@
 // Reading residues into the tables (003, 4.2.4, "Residues"; 001, "header decode"; 01, refusals 11 and 13).
+#![tactic(auto)]
+
 pub mod head; // the fields before the plan
 pub mod cascade; // which passes each class has a book for
 pub mod plan; // the plan: which book each class has at each pass

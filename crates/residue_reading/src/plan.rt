@@ -10,7 +10,7 @@ ghost use Rattle.residue.specs.Inner.Plans.{Grid};
 use bits::{Cursor, Field, Refusal, Step};
 
 // A class's row of the plan, and where reading goes on. On a refusal the row means nothing.
-#[derive(Drop)]
+#[derive(Clone, Copy)]
 pub struct Row {
     pub books: [u16; 8],
     pub step: Step,

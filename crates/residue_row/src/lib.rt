@@ -1,5 +1,7 @@
 // The numbers of a residue, read from its rows in the tables: `residue` is the residue's number, its rows begin at 6 * residue and 512 * residue. A place
 // past a table's end reads as 0.
+#![tactic(auto)]
+
 ghost use Rattle.std.specs.Prelude.{◌≡◌, ◌+◌, ◌*◌, ◌<◌, get_or};
 ghost use Rattle.residue.specs.Inner.Decode.{head_at};
 ghost use Rattle.residue.specs.Inner.Heads.{head_of};

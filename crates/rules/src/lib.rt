@@ -1,1 +1,2 @@
 // The rules of a setup packet: definitions alone, in specs/Rules.antt.
+#![tactic(auto)]

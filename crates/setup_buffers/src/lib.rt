@@ -1,4 +1,6 @@
 // All ten tables of a setup: whether they have room, clearing them, and how a call leaves them.
+#![tactic(auto)]
+
 ghost use Rattle.std.specs.Prelude.{◌≡◌};
 ghost use Rattle.setup.specs.Layout.{has_room, cleared};
 ghost use Rattle.setup.specs.Handed.{handed, left_in};

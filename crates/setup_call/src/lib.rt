@@ -1,4 +1,6 @@
 // THE SETUP CALL: any identity, any bytes, any lent tables. The packet is judged and read; then, once, what the call leaves in the tables is settled.
+#![tactic(auto)]
+
 pub mod checked;
 
 ghost use Rattle.std.specs.Prelude.{◌≡◌};

@@ -1,5 +1,7 @@
 // One codeword, by a book of tables that anyone hands in (01, "What the reader takes and gives"; "Bits and books"); and demand 3, whole.
 // Who has the tables as an accepted setup left them reads by book_codeword::read_entry, which judges nothing again.
+#![tactic(auto)]
+
 ghost use Rattle.std.specs.Prelude.{◌≡◌, ltb, get_or};
 ghost use Rattle.reading.specs.Outcome.{refusal, bad};
 ghost use Rattle.bits.specs.Inner.Cursors.{position, outcome};

@@ -1,4 +1,6 @@
 // A setup packet's content, written into all ten tables, which are lent as they are, with room: each is cleared before it is filled.
+#![tactic(auto)]
+
 pub mod rest;
 
 ghost use Rattle.std.specs.Prelude.{true, ◌≡◌, ◌≤◌};

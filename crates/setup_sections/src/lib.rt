@@ -1,4 +1,6 @@
 // The sections of a setup packet: each is a count less one and so many items (003, section 4.2.4). Their tables are lent cleared.
+#![tactic(auto)]
+
 pub mod parts;
 
 ghost use Rattle.std.specs.Prelude.{◌≡◌, ◌≤◌};
@@ -24,7 +26,7 @@ use mapping::Known;
 use reading::widths::wide_u32;
 
 // How many items a section has, and where reading goes on, or the refusal.
-#[derive(Drop)]
+#[derive(Clone, Copy)]
 pub struct Section {
     pub count: u32,
     pub step: Step,

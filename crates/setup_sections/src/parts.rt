@@ -53,7 +53,7 @@ pub fn read_book_part(
 }
 
 // How many floors and residues were read, and where reading goes on, or the refusal.
-#[derive(Drop)]
+#[derive(Clone, Copy)]
 pub struct FloorPart {
     pub floors: u32,
     pub residues: u32,
@@ -96,7 +96,7 @@ pub fn read_floor_part(
 }
 
 // How many mappings and modes were read, and where reading goes on, or the refusal.
-#[derive(Drop)]
+#[derive(Clone, Copy)]
 pub struct MappingPart {
     pub mappings: u32,
     pub modes: u32,
@@ -135,7 +135,7 @@ pub fn read_mapping_part(
 }
 
 // How many of each follow the books, and where reading goes on, or the refusal.
-#[derive(Drop)]
+#[derive(Clone, Copy)]
 pub struct After {
     pub floors: u32,
     pub residues: u32,

@@ -1,5 +1,7 @@
 // THE FRONT DOOR: the public calls, exported for C and Rust. Each is a thin function over the crates below; its contract has no
 // `requires` and settles the whole answer for every input. include/torchvalley.h declares them for C.
+#![tactic(auto)]
+
 pub mod codewords;
 pub mod floor;
 pub mod packet;
@@ -16,7 +18,7 @@ use limits::Limits;
 
 // What an identification packet comes to.
 #[repr(C)]
-#[derive(Drop)]
+#[derive(Clone, Copy)]
 pub struct IdentityAnswer {
     // 0 where the packet is accepted, else 01's number of the refusal.
     pub refusal: u32,

@@ -90,7 +90,7 @@ pub extern "C" fn torchvalley_setup_sound(
 
 // What reading one codeword comes to.
 #[repr(C)]
-#[derive(Drop)]
+#[derive(Clone, Copy)]
 pub struct CodewordAnswer {
     // 0 where a codeword was read, else 01's number of the refusal; all else is zero then.
     pub refusal: u32,

@@ -1,4 +1,6 @@
 // THE TOOL: reads records from standard input and writes a line for each, in memory that is lent (01, the tool).
+#![tactic(auto)]
+
 pub mod running;
 
 // Takes all records of standard input and writes their lines to standard output. It answers 0 where the input was read to its end (also one that ends inside a
