@@ -89,7 +89,7 @@ module _ (channels : ℕ) (used : List ℕ) where
     pub using_done : channels ≤ i → live ≡ live_bytes (used_bools channels used)
     using_done h = let in_reach = w.within in let e : i ≡ channels = omega arith in rw (← e) w.flags
 
-pub ruleset used-laws = (rules, using_start, using_next, using_done)
+pub ruleset used_laws = (rules, using_start, using_next, using_done)
 
 -- THE FLAGS THAT BYTES HOLD are those they were made of
 pub used_bytes : (l : List Bool) → length l ≤ 255 → used_bools (length l) (live_bytes l) ≡ l

@@ -111,8 +111,8 @@ module _ (i : Identity) (n : ℕ) (t s : List ℕ) (k : Cursor) (z₀ : position
     unfolding head_reader
     type_right h e lengths_of = rw (head_by_table lengths_of s i n t, value_is (place_as 1 s p z₀) q, eq-eqb _ _ h) e
 
-pub ruleset flags-laws = (rules, flags_short, previous_cut, next_cut, flags_long)
+pub ruleset flags_laws = (rules, flags_short, previous_cut, next_cut, flags_long)
 
-pub ruleset mode-laws = (rules, mode_bits, mode_cut, mode_unknown, mode_known)
+pub ruleset mode_laws = (rules, mode_bits, mode_cut, mode_unknown, mode_known)
 
-pub ruleset head-laws = (rules, type_cut, type_wrong, type_right)
+pub ruleset head_laws = (rules, type_cut, type_wrong, type_right)

@@ -88,9 +88,9 @@ module _ (l : Limits) (before : ℕ) (s : List ℕ) (k : Cursor) {r : Field} (p 
           unfolding head head_read entry_count
           head_whole q₂ = rw (value_is p q, eq-eqb _ _ v, value_is p₁ q₁, ne_eqb _ _ some, value_is p₂ q₂)
 
-pub ruleset count-laws = (rules, entries_cut, entries_none, entries_many, entries_past, entries_whole)
+pub ruleset count_laws = (rules, entries_cut, entries_none, entries_many, entries_past, entries_whole)
 
-pub ruleset head-laws = (rules, pattern_cut, pattern_wrong, dimensions_cut, dimensions_none, count_refused, head_whole)
+pub ruleset head_laws = (rules, pattern_cut, pattern_wrong, dimensions_cut, dimensions_none, count_refused, head_whole)
 
 -- the same of an answer
 pub head_known : (l : Limits) (before : ℕ) (s : List ℕ) (k : ℕ) {r : HeadRead} {h : D.Head} {c : Cursor} → head_read r ≡ head l (totals before 0) s k → r ≡ H.Value h c

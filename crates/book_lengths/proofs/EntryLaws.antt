@@ -88,5 +88,5 @@ entries-stored place n s k first count lens wds {r} {ls} {ws} w e el ew fl fw =
     (λ j. (b₁ j, b₂ j))
     (wrote_mapped (λ (x : List ℕ × List ℕ). (sets lens first x.0, sets wds first x.1)) w)
 
-pub ruleset entry-laws =
+pub ruleset entry_laws =
     (rules, entered_over, entered_under, entered_short, entered_accepted, entries_refused, entries_entered)

@@ -284,7 +284,7 @@ module _ (place n : ℕ) (s : List ℕ) (k : Cursor) where
       unfolding lengths ordered
       lengths-ordered e w = rw (value_is p q, ne_eqb _ _ e) w
 
-pub ruleset length-laws = (
+pub ruleset length_laws = (
   rules,
   used_cut,
   used_fits,

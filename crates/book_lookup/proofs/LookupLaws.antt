@@ -153,5 +153,5 @@ module _ (place : ℕ) (entries dimensions most first : ℕ) (s : List ℕ) (k :
       unfolding lookup
       type_some z e w = rw (value_is p q, le-leb type 2 h, ne_eqb type 0 z, ← e) w
 
-pub ruleset lookup-laws =
+pub ruleset lookup_laws =
     (rules, minimum_cut, delta_cut, width_cut, sequence_cut, parameters_whole, width_fits, count_one, count_two, product_fits, multiplicand_fits)

@@ -122,7 +122,7 @@ module _ (row : Row) where
   pub lookup_some : row.lookup ≤ 2 → (row.lookup ≡ 0 → ⊥) → {b : Bool} → (b ≡ true) ↔ SomeLookup (row_book row) → (b ≡ true) ↔ LookupRules row
   lookup_some h n p = ((λ t. record { known = le-leb _ _ h; none = λ z. absurd (n z); some = λ m. p.0 t }), (λ r. p.1 (r.some n)))
 
-pub ruleset lookup-laws = (rules, lookup_high, lookup_none, lookup_some)
+pub ruleset lookup_laws = (rules, lookup_high, lookup_none, lookup_some)
 
 -- a part of a table, as the code takes it
 part : (t : List ℕ) (first count : ℕ) {a b : ℕ} → a ≡ first → b ≡ count → take (a + b - a) (drop a t) ≡ take count (drop first t)
@@ -167,7 +167,7 @@ module _ (part : List ℕ) (width bound : ℕ) where
     unfolding all
     narrow_end h = rw (drop_of_length-le part h) at w.rest
 
-pub ruleset narrow-laws = (rules, narrow_start, narrow_next, narrow_stop, narrow_end)
+pub ruleset narrow_laws = (rules, narrow_start, narrow_next, narrow_stop, narrow_end)
 
 -- zeros behind all four tables
 pub all_clear : {rs ls ws ms : List ℕ} {b₁ b₂ b₃ b₄ : Bool} → (b₁ ≡ true) ↔ Zeros rs → not b₁ ≡ false → (b₂ ≡ true) ↔ Zeros ls → not b₂ ≡ false

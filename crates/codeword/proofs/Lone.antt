@@ -32,4 +32,4 @@ module _ (s : List ℕ) (k : Cursor) (next : Window) (b : NextBits s (position k
     unfolding mapped
     lone_cut z r p = let a = b.all (omega arith) in rw (p, field_cut s (position k) lone_bits (omega arith))
 
-pub ruleset lone-laws = (rules, lone_read)
+pub ruleset lone_laws = (rules, lone_read)

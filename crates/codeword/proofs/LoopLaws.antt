@@ -208,4 +208,4 @@ module _ (ls ws : List ℕ) (book : Codebook ls ws) (s : List ℕ) (k : Cursor) 
             let r : matching ls n (32 - n) s (position k) ≡ matching ls (n - 1) (32 - (n - 1)) s (position k) = rw before at (sym f) in
             record { counted = t.counted; within = t.within; bits = t.bits; none = t.none; rest = r ∙ t.rest }
 
-pub ruleset loop-laws = (rules, doubled, lengthened, in_codewords, taking_start, no_bit_left, few_taken, taken_one, all_passed, unused_passed, length_within, other_word, word_found, word_begun)
+pub ruleset loop_laws = (rules, doubled, lengthened, in_codewords, taking_start, no_bit_left, few_taken, taken_one, all_passed, unused_passed, length_within, other_word, word_found, word_begun)

@@ -74,7 +74,7 @@ module _ (books : ℕ) (s : List ℕ) (k : Cursor) {r : Field} (p : outcome r �
     unfolding into1 mapped put_row cell subclass_book
     book_set l i h e l' f = wrote_next (rw (value_is p q, le-leb _ _ h, f, e))
 
-pub ruleset book-laws = (rules, book_cut, book_fits, book_unset, book_set)
+pub ruleset book_laws = (rules, book_cut, book_fits, book_unset, book_set)
 
 -- a class's row
 pub subclasses_few : (e : ℕ) {x n : ℕ} → x ≡ 2 ^ e → n ≡ x → e ≤ 3 → n ≤ 8
@@ -144,4 +144,4 @@ module _ (books : ℕ) (s : List ℕ) (k : Cursor) (entry : List ℕ) (i : ℕ) 
             unfolding class
             class_read w = rw (value_is p₁ q₁, value_is p₂ q₂, value_is p₃ q₃) (wrote_as (same_row (many (subclass_book books) (2 ^ e) s (position k₃)) (table entry i)) w)
 
-pub ruleset class-laws = (rules, class_cut₁, class_cut₂, class_cut₃, dimensions_most, subclasses_most, master_most, class_read)
+pub ruleset class_laws = (rules, class_cut₁, class_cut₂, class_cut₃, dimensions_most, subclasses_most, master_most, class_read)

@@ -74,8 +74,8 @@ add_difference a b c d =
     hh : b ≤ a → d ≤ c → difference a b +ℤ difference c d ≡ difference (a + c) (b + d)
     hh h k = rw (above a b h, above c d k, above (a + c) (b + d) (omega arith)) (ap pos (omega arith))
 
-pub ltZ_difference : (a b c d : ℕ) → lt_z (difference a b) (difference c d) ≡ ltb (a + d) (c + b)
-ltZ_difference a b c d =
+pub lt_z_difference : (a b c d : ℕ) → lt_z (difference a b) (difference c d) ≡ ltb (a + d) (c + b)
+lt_z_difference a b c d =
     ⊎_elim
     (λ (h : a < b).
     ⊎_elim (λ (k : c < d). rw (below a b h, below c d k) (same_ltb (d - suc c) (b - suc a) (a + d) (c + b) (omega arith) (omega arith)))
@@ -85,8 +85,8 @@ ltZ_difference a b c d =
     (λ (k : d ≤ c). rw (above a b h, above c d k) (same_ltb (a - b) (c - d) (a + d) (c + b) (omega arith) (omega arith))) (lt_or_le c d))
     (lt_or_le a b)
 
-pub leZ_difference : (a b c d : ℕ) → le_z (difference a b) (difference c d) ≡ leb (a + d) (c + b)
-leZ_difference a b c d =
+pub le_z_difference : (a b c d : ℕ) → le_z (difference a b) (difference c d) ≡ leb (a + d) (c + b)
+le_z_difference a b c d =
     ⊎_elim
     (λ (h : a < b).
     ⊎_elim (λ (k : c < d). rw (below a b h, below c d k) (same_leb (d - suc c) (b - suc a) (a + d) (c + b) (omega arith) (omega arith)))

@@ -10,7 +10,7 @@ use borrow.Author.Tests.{lt-ltb, le-ltb}
 use Rattle.reading.proofs.Least.{lt_or_le}
 use Rattle.floor_line.specs.Line.{offset, line}
 use Rattle.floor_line.specs.Inner.LineHeight.{difference, line_height}
-use Rattle.floor_line.proofs.Integers.{same_difference, pos-difference, minus_difference, abs_difference, ltZ_difference, plus, minus}
+use Rattle.floor_line.proofs.Integers.{same_difference, pos-difference, minus_difference, abs_difference, lt_z_difference, plus, minus}
 
 -- ---- the offset, as the program computes it
 module _ (x0 x1 ady x : ℕ) where
@@ -81,13 +81,13 @@ module _ (x0 h0 x1 h1 x : ℕ) where
       falls : h1 < h0 → line x0 (difference h0 z) x1 (difference h1 z) x ≡ difference (line_height x0 h0 x1 h1 x) z
       falls h =
           let e : (h1 - h0) + (h0 - h1) ≡ h0 - h1 = omega arith in
-          rw (rise_or_fall z, e, ltZ_difference h1 z h0 z, lt-ltb (h1 + z) (h0 + z) (omega arith), height_falls h)
+          rw (rise_or_fall z, e, lt_z_difference h1 z h0 z, lt-ltb (h1 + z) (h0 + z) (omega arith), height_falls h)
           (minus h0 z (offset x0 x1 (h0 - h1) x) ∙ same_difference h0 (z + offset x0 x1 (h0 - h1) x) (h0 - offset x0 x1 (h0 - h1) x) z (omega (arith, offset_le x0 x1 (h0 - h1) x)))
 
       rises : h0 ≤ h1 → line x0 (difference h0 z) x1 (difference h1 z) x ≡ difference (line_height x0 h0 x1 h1 x) z
       rises h =
           let e : (h1 - h0) + (h0 - h1) ≡ h1 - h0 = omega arith in
-          rw (rise_or_fall z, e, ltZ_difference h1 z h0 z, le-ltb (h1 + z) (h0 + z) (omega arith), height_rises h) (plus h0 z (offset x0 x1 (h1 - h0) x))
+          rw (rise_or_fall z, e, lt_z_difference h1 z h0 z, le-ltb (h1 + z) (h0 + z) (omega arith), height_rises h) (plus h0 z (offset x0 x1 (h1 - h0) x))
 
   -- and from heights above 0
   pub line-pos : line x0 (pos h0) x1 (pos h1) x ≡ pos (line_height x0 h0 x1 h1 x)

@@ -14,7 +14,7 @@ use Rattle.reading.proofs.Least.{lt_or_le}
 use Rattle.floor_line.specs.Line.{offset, line}
 use Rattle.floor_line.specs.Inner.LineHeight.{difference}
 use Rattle.floor_line.specs.Inner.RenderLine.{State, next_state, state_after, base_of, sy_of, ady_of, render_line}
-use Rattle.floor_line.proofs.Integers.{same_ltb, pos-difference, neg_difference, minus_difference, ltZ_difference}
+use Rattle.floor_line.proofs.Integers.{same_ltb, pos-difference, neg_difference, minus_difference, lt_z_difference}
 use Rattle.floor_line.proofs.LineLaws.{offset_part}
 
 -- ---- quotient and remainder of a * n, from one n to the next
@@ -101,9 +101,9 @@ as_difference (negsuc n) = ap neg_ℤ (pos-difference (suc n)) ∙ neg_differenc
 sign : (y0 y1 : ℤ) → lt_z y1 y0 ≡ lt_z (y1 -ℤ y0) (pos 0)
 sign y0 y1 =
     rw (as_difference y0, as_difference y1)
-    (ltZ_difference (up y1) (down y1) (up y0) (down y0) ∙ same_ltb (up y1 + down y0) (up y0 + down y1) (up y1 + down y0 + 0) (0 + (down y1 + up y0)) (omega arith) (omega arith)
+    (lt_z_difference (up y1) (down y1) (up y0) (down y0) ∙ same_ltb (up y1 + down y0) (up y0 + down y1) (up y1 + down y0 + 0) (0 + (down y1 + up y0)) (omega arith) (omega arith)
     ∙ sym (ap (λ (z : ℤ). lt_z z (pos 0)) (minus_difference (up y1) (down y1) (up y0) (down y0)) ∙ ap (λ (z : ℤ). lt_z (difference (up y1 + down y0) (down y1 + up y0)) z) (pos-difference 0)
-    ∙ ltZ_difference (up y1 + down y0) (down y1 + up y0) 0 0))
+    ∙ lt_z_difference (up y1 + down y0) (down y1 + up y0) 0 0))
 
 abs_neg : (k : ℕ) → nat_abs (neg_ℤ (pos k)) ≡ k
 abs_neg zero = refl

@@ -16,7 +16,7 @@ use Rattle.reading.proofs.Least.{lt_or_le}
 use Rattle.floor_points.specs.FinalY.{room, unwrapped, clamped, flagged}
 use Rattle.floor_line.specs.Inner.LineHeight.{difference}
 use Rattle.floor_points.specs.Inner.Heights.{y_of, moved_height}
-use Rattle.floor_line.proofs.Integers.{same_ltb, same_leb, below, above, same_difference, pos-difference, add_difference, twice_difference, ltZ_difference, leZ_difference, plus, minus, from}
+use Rattle.floor_line.proofs.Integers.{same_ltb, same_leb, below, above, same_difference, pos-difference, add_difference, twice_difference, lt_z_difference, le_z_difference, plus, minus, from}
 
 -- a height moved by half a value
 module _ (h val : ℕ) where
@@ -32,12 +32,12 @@ module _ (range p : ℕ) where
   -- the rooms compare as twice the height with the height at which they are equal
   less_high : lt_z (pos range -ℤ y_of p) (y_of p) ≡ ltb (range + 131072) (2 * p)
   less_high =
-      ap (λ (z : ℤ). lt_z z (y_of p)) (from range p 65536) ∙ ltZ_difference (range + 65536) p p 65536
+      ap (λ (z : ℤ). lt_z z (y_of p)) (from range p 65536) ∙ lt_z_difference (range + 65536) p p 65536
       ∙ same_ltb (range + 65536 + 65536) (p + p) (range + 131072) (2 * p) (omega arith) (omega arith)
 
   more_high : lt_z (y_of p) (pos range -ℤ y_of p) ≡ ltb (2 * p) (range + 131072)
   more_high =
-      ap (λ (z : ℤ). lt_z (y_of p) z) (from range p 65536) ∙ ltZ_difference p 65536 (range + 65536) p
+      ap (λ (z : ℤ). lt_z (y_of p) z) (from range p 65536) ∙ lt_z_difference p 65536 (range + 65536) p
       ∙ same_ltb (p + p) (range + 65536 + 65536) (2 * p) (range + 131072) (omega arith) (omega arith)
 
   room_high : range + 131072 < 2 * p → room range (y_of p) ≡ difference (2 * (range + 65536)) (2 * p)
@@ -53,7 +53,7 @@ module _ (range p : ℕ) where
     fills_low : 2 * p ≤ range + 131072 → le_z (room range (y_of p)) (pos val) ≡ leb (2 * p) (val + 131072)
     fills_low h =
         rw (room_low h, pos-difference val)
-        (leZ_difference (2 * p) (2 * 65536) val 0 ∙ same_leb (2 * p + 0) (val + 2 * 65536) (2 * p) (val + 131072) (omega arith) (omega arith))
+        (le_z_difference (2 * p) (2 * 65536) val 0 ∙ same_leb (2 * p + 0) (val + 2 * 65536) (2 * p) (val + 131072) (omega arith) (omega arith))
 
     fills_high : range + 131072 ≤ 2 * p → le_z (room range (y_of p)) (pos val) ≡ leb (2 * range + 131072) (val + 2 * p)
     fills_high h =
@@ -61,7 +61,7 @@ module _ (range p : ℕ) where
         (λ (e : range + 131072 ≡ 2 * p). fills_low (omega arith) ∙ same_leb (2 * p) (val + 131072) (2 * range + 131072) (val + 2 * p) (omega arith) (omega arith))
         (λ (l : range + 131072 < 2 * p).
         rw (room_high l, pos-difference val)
-        (leZ_difference (2 * (range + 65536)) (2 * p) val 0
+        (le_z_difference (2 * (range + 65536)) (2 * p) val 0
         ∙ same_leb (2 * (range + 65536) + 0) (val + 2 * p) (2 * range + 131072) (val + 2 * p) (omega arith) (omega arith)))
         (eq-or-lt_of_le h)
 

@@ -31,4 +31,4 @@ classes_done l i n e h k = let same : i ≡ n = omega arith in rw (← same) e
 pub values_done : (cs l : List ℕ) (i n : ℕ) {m : ℕ} → m ≡ values_to cs l i → i ≤ n → n ≤ i → m ≡ values_to cs l n
 values_done cs l i n e h k = let same : i ≡ n = omega arith in rw (← same) e
 
-pub ruleset count-laws = (rules, classes_none, classes_next, classes_done, values_none, values_next, values_done)
+pub ruleset count_laws = (rules, classes_none, classes_next, classes_done, values_none, values_next, values_done)

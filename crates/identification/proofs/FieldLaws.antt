@@ -153,8 +153,8 @@ module _ (s : List ℕ) (k : Cursor) {r : Field} (p : outcome r ≡ block_size s
       unfolding block_sizes block_sizes_read
       sizes_whole h = rw (value_is p q, value_is p₁ q₁, le-leb _ _ h)
 
-pub ruleset stream-laws = (rules, version_cut, version_wrong, channels_cut, channels_none, channels_many, rate_cut, rate_none, stream_whole)
+pub ruleset stream_laws = (rules, version_cut, version_wrong, channels_cut, channels_none, channels_many, rate_cut, rate_none, stream_whole)
 
-pub ruleset bitrate-laws = (rules, maximum_cut, nominal_cut, minimum_cut, bitrates_whole)
+pub ruleset bitrate_laws = (rules, maximum_cut, nominal_cut, minimum_cut, bitrates_whole)
 
-pub ruleset size-laws = (rules, size_cut, size_small, size_large, size_whole, first_refused_lem, second_refused, sizes_reversed, sizes_whole)
+pub ruleset size_laws = (rules, size_cut, size_small, size_large, size_whole, first_refused_lem, second_refused, sizes_reversed, sizes_whole)

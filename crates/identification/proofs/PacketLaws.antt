@@ -100,4 +100,4 @@ module _ (most : ℕ) (s : List ℕ) {r : Step} (p : stepped r ≡ common_header
           unfolding identification identified
           accepted q₄ f g h = rw (next_is p q, stream_ok p₁ q₁, bitrates_ok p₂ q₂, sizes_ok p₃ q₃, value_is p₄ q₄, to_z-of_z f, to_z-of_z g, to_z-of_z h)
 
-pub ruleset packet-laws = (rules, header_refused, stream_refused, bitrates_refused, sizes_refused, framing_refused, accepted)
+pub ruleset packet_laws = (rules, header_refused, stream_refused, bitrates_refused, sizes_refused, framing_refused, accepted)

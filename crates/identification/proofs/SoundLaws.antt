@@ -181,7 +181,7 @@ module _ (most : ℕ) (i : Identity) where
     λ w. q ∙ w.second_size,
   )
 
-pub ruleset sound-laws = (rules, no_channel, many_channels, no_rate, reversed, first_unlisted, last_tested)
+pub ruleset sound_laws = (rules, no_channel, many_channels, no_rate, reversed, first_unlisted, last_tested)
 
 -- soundness and its test
 pub sound_test_lem : (most : ℕ) (i : Identity) → (is_sound most i ≡ true) ↔ Sound most i

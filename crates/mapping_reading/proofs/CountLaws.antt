@@ -66,4 +66,4 @@ submaps_few_here s k p q = submaps_few s (position k) (value_is p q)
 pub steps_few_here : (s : List ℕ) (k : Cursor) {r : Field} {v : ℕ} {k₁ : Cursor} → outcome r ≡ coupling_count s (position k) → r ≡ Value v k₁ → v ≤ 256
 steps_few_here s k p q = steps_few s (position k) (value_is p q)
 
-pub ruleset count-laws = (rules, four_fits, eight_fits, submaps_flag_cut, steps_flag_cut, submaps_one, steps_none, submaps_cut, submaps_some, steps_cut, steps_some)
+pub ruleset count_laws = (rules, four_fits, eight_fits, submaps_flag_cut, steps_flag_cut, submaps_one, steps_none, submaps_cut, submaps_some, steps_cut, steps_some)

@@ -72,4 +72,4 @@ module _ (channels : ℕ) (s : List ℕ) (k : Cursor) {r : Field} (p : outcome r
       unfolding into1 mapped coupling put_row coupling_row
       coupling_whole n cells i e = wrote_next (rw (e, value_is p q, value_is p₁ q₁, ne_eqb _ _ n))
 
-pub ruleset coupling-laws = (rules, width_fits, channel_fits, channel_cut, channel_unknown, channel_whole, magnitude_refused, angle_refused, both_one, coupling_whole)
+pub ruleset coupling_laws = (rules, width_fits, channel_fits, channel_cut, channel_unknown, channel_whole, magnitude_refused, angle_refused, both_one, coupling_whole)

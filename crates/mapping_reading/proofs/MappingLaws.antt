@@ -157,4 +157,4 @@ module _ (known : Known) (s : List ℕ) (n : ℕ) where
           let e : mapping_width * i + mapping_width ≡ mapping_width * (i + 1) = omega arith in
           record { within = omega arith; rest = subst (λ (j : ℕ). Rest (put_row mapping_row) (mapping known) s n W (i + 1) k' (table cells' j)) e (loop_next _ _ _ _ _ i k _ w.rest h one q) }
 
-pub ruleset mappings-laws = (rules, mappings_start, mappings_done, mappings_refused, mappings_next)
+pub ruleset mappings_laws = (rules, mappings_start, mappings_done, mappings_refused, mappings_next)

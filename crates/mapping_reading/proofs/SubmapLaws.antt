@@ -94,4 +94,4 @@ module _ (known : Known) (s : List ℕ) (k : Cursor) {r : Field} (p : outcome r 
           unfolding into1 mapped submap put_row submap_row
           submap_whole g cells i e = wrote_next (rw (e, value_is p q, value_is p₁ q₁, lt-ltb _ _ h, value_is p₂ q₂, lt-ltb _ _ g))
 
-pub ruleset multiplex-laws = (rules, multiplex_fits, multiplex_cut, multiplex_unknown, multiplex_whole, multiplex_none, multiplex_each)
+pub ruleset multiplex_laws = (rules, multiplex_fits, multiplex_cut, multiplex_unknown, multiplex_whole, multiplex_none, multiplex_each)

@@ -18,7 +18,7 @@ use Rattle.reading.proofs.Encodes.{iff_false, not_said, encodes_pad, Left, rows_
 use Rattle.reading.proofs.Basics.{length_zero}
 use Rattle.reading.proofs.Least.{lt_or_le}
 use Rattle.reading.proofs.Pads.{length-pad}
-use Rattle.reading.proofs.PairRows.{pair-laws}
+use Rattle.reading.proofs.PairRows.{pair_laws}
 use Rattle.mapping.specs.Content.{Coupling, Submap, Mapping, no_submap}
 use Rattle.mapping.specs.declared.Known.{Known}
 use Rattle.mapping.specs.Layout.{coupling_row, multiplex_row, submap_row, mapping_row, mapping_width, couplings_room}
@@ -68,9 +68,9 @@ module _ (number submaps : ℕ) where
     (λ r. le-leb _ _ (as_row r).1),
   )
 
-pub ruleset coupling-recognise-laws = (pair-laws, coupling_pairs)
+pub ruleset coupling_recognise_laws = (pair_laws, coupling_pairs)
 
-pub ruleset submap-recognise-laws = (pair-laws, submap_pairs)
+pub ruleset submap_recognise_laws = (pair_laws, submap_pairs)
 
 -- the loop over the multiplex: i numbers are found right
 pub record Numbers (submaps n : ℕ) (cells : List ℕ) (i : ℕ) : Type 0 where
@@ -108,7 +108,7 @@ module _ (submaps n : ℕ) (cells : List ℕ) where
         let e : drop (1 * n) cells ≡ drop n cells = ap (λ (k : ℕ). drop k cells) (one-mul n) in
         ((λ a. s.1 (subst Zeros (sym e) (said.0 a))), (λ b. said.1 (subst Zeros e (s.0 b))))
 
-pub ruleset multiplex-recognise-laws = (rules, numbers_short, numbers_start, numbers_stop, numbers_next, numbers_end)
+pub ruleset multiplex_recognise_laws = (rules, numbers_short, numbers_start, numbers_stop, numbers_next, numbers_end)
 
 -- how many multiplex numbers there are
 module _ (submaps channels : ℕ) where
@@ -148,7 +148,7 @@ module _ (submaps channels : ℕ) where
     pub count_most : channels ≤ 255 → count ≤ 256
     count_most h = ⊎_elim (λ g. let e = is_each g in omega arith) (λ g. let e = is_none (omega arith) in omega arith) (lt_or_le 1 submaps)
 
-pub ruleset count-known = (rules, count_none, count_each)
+pub ruleset count_known = (rules, count_none, count_each)
 
 -- the row of a mapping, part by part
 pub record Parts (known : Known) (cells : List ℕ) (steps k count : ℕ) : Type 0 where
@@ -346,4 +346,4 @@ module _ (known : Known) (n : ℕ) (cells : List ℕ) where
         let s = rows_end mapping_row (ValidMapping known) mapping_width mapping_wide n cells i f.left f.within h in
         ((λ e. s.1 (said.0 e)), (λ a. said.1 (s.0 a)))
 
-pub ruleset recognise-laws = (rules, too_short, find_start, find_end)
+pub ruleset recognise_laws = (rules, too_short, find_start, find_end)

@@ -130,8 +130,8 @@ module _ (mappings : ℕ) (s : List ℕ) (n : ℕ) where
           let e : 2 * i + 2 ≡ 2 * (i + 1) = omega arith in
           record { within = omega arith; rest = subst (λ (j : ℕ). Rest (put_row mode_row) (mode mappings) s n W (i + 1) k' (table cells' j)) e (loop_next _ _ _ _ _ i k _ w.rest h one q) }
 
-pub ruleset types-laws = (rules, window_cut, window_wrong, transform_cut, transform_wrong, types_whole)
+pub ruleset types_laws = (rules, window_cut, window_wrong, transform_cut, transform_wrong, types_whole)
 
-pub ruleset mode-laws = (rules, flag_fits, byte_below, flag_cut, types_refused, mapping_cut, mapping_unknown, mode_whole)
+pub ruleset mode_laws = (rules, flag_fits, byte_below, flag_cut, types_refused, mapping_cut, mapping_unknown, mode_whole)
 
-pub ruleset modes-laws = (rules, modes_start, modes_done, modes_refused, modes_next)
+pub ruleset modes_laws = (rules, modes_start, modes_done, modes_refused, modes_next)

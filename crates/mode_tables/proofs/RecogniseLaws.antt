@@ -7,7 +7,7 @@ use mathlib.Core.Logic.{◌↔◌}
 use mathlib.Core.Path.{◌≡◌, refl}
 use lib.Dec.{ltb}
 use Rattle.reading.proofs.Encodes.{iff_false}
-use Rattle.reading.proofs.PairRows.{PairRow, pair-laws}
+use Rattle.reading.proofs.PairRows.{PairRow, pair_laws}
 use Rattle.mode.specs.Layout.{mode_row}
 use Rattle.mode.specs.Inner.Valid.{ValidMode}
 use Rattle.mode.specs.Inner.Decode.{mode_of}
@@ -24,6 +24,6 @@ module _ (blockflag mapping mappings : ℕ) where
   pub flag_low : blockflag ≤ 1 → (ltb mapping mappings ≡ true) ↔ ValidMode mappings (mode_of blockflag mapping)
   flag_low h = ((λ e. record { carried = h; rule11 = e }), (λ v. v.rule11))
 
-pub ruleset number-laws = (rules, flag_high, flag_low)
+pub ruleset number_laws = (rules, flag_high, flag_low)
 
-pub ruleset recognise-laws = (pair-laws, mode_pairs)
+pub ruleset recognise_laws = (pair_laws, mode_pairs)

@@ -38,7 +38,7 @@ module _ (w : ℕ) (s : List ℕ) (k : Cursor) {r : Field} (p : outcome r ≡ fi
     unfolding into1 mapped put_row cell
     number_read l at e l' f = wrote_next (rw (value_is p q, f, e))
 
-pub ruleset number-laws = (rules, number_cut, number_fits, number_read)
+pub ruleset number_laws = (rules, number_cut, number_fits, number_read)
 
 -- nothing is left of a part whose end is reached
 pub slice_none : (f t : ℕ) (l : List ℕ) → t ≤ f → slice f t l ≡ []

@@ -73,4 +73,4 @@ module _ {A : Type 0} {row : A → List ℕ} {pair : ℕ → ℕ → A} (Valid :
           let s = rows_end row Valid 2 P.wide n cells i f.left f.within h in
           ((λ e. s.1 (said.0 e)), (λ a. said.1 (s.0 a)))
 
-pub ruleset pair-laws = (rules, too_short, find_start, find_stop, find_next, find_end)
+pub ruleset pair_laws = (rules, too_short, find_start, find_stop, find_next, find_end)

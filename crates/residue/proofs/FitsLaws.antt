@@ -86,7 +86,7 @@ module _ (f : ℕ → Bool) (l : List ℕ) (from to : ℕ) where
             let k : all f (take (to - (i + 1)) (drop (i + 1) l)) ≡ f (get_or l i 0) && all f (take (to - (i + 1)) (drop (i + 1) l)) = rw d in
             record { rest = k ∙ sym (turn i h g) ∙ w.rest }
 
-pub ruleset testing-laws = (rules, test_start, test_done, test_past, test_failed, test_next)
+pub ruleset testing_laws = (rules, test_start, test_done, test_past, test_failed, test_next)
 
 -- a test of the first rows of a grid
 module _ (f : ℕ → Bool) (plan : List (List ℕ)) (classes : ℕ) where
@@ -133,4 +133,4 @@ module _ (f : ℕ → Bool) (plan : List (List ℕ)) (classes : ℕ) where
 pub class_counted : (plan : List (List ℕ)) (i classes : ℕ) → Grid plan → classes ≤ 64 → i < classes → length (get_or plan i []) ≡ 8
 class_counted plan i classes g few h = row_counted plan i g (omega arith)
 
-pub ruleset rows-laws = (rules, class_counted, rows_start, rows_done, rows_next, rows_failed)
+pub ruleset rows_laws = (rules, class_counted, rows_start, rows_done, rows_next, rows_failed)

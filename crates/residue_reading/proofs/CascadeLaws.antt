@@ -52,7 +52,7 @@ module _ {r : Field} (s : List ℕ) (k : ℕ) {high : ℕ} {c : Cursor} (p : out
   pub cascade_fits : {r₁ : Field} (j : ℕ) {low : ℕ} {d : Cursor} → outcome r₁ ≡ field 3 s j → r₁ ≡ Value low d → high * 8 + low < 2 ^ 32
   cascade_fits j p₁ q₁ = let h = value_below 5 s k p q in let g = value_below 3 s j p₁ q₁ in omega arith
 
-pub ruleset cascade-laws = (rules, high_fits, cascade_fits, low_cut, flag_cut, low_alone, high_cut, high_and_low)
+pub ruleset cascade_laws = (rules, high_fits, cascade_fits, low_cut, flag_cut, low_alone, high_cut, high_and_low)
 
 -- the loop over the classes
 pub record Cascading (s : List ℕ) (classes : ℕ) (k₀ : Cursor) (numbers : List ℕ) (c : Cursor) (i : ℕ) : Type 0 where
@@ -80,4 +80,4 @@ module _ (s : List ℕ) (classes : ℕ) (k₀ : Cursor) where
           let n = length-replicate {A = ℕ} classes 0 in
           record { within = omega arith; filling = fill_next 0 0 64 (λ (x : ℕ). cascade) s (replicate classes 0) w.filling (omega arith) (value_is p q) }
 
-pub ruleset cascades-laws = (rules, cascades_start, cascades_done, cascades_refused, cascades_next)
+pub ruleset cascades_laws = (rules, cascades_start, cascades_done, cascades_refused, cascades_next)

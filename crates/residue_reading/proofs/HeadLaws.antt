@@ -80,4 +80,4 @@ module _ (count type begin end : ℕ) (s : List ℕ) (k : Cursor) {r : Field} (p
         unfolding head_from head_read
         head_whole h = rw (value_is p q, value_is p₁ q₁, value_is p₂ q₂, lt-ltb _ _ h)
 
-pub ruleset head-laws = (rules, size_fits, classes_fit, type_cut, type_large, begin_cut, end_cut, head_rest, size_cut, classes_cut, classbook_cut, classbook_unset, head_whole)
+pub ruleset head_laws = (rules, size_fits, classes_fit, type_cut, type_large, begin_cut, end_cut, head_rest, size_cut, classes_cut, classbook_cut, classbook_unset, head_whole)

@@ -51,7 +51,7 @@ module _ (count bit : ℕ) (s : List ℕ) (k : Cursor) where
 pub book_fits : {r : Field} (s : List ℕ) (k : ℕ) {v : ℕ} {c : Cursor} → outcome r ≡ field 8 s k → r ≡ Value v c → v + 1 < 2 ^ 32
 book_fits s k p q = let h = value_below 8 s k p q in omega arith
 
-pub ruleset place-laws = (rules, place_none, place_cut, place_unset, place_book, book_fits)
+pub ruleset place_laws = (rules, place_none, place_cut, place_unset, place_book, book_fits)
 
 pub place_narrow : {r : Field} (count bit : ℕ) (s : List ℕ) (k : ℕ) {v : ℕ} {c : Cursor} → outcome r ≡ plan_book count bit s k → r ≡ Value v c → v < 2 ^ 16
 place_narrow count bit s k p q = let h = (place_sound count bit s k (value_is p q)).small in omega arith

@@ -80,7 +80,7 @@ cascades_long classes s k w q =
     let m = mapped_ok (pad_with 0 64) (many cascade classes s (position k)) (wrote_ok w q) in
     sym (ap length m.2) ∙ length-pad_with 0 64 m.0
 
-pub ruleset residue-laws = (rules, head_refused, cascades_refused, residue_rest, classes_few, wide_few, cascades_long)
+pub ruleset residue_laws = (rules, head_refused, cascades_refused, residue_rest, classes_few, wide_few, cascades_long)
 
 -- all residues
 module _ (B : Books) (s : List ℕ) (n : ℕ) (k₀ : Cursor) (h₀ p₀ : List ℕ) where
@@ -117,4 +117,4 @@ module _ (B : Books) (s : List ℕ) (n : ℕ) (k₀ : Cursor) (h₀ p₀ : List 
             rest = loop_next put_residue (residue B) s n whole i c (tables_at heads plans i) w.rest h one q;
           }
 
-pub ruleset residues-laws = (rules, residues_start, residues_done, residues_refused, residues_next)
+pub ruleset residues_laws = (rules, residues_start, residues_done, residues_refused, residues_next)

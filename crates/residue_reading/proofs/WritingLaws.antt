@@ -43,4 +43,4 @@ module _ (entry : List ℕ) (at : ℕ) (plan : List (List ℕ)) where
         let c = g.classes in
         w.is ∙ ap (λ (l : List (List ℕ)). sets entry at (rows (λ row. row) l)) (take_all i plan (omega arith))
 
-pub ruleset writing-laws = (rules, row_counted, writing_start, writing_next, writing_done)
+pub ruleset writing_laws = (rules, row_counted, writing_start, writing_next, writing_done)

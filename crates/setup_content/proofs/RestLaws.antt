@@ -62,7 +62,7 @@ module _ (s : List ℕ) (k : Cursor) {r : Field} (p : outcome r ≡ framing s (p
   unfolding stepped
   framing_set q = rw (value_is p q)
 
-pub ruleset framing-laws = (rules, framing_bad, framing_set)
+pub ruleset framing_laws = (rules, framing_bad, framing_set)
 
 -- what follows the books
 module _ (channels : ℕ) (books : Books) (s : List ℕ) (k : Cursor) {st : Step} {n₁ n₂ n₃ n₄ : ℕ} {f f' r r' p p' a a' o o' : List ℕ}

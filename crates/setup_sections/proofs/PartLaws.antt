@@ -92,10 +92,10 @@ module _ (channels : ℕ) (books : Books) (s : List ℕ) (k : Cursor) {st : Step
       (λ t. record { channels = channels; floors = b.2.floor_rows.count t; residues = b.2.residue_rows.count t }) l₁ in
       rw b.1 (followed (λ y. (b.0, y)) (mapping_part (known channels b.0.0 b.0.1) s (position c)) l₂ (λ y d. record { floor_part_is = b.2; mapping_part_is = d }))
 
-pub ruleset book-part-laws = (rules, book_part_refused, book_part_read)
+pub ruleset book_part_laws = (rules, book_part_refused, book_part_read)
 
-pub ruleset floor-part-laws = (rules, floor_part_refused, floor_part_read)
+pub ruleset floor_part_laws = (rules, floor_part_refused, floor_part_read)
 
-pub ruleset mapping-part-laws = (rules, mapping_part_refused, mapping_part_read)
+pub ruleset mapping_part_laws = (rules, mapping_part_refused, mapping_part_read)
 
-pub ruleset after-laws = (rules, after_refused, after_read)
+pub ruleset after_laws = (rules, after_refused, after_read)

@@ -200,10 +200,10 @@ module _ (s : List ℕ) (n : ℕ) (whole : Outcome ℕ) (i : ℕ) (c : Cursor) (
         let b = after_ok (time_value s (position c)) (sym one ∙ ap stepped q) in
         sym (turn s n i (position c) h ∙ (rw b.1 (after_cons b.0 (many time_value (n - (i + 1)) s (position c'))))) ∙ left
 
-pub ruleset section-laws = (rules, count_few, count_fits, wide_few, section_cut, section_read)
+pub ruleset section_laws = (rules, count_few, count_fits, wide_few, section_cut, section_read)
 
-pub ruleset book-laws = (rules, books_few, books_fit, books_cut, books_read)
+pub ruleset book_laws = (rules, books_few, books_fit, books_cut, books_read)
 
-pub ruleset residue-laws = (rules, count_few, count_fits, wide_few, residues_cut, residues_read)
+pub ruleset residue_laws = (rules, count_few, count_fits, wide_few, residues_cut, residues_read)
 
-pub ruleset time-laws = (rules, count_fits, time_cut, time_wrong, time_read, times_cut, times_read, times_start, times_done, times_refused, times_next)
+pub ruleset time_laws = (rules, count_fits, time_cut, time_wrong, time_read, times_cut, times_read, times_start, times_done, times_refused, times_next)

@@ -53,7 +53,7 @@ and_sound s a e =
 pub sound_standard : {most : ℕ} (i : Identity) (b : Bool) → most ≡ 8 → (b ≡ true) ↔ Sound most i → (b ≡ true) ↔ Sound 8 i
 sound_standard i b e w = rw e at w
 
-pub ruleset door-laws = (rules, answer_accepted, answer_refused, sound_standard)
+pub ruleset door_laws = (rules, answer_accepted, answer_refused, sound_standard)
 
 -- the codewords' call: its number and its list are both by the definition's answer
 pub codewords_answer : (ls : List ℕ) (places : ℕ) (out : List ℕ) (r : Assigned) (n : ℕ) → r ≡ assigned ls places → out ≡ written r ls places → n ≡ B.refusal r

@@ -76,4 +76,4 @@ module _ (f : Field) where
   unfolding outcome Addressable
   place_addressable q h = rw q at h
 
-pub ruleset answer-laws = (rules, answer_refused, answer_read, place_addressable)
+pub ruleset answer_laws = (rules, answer_refused, answer_read, place_addressable)

@@ -1,5 +1,5 @@
 -- `audio_head::read_flags` meets its contract, by HeadLaws: one law for each way out. Assumes nothing.
-use Rattle.audio_head.proofs.HeadLaws.{flags-laws}
+use Rattle.audio_head.proofs.HeadLaws.{flags_laws}
 use borrow.Author.Rules.{rules}
 use Rattle.audio_head.proofs.read_flags.Statement.{statement}
 use Rattle.audio_head.proofs.read_flags.Tie as tie
@@ -8,7 +8,7 @@ block-size-requires : tie.Need-block-size-requires
 block-size-requires c κs = search rules
 
 returns : tie.Need-returns
-returns c = search flags-laws
+returns c = search flags_laws
 
 bit-requires : tie.Need-bit-requires
 bit-requires c κs = search rules
@@ -29,13 +29,13 @@ enum-known-next : tie.Need-enum-known-next
 enum-known-next c = search rules
 
 returns-2 : tie.Need-returns-2
-returns-2 c = search flags-laws
+returns-2 c = search flags_laws
 
 returns-3 : tie.Need-returns-3
-returns-3 c = search flags-laws
+returns-3 c = search flags_laws
 
 returns-4 : tie.Need-returns-4
-returns-4 c = search flags-laws
+returns-4 c = search flags_laws
 
 pub read-flags-spec : {M : Type 1} → statement M
 read-flags-spec =

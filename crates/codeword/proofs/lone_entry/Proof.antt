@@ -1,5 +1,5 @@
 -- `codeword::lone_entry` meets its contract, by Lone. Assumes nothing.
-use Rattle.codeword.proofs.Lone.{lone_cut, lone_there, lone-laws}
+use Rattle.codeword.proofs.Lone.{lone_cut, lone_there, lone_laws}
 use borrow.Author.Rules.{rules}
 use Rattle.codeword.proofs.lone_entry.Statement.{statement}
 use Rattle.codeword.proofs.lone_entry.Tie as tie
@@ -14,7 +14,7 @@ after-requires : tie.Need-after-requires
 after-requires c κs = let t = lone_there _ _ _ c.before.before.before.requires c.if1.false in search rules
 
 returns-2 : tie.Need-returns-2
-returns-2 c = search lone-laws
+returns-2 c = search lone_laws
 
 pub lone-entry-spec : {M : Type 1} → statement M
 lone-entry-spec =

@@ -3,7 +3,7 @@ use Prim.Native.Nat.{◌-◌}
 use native.Mathlib.Omega.{arith}
 use lib.ListN.{length}
 use Rattle.bits.specs.Inner.Cursors.{position}
-use Rattle.codeword.proofs.LoopLaws.{Taking, Searching, taken_one, length_within, loop-laws}
+use Rattle.codeword.proofs.LoopLaws.{Taking, Searching, taken_one, length_within, loop_laws}
 use borrow.Author.Rules.{rules}
 use Rattle.codeword.proofs.match_codeword.Statement.{statement}
 use Rattle.codeword.proofs.match_codeword.Tie as tie
@@ -21,19 +21,19 @@ abbrev decreases-word : tie.decreases-word
 decreases-word packet from next lengths codewords word₀ taken₀ entry₀ word taken entry = next.count - taken
 
 word_holds : tie.Need-word-init invariant-entry decreases-entry invariant-word decreases-word
-word_holds c = search loop-laws
+word_holds c = search loop_laws
 
 cut-requires : tie.Need-cut-requires invariant-entry decreases-entry invariant-word decreases-word
 cut-requires c κs = search rules
 
 mul-word : tie.Need-overflow-mul-word invariant-entry decreases-entry invariant-word decreases-word
-mul-word c = search loop-laws
+mul-word c = search loop_laws
 
 bit-requires : tie.Need-bit-requires invariant-entry decreases-entry invariant-word decreases-word
-bit-requires c κs = search loop-laws
+bit-requires c κs = search loop_laws
 
 add-word : tie.Need-overflow-add-word invariant-entry decreases-entry invariant-word decreases-word
-add-word c = search loop-laws
+add-word c = search loop_laws
 
 add-taken : tie.Need-overflow-add-taken invariant-entry decreases-entry invariant-word decreases-word
 add-taken c = search rules
@@ -56,7 +56,7 @@ mul-if4 : tie.Need-overflow-mul-if4 invariant-entry decreases-entry invariant-wo
 mul-if4 c = search rules
 
 shared-slice-read-if4 : tie.Need-shared-slice-read-if4 invariant-entry decreases-entry invariant-word decreases-word
-shared-slice-read-if4 c = search loop-laws
+shared-slice-read-if4 c = search loop_laws
 
 cast-if4 : tie.Need-overflow-cast-if4 invariant-entry decreases-entry invariant-word decreases-word
 cast-if4 c =
@@ -76,13 +76,13 @@ cast-t26 : tie.Need-overflow-cast-t26 invariant-entry decreases-entry invariant-
 cast-t26 c = search rules
 
 after-requires : tie.Need-after-requires invariant-entry decreases-entry invariant-word decreases-word
-after-requires c κs = search loop-laws
+after-requires c κs = search loop_laws
 
 word-less : tie.Need-word-smaller invariant-entry decreases-entry invariant-word decreases-word
 word-less c = search rules
 
 word-again : tie.Need-word-preserved invariant-entry decreases-entry invariant-word decreases-word
-word-again c = search loop-laws
+word-again c = search loop_laws
 
 add-entry : tie.Need-overflow-add-entry invariant-entry decreases-entry invariant-word decreases-word
 add-entry c = search rules
@@ -91,7 +91,7 @@ entry-less : tie.Need-entry-smaller invariant-entry decreases-entry invariant-wo
 entry-less c = search rules
 
 entry-again : tie.Need-entry-preserved invariant-entry decreases-entry invariant-word decreases-word
-entry-again c = search loop-laws
+entry-again c = search loop_laws
 
 add-past-unused : tie.Need-overflow-add-past-unused invariant-entry decreases-entry invariant-word decreases-word
 add-past-unused c = search rules
@@ -103,16 +103,16 @@ entry-less-2 : tie.Need-entry-smaller-2 invariant-entry decreases-entry invarian
 entry-less-2 c = search rules
 
 entry-again-2 : tie.Need-entry-preserved-2 invariant-entry decreases-entry invariant-word decreases-word
-entry-again-2 c = search loop-laws
+entry-again-2 c = search loop_laws
 
 returns : tie.Need-returns invariant-entry decreases-entry invariant-word decreases-word
-returns c = search loop-laws
+returns c = search loop_laws
 
 returns-2 : tie.Need-returns-2 invariant-entry decreases-entry invariant-word decreases-word
-returns-2 c = search loop-laws
+returns-2 c = search loop_laws
 
 returns-3 : tie.Need-returns-3 invariant-entry decreases-entry invariant-word decreases-word
-returns-3 c = search loop-laws
+returns-3 c = search loop_laws
 
 pub match-codeword-spec : {M : Type 1} → statement M
 match-codeword-spec =

@@ -1,7 +1,7 @@
 -- `floor_class::read_class` meets its contract. Assumes nothing.
 use native.Mathlib.Omega.{arith}
 use Rattle.bits.proofs.Answers.{value_below}
-use Rattle.floor_class.proofs.ClassLaws.{class-laws, class_cut₁, class_cut₂, class_cut₃, class_read}
+use Rattle.floor_class.proofs.ClassLaws.{class_laws, class_cut₁, class_cut₂, class_cut₃, class_read}
 use borrow.Author.Rules.{rules}
 use Rattle.floor_class.proofs.read_class.Statement.{statement}
 use Rattle.floor_class.proofs.read_class.Tie as tie
@@ -37,7 +37,7 @@ add-read-class-row : tie.Need-overflow-add-read-class-row
 add-read-class-row c = omega (arith, value_below 3 _ _ c.before.before.before.before.before.before.before.before.before.before.before.field.ensures c.before.before.before.before.before.before.before.before.before.dimensions.given.1)
 
 read-class-row-requires : tie.Need-read-class-row-requires
-read-class-row-requires c κs = search class-laws
+read-class-row-requires c κs = search class_laws
 
 returns : tie.Need-returns
 returns c = search class_cut₁

@@ -1,5 +1,5 @@
 -- `floor_class::read_subclass_book` meets its contract. Assumes nothing.
-use Rattle.floor_class.proofs.ClassLaws.{book-laws, book_unset, book_cut, book_set}
+use Rattle.floor_class.proofs.ClassLaws.{book_laws, book_unset, book_cut, book_set}
 use borrow.Author.Rules.{rules}
 use Rattle.floor_class.proofs.read_subclass_book.Statement.{statement}
 use Rattle.floor_class.proofs.read_subclass_book.Tie as tie
@@ -17,7 +17,7 @@ returns : tie.Need-returns
 returns c = search book_unset
 
 narrow-requires : tie.Need-narrow-requires
-narrow-requires c κs = search book-laws
+narrow-requires c κs = search book_laws
 
 put-u16-requires : tie.Need-put-u16-requires
 put-u16-requires c κs = search rules

@@ -1,7 +1,7 @@
 -- `floor_reading::read_after_classes` meets its contract. Assumes nothing.
 use mathlib.Core.List.{[]}
 use native.Mathlib.Omega.{arith}
-use Rattle.floor_reading.proofs.RowLaws.{after_few, after-laws, after_refused, after_written}
+use Rattle.floor_reading.proofs.RowLaws.{after_few, after_laws, after_refused, after_written}
 use borrow.Author.Rules.{rules}
 use Rattle.floor_reading.proofs.read_after_classes.Statement.{statement}
 use Rattle.floor_reading.proofs.read_after_classes.Tie as tie
@@ -22,16 +22,16 @@ enum-known-step-2 : tie.Need-enum-known-step-2
 enum-known-step-2 c = search rules
 
 short-requires : tie.Need-short-requires
-short-requires c κs = search after-laws
+short-requires c κs = search after_laws
 
 short-requires-2 : tie.Need-short-requires-2
-short-requires-2 c κs = search after-laws
+short-requires-2 c κs = search after_laws
 
 narrow-requires : tie.Need-narrow-requires
-narrow-requires c κs = search after-laws
+narrow-requires c κs = search after_laws
 
 narrow-requires-2 : tie.Need-narrow-requires-2
-narrow-requires-2 c κs = search after-laws
+narrow-requires-2 c κs = search after_laws
 
 add-short : tie.Need-overflow-add-short
 add-short c =
@@ -39,7 +39,7 @@ add-short c =
     omega (arith, after_few _ read.before.before.before.before.before.before.before.args.partition-count 0 _ _ _ _ [] 0 read.before.before.value_count_is.ensures read.read-ends.ensures c.before.before.before.before.before.step2.given.1)
 
 short-requires-3 : tie.Need-short-requires-3
-short-requires-3 c κs = search after-laws
+short-requires-3 c κs = search after_laws
 
 slice-aggregate-write-row : tie.Need-slice-aggregate-write-row
 slice-aggregate-write-row c = search rules

@@ -1,5 +1,5 @@
 -- `floor_reading::read_floor` meets its contract. Assumes nothing.
-use Rattle.floor_reading.proofs.RowLaws.{floor-laws}
+use Rattle.floor_reading.proofs.RowLaws.{floor_laws}
 use borrow.Author.Rules.{rules}
 use Rattle.floor_reading.proofs.read_floor.Statement.{statement}
 use Rattle.floor_reading.proofs.read_floor.Tie as tie
@@ -17,13 +17,13 @@ read-floor1-requires : tie.Need-read-floor1-requires
 read-floor1-requires c κs = search rules
 
 returns : tie.Need-returns
-returns c = search floor-laws
+returns c = search floor_laws
 
 same_length : tie.Need-same-length
 same_length c = search rules
 
 returns-2 : tie.Need-returns-2
-returns-2 c = search floor-laws
+returns-2 c = search floor_laws
 
 pub read-floor-spec : {M : Type 1} → statement M
 read-floor-spec =

@@ -1,5 +1,5 @@
 -- `floor_reading::read_floor1` meets its contract. Assumes nothing.
-use Rattle.floor_reading.proofs.RowLaws.{floor1-laws}
+use Rattle.floor_reading.proofs.RowLaws.{floor1_laws}
 use borrow.Author.Rules.{rules}
 use Rattle.floor_reading.proofs.read_floor1.Statement.{statement}
 use Rattle.floor_reading.proofs.read_floor1.Tie as tie
@@ -20,7 +20,7 @@ slice-aggregate-read-numbers : tie.Need-slice-aggregate-read-numbers
 slice-aggregate-read-numbers c = search rules
 
 read-numbers-requires : tie.Need-read-numbers-requires
-read-numbers-requires c κs = search floor1-laws
+read-numbers-requires c κs = search floor1_laws
 
 enum-known-z-2 : tie.Need-enum-known-z-2
 enum-known-z-2 c = search rules
@@ -32,19 +32,19 @@ slice-aggregate-read-after-partitions : tie.Need-slice-aggregate-read-after-part
 slice-aggregate-read-after-partitions c = search rules
 
 read-after-partitions-requires : tie.Need-read-after-partitions-requires
-read-after-partitions-requires c κs = search floor1-laws
+read-after-partitions-requires c κs = search floor1_laws
 
 returns : tie.Need-returns
-returns c = search floor1-laws
+returns c = search floor1_laws
 
 returns-2 : tie.Need-returns-2
-returns-2 c = search floor1-laws
+returns-2 c = search floor1_laws
 
 same_length : tie.Need-same-length
 same_length c = search rules
 
 returns-3 : tie.Need-returns-3
-returns-3 c = search floor1-laws
+returns-3 c = search floor1_laws
 
 pub read-floor1-spec : {M : Type 1} → statement M
 read-floor1-spec =

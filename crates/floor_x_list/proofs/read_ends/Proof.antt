@@ -1,7 +1,7 @@
 -- `floor_x_list::read_ends` meets its contract. Assumes nothing.
 use native.Mathlib.Omega.{arith}
 use Rattle.bits.proofs.Answers.{value_below}
-use Rattle.floor_x_list.proofs.XListLaws.{ends-laws, ends_cut₁, ends_cut₂, ends_read_lem}
+use Rattle.floor_x_list.proofs.XListLaws.{ends_laws, ends_cut₁, ends_cut₂, ends_read_lem}
 use borrow.Author.Rules.{rules}
 use Rattle.floor_x_list.proofs.read_ends.Statement.{statement}
 use Rattle.floor_x_list.proofs.read_ends.Tie as tie
@@ -28,7 +28,7 @@ add-read-x-list : tie.Need-overflow-add-read-x-list
 add-read-x-list c = omega (arith, value_below 2 _ _ c.before.before.before.before.before.before.before.field.ensures c.before.before.before.before.before.multiplier.given.1)
 
 read-x-list-requires : tie.Need-read-x-list-requires
-read-x-list-requires c κs = search ends-laws
+read-x-list-requires c κs = search ends_laws
 
 returns : tie.Need-returns
 returns c = search ends_cut₁

@@ -1,6 +1,6 @@
 -- `identification::read` meets its contract: one law of PacketLaws for each way out, and beside it that an accepted identity is sound. Assumes nothing.
 use borrow.Author.Rules.{rules}
-use Rattle.identification.proofs.PacketLaws.{packet-laws, framing_refused, accepted}
+use Rattle.identification.proofs.PacketLaws.{packet_laws, framing_refused, accepted}
 use Rattle.identification.proofs.SoundLaws.{and_sound}
 use Rattle.identification.proofs.read.Statement.{statement}
 use Rattle.identification.proofs.read.Tie as tie
@@ -51,16 +51,16 @@ enum_told : tie.Need-enum-told
 enum_told c = search rules
 
 returns : tie.Need-returns
-returns c = and_sound _ _ _ (search packet-laws)
+returns c = and_sound _ _ _ (search packet_laws)
 
 returns-2 : tie.Need-returns-2
-returns-2 c = and_sound _ _ _ (search packet-laws)
+returns-2 c = and_sound _ _ _ (search packet_laws)
 
 returns-3 : tie.Need-returns-3
-returns-3 c = and_sound _ _ _ (search packet-laws)
+returns-3 c = and_sound _ _ _ (search packet_laws)
 
 returns-4 : tie.Need-returns-4
-returns-4 c = and_sound _ _ _ (search packet-laws)
+returns-4 c = and_sound _ _ _ (search packet_laws)
 
 returns-5 : tie.Need-returns-5
 returns-5 c =

@@ -7,7 +7,7 @@ use Rattle.reading.specs.Inner.Table.{table, put_row}
 use Rattle.bits.specs.Inner.Cursors.{position}
 use Rattle.mapping.specs.Reading.{mapping}
 use Rattle.mapping.specs.Layout.{mapping_row}
-use Rattle.mapping_reading.proofs.MappingLaws.{Reading, mappings-laws}
+use Rattle.mapping_reading.proofs.MappingLaws.{Reading, mappings_laws}
 use borrow.Author.Rules.{rules}
 use Rattle.mapping_reading.proofs.read_mappings.Statement.{statement}
 use Rattle.mapping_reading.proofs.read_mappings.Tie as tie
@@ -19,7 +19,7 @@ abbrev decreases-loop : tie.decreases-loop
 decreases-loop packet count known mappings₀ k₀ i₀ mappings k i = count - i
 
 loop-holds : tie.Need-loop-init invariant-loop decreases-loop
-loop-holds c = search mappings-laws
+loop-holds c = search mappings_laws
 
 mul-read-mapping : tie.Need-overflow-mul-read-mapping invariant-loop decreases-loop
 mul-read-mapping c = search rules
@@ -31,10 +31,10 @@ enum-known-z : tie.Need-enum-known-z invariant-loop decreases-loop
 enum-known-z c = search rules
 
 same_length : tie.Need-same-length invariant-loop decreases-loop
-same_length c = search mappings-laws
+same_length c = search mappings_laws
 
 returns : tie.Need-returns invariant-loop decreases-loop
-returns c = search mappings-laws
+returns c = search mappings_laws
 
 enum-known-next : tie.Need-enum-known-next invariant-loop decreases-loop
 enum-known-next c = search rules
@@ -46,13 +46,13 @@ loop-less : tie.Need-loop-smaller invariant-loop decreases-loop
 loop-less c = search rules
 
 loop-again : tie.Need-loop-preserved invariant-loop decreases-loop
-loop-again c = search mappings-laws
+loop-again c = search mappings_laws
 
 same-length-2 : tie.Need-same-length-2 invariant-loop decreases-loop
-same-length-2 c = search mappings-laws
+same-length-2 c = search mappings_laws
 
 returns-2 : tie.Need-returns-2 invariant-loop decreases-loop
-returns-2 c = search mappings-laws
+returns-2 c = search mappings_laws
 
 pub read-mappings-spec : {M : Type 1} → statement M
 read-mappings-spec =

@@ -7,7 +7,7 @@ use Rattle.bits.specs.Inner.Cursors.{position}
 use Rattle.mode.specs.Reading.{mode}
 use Rattle.mode.specs.Layout.{mode_row}
 use Prim.Native.Nat.{◌-◌, ◌≤◌}
-use Rattle.mode_reading.proofs.ReadLaws.{Reading, modes-laws}
+use Rattle.mode_reading.proofs.ReadLaws.{Reading, modes_laws}
 use borrow.Author.Rules.{rules}
 use Rattle.mode_reading.proofs.read_modes.Statement.{statement}
 use Rattle.mode_reading.proofs.read_modes.Tie as tie
@@ -19,7 +19,7 @@ abbrev decreases-loop : tie.decreases-loop
 decreases-loop packet count mappings modes₀ k₀ i₀ modes k i = count - i
 
 loop-holds : tie.Need-loop-init invariant-loop decreases-loop
-loop-holds c = search modes-laws
+loop-holds c = search modes_laws
 
 mul-read-mode : tie.Need-overflow-mul-read-mode invariant-loop decreases-loop
 mul-read-mode c = search rules
@@ -31,10 +31,10 @@ enum-known-z : tie.Need-enum-known-z invariant-loop decreases-loop
 enum-known-z c = search rules
 
 same_length : tie.Need-same-length invariant-loop decreases-loop
-same_length c = search modes-laws
+same_length c = search modes_laws
 
 returns : tie.Need-returns invariant-loop decreases-loop
-returns c = search modes-laws
+returns c = search modes_laws
 
 enum-known-next : tie.Need-enum-known-next invariant-loop decreases-loop
 enum-known-next c = search rules
@@ -46,13 +46,13 @@ loop-less : tie.Need-loop-smaller invariant-loop decreases-loop
 loop-less c = search rules
 
 loop-again : tie.Need-loop-preserved invariant-loop decreases-loop
-loop-again c = search modes-laws
+loop-again c = search modes_laws
 
 same-length-2 : tie.Need-same-length-2 invariant-loop decreases-loop
-same-length-2 c = search modes-laws
+same-length-2 c = search modes_laws
 
 returns-2 : tie.Need-returns-2 invariant-loop decreases-loop
-returns-2 c = search modes-laws
+returns-2 c = search modes_laws
 
 pub read-modes-spec : {M : Type 1} → statement M
 read-modes-spec =

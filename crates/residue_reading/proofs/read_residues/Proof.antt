@@ -2,7 +2,7 @@
 use Rattle.residue.proofs.Laws.{accepted_valid}
 use Prim.Native.Nat.{◌-◌}
 use Rattle.residue.specs.Inner.FromTable.{books_of}
-use Rattle.residue_reading.proofs.ResidueLaws.{ReadingResidues, residues-laws}
+use Rattle.residue_reading.proofs.ResidueLaws.{ReadingResidues, residues_laws}
 use borrow.Author.Rules.{rules}
 use Rattle.residue_reading.proofs.read_residues.Statement.{statement}
 use Rattle.residue_reading.proofs.read_residues.Tie as tie
@@ -14,7 +14,7 @@ abbrev decreases-loop : tie.decreases-loop
 decreases-loop packet count books residues₀ plans₀ n at₀ i₀ residues plans at i = n - i
 
 loop-holds : tie.Need-loop-init invariant-loop decreases-loop
-loop-holds c = search residues-laws
+loop-holds c = search residues_laws
 
 read-residue-requires : tie.Need-read-residue-requires invariant-loop decreases-loop
 read-residue-requires c κs = search rules
@@ -29,7 +29,7 @@ same-length-2 : tie.Need-same-length-2 invariant-loop decreases-loop
 same-length-2 c = search rules
 
 returns : tie.Need-returns invariant-loop decreases-loop
-returns c = (search residues-laws, accepted_valid _ _ _ _)
+returns c = (search residues_laws, accepted_valid _ _ _ _)
 
 enum-known-next : tie.Need-enum-known-next invariant-loop decreases-loop
 enum-known-next c = search rules
@@ -41,7 +41,7 @@ loop-less : tie.Need-loop-smaller invariant-loop decreases-loop
 loop-less c = search rules
 
 loop-again : tie.Need-loop-preserved invariant-loop decreases-loop
-loop-again c = search residues-laws
+loop-again c = search residues_laws
 
 same-length-3 : tie.Need-same-length-3 invariant-loop decreases-loop
 same-length-3 c = search rules
@@ -50,7 +50,7 @@ same-length-4 : tie.Need-same-length-4 invariant-loop decreases-loop
 same-length-4 c = search rules
 
 returns-2 : tie.Need-returns-2 invariant-loop decreases-loop
-returns-2 c = (search residues-laws, accepted_valid _ _ _ _)
+returns-2 c = (search residues_laws, accepted_valid _ _ _ _)
 
 pub read-residues-spec : {M : Type 1} → statement M
 read-residues-spec =

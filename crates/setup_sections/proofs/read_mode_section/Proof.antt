@@ -1,5 +1,5 @@
 -- `crate::read_mode_section` meets its contract, by SectionLaws. Assumes nothing.
-use Rattle.setup_sections.proofs.SectionLaws.{section-laws}
+use Rattle.setup_sections.proofs.SectionLaws.{section_laws}
 use borrow.Author.Rules.{rules}
 use Rattle.setup_sections.proofs.read_mode_section.Statement.{statement}
 use Rattle.setup_sections.proofs.read_mode_section.Tie as tie
@@ -14,22 +14,22 @@ enum-known-less-one : tie.Need-enum-known-less-one
 enum-known-less-one c = search rules
 
 add-count : tie.Need-overflow-add-count
-add-count c = search section-laws
+add-count c = search section_laws
 
 wide-u32-requires : tie.Need-wide-u32-requires
 wide-u32-requires c κs = search rules
 
 read-modes-requires : tie.Need-read-modes-requires
-read-modes-requires c κs = search section-laws
+read-modes-requires c κs = search section_laws
 
 returns : tie.Need-returns
-returns c = search section-laws
+returns c = search section_laws
 
 same_length : tie.Need-same-length
 same_length c = search rules
 
 returns-2 : tie.Need-returns-2
-returns-2 c = search section-laws
+returns-2 c = search section_laws
 
 pub read-mode-section-spec : {M : Type 1} → statement M
 read-mode-section-spec =

@@ -1,5 +1,5 @@
 -- `crate::read_residue_section` meets its contract, by SectionLaws. Assumes nothing.
-use Rattle.setup_sections.proofs.SectionLaws.{residue-laws}
+use Rattle.setup_sections.proofs.SectionLaws.{residue_laws}
 use borrow.Author.Rules.{rules}
 use Rattle.setup_sections.proofs.read_residue_section.Statement.{statement}
 use Rattle.setup_sections.proofs.read_residue_section.Tie as tie
@@ -14,16 +14,16 @@ enum-known-less-one : tie.Need-enum-known-less-one
 enum-known-less-one c = search rules
 
 add-count : tie.Need-overflow-add-count
-add-count c = search residue-laws
+add-count c = search residue_laws
 
 wide-u32-requires : tie.Need-wide-u32-requires
 wide-u32-requires c κs = search rules
 
 read-residues-requires : tie.Need-read-residues-requires
-read-residues-requires c κs = search residue-laws
+read-residues-requires c κs = search residue_laws
 
 returns : tie.Need-returns
-returns c = search residue-laws
+returns c = search residue_laws
 
 same_length : tie.Need-same-length
 same_length c = search rules
@@ -32,7 +32,7 @@ same-length-2 : tie.Need-same-length-2
 same-length-2 c = search rules
 
 returns-2 : tie.Need-returns-2
-returns-2 c = search residue-laws
+returns-2 c = search residue_laws
 
 pub read-residue-section-spec : {M : Type 1} → statement M
 read-residue-section-spec =

@@ -1,6 +1,6 @@
 -- `audio_channels::live::used_channels` meets its contract, by LiveLaws. Assumes nothing.
 use Prim.Native.Nat.{◌-◌}
-use Rattle.audio_channels.proofs.LiveLaws.{Using, used-laws}
+use Rattle.audio_channels.proofs.LiveLaws.{Using, used_laws}
 use borrow.Author.Rules.{rules}
 use Rattle.audio_channels.proofs.live.used_channels.Statement.{statement}
 use Rattle.audio_channels.proofs.live.used_channels.Tie as tie
@@ -12,7 +12,7 @@ abbrev decreases-loop : tie.decreases-loop
 decreases-loop used channels live₀ i₀ live i = channels - i
 
 loop-holds : tie.Need-loop-init invariant-loop decreases-loop
-loop-holds c = search used-laws
+loop-holds c = search used_laws
 
 shared-slice-read-flag : tie.Need-shared-slice-read-flag invariant-loop decreases-loop
 shared-slice-read-flag c = search rules
@@ -30,10 +30,10 @@ loop-less : tie.Need-loop-smaller invariant-loop decreases-loop
 loop-less c = search rules
 
 loop-again : tie.Need-loop-preserved invariant-loop decreases-loop
-loop-again c = search used-laws
+loop-again c = search used_laws
 
 returns : tie.Need-returns invariant-loop decreases-loop
-returns c = search used-laws
+returns c = search used_laws
 
 pub used-channels-spec : {M : Type 1} → statement M
 used-channels-spec =

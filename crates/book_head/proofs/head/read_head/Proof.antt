@@ -1,5 +1,5 @@
 -- `book_head::head::read_head` meets its contract, by HeadLaws. Assumes nothing.
-use Rattle.book_head.proofs.HeadLaws.{head-laws}
+use Rattle.book_head.proofs.HeadLaws.{head_laws}
 use borrow.Author.Rules.{rules}
 use Rattle.book_head.proofs.head.read_head.Statement.{statement}
 use Rattle.book_head.proofs.head.read_head.Tie as tie
@@ -14,7 +14,7 @@ enum-known-pattern : tie.Need-enum-known-pattern
 enum-known-pattern c = search rules
 
 returns : tie.Need-returns
-returns c = search head-laws
+returns c = search head_laws
 
 field-requires-2 : tie.Need-field-requires-2
 field-requires-2 c κs = search rules
@@ -26,7 +26,7 @@ enum-known-dimensions : tie.Need-enum-known-dimensions
 enum-known-dimensions c = search rules
 
 returns-2 : tie.Need-returns-2
-returns-2 c = search head-laws
+returns-2 c = search head_laws
 
 read-entry-count-requires : tie.Need-read-entry-count-requires
 read-entry-count-requires c κs = search rules
@@ -38,16 +38,16 @@ enum-known-entries : tie.Need-enum-known-entries
 enum-known-entries c = search rules
 
 returns-3 : tie.Need-returns-3
-returns-3 c = search head-laws
+returns-3 c = search head_laws
 
 returns-4 : tie.Need-returns-4
-returns-4 c = search head-laws
+returns-4 c = search head_laws
 
 returns-5 : tie.Need-returns-5
-returns-5 c = search head-laws
+returns-5 c = search head_laws
 
 returns-6 : tie.Need-returns-6
-returns-6 c = search head-laws
+returns-6 c = search head_laws
 
 pub read-head-spec : {M : Type 1} → statement M
 read-head-spec =

@@ -1,5 +1,5 @@
 -- `book_lengths::entries::read_entries` meets its contract, by EntryLaws. Assumes nothing.
-use Rattle.book_lengths.proofs.EntryLaws.{entry-laws}
+use Rattle.book_lengths.proofs.EntryLaws.{entry_laws}
 use borrow.Author.Rules.{rules}
 use Rattle.book_lengths.proofs.entries.read_entries.Statement.{statement}
 use Rattle.book_lengths.proofs.entries.read_entries.Tie as tie
@@ -20,7 +20,7 @@ same_length : tie.Need-same-length
 same_length c = search rules
 
 returns : tie.Need-returns
-returns c = search entry-laws
+returns c = search entry_laws
 
 same-length-2 : tie.Need-same-length-2
 same-length-2 c = search rules
@@ -29,7 +29,7 @@ same-length-3 : tie.Need-same-length-3
 same-length-3 c = search rules
 
 returns-2 : tie.Need-returns-2
-returns-2 c = search entry-laws
+returns-2 c = search entry_laws
 
 pub read-entries-spec : {M : Type 1} → statement M
 read-entries-spec =

@@ -5,7 +5,7 @@ use lib.ListN.{length}
 use Rattle.bits.specs.Inner.Cursors.{position}
 use Rattle.book.specs.LengthsReading.{entry_length}
 use Rattle.bits.proofs.Filling.{Filling, filling_start, filling_refused, filling_next, filling_done}
-use Rattle.book_lengths.proofs.LengthLaws.{length-laws}
+use Rattle.book_lengths.proofs.LengthLaws.{length_laws}
 use borrow.Author.Rules.{rules}
 use Rattle.book_lengths.proofs.lengths.read_each.Statement.{statement}
 use Rattle.book_lengths.proofs.lengths.read_each.Tie as tie
@@ -35,7 +35,7 @@ enum-known-bits : tie.Need-enum-known-bits invariant-loop decreases-loop
 enum-known-bits c = search rules
 
 cast-part : tie.Need-overflow-cast-part invariant-loop decreases-loop
-cast-part c = search length-laws
+cast-part c = search length_laws
 
 slice-write-part : tie.Need-slice-write-part invariant-loop decreases-loop
 slice-write-part c = search rules

@@ -1,5 +1,5 @@
 -- `book_lengths::lengths::read_unordered` meets its contract, by LengthLaws. Assumes nothing.
-use Rattle.book_lengths.proofs.LengthLaws.{length-laws}
+use Rattle.book_lengths.proofs.LengthLaws.{length_laws}
 use borrow.Author.Rules.{rules}
 use Rattle.book_lengths.proofs.lengths.read_unordered.Statement.{statement}
 use Rattle.book_lengths.proofs.lengths.read_unordered.Tie as tie
@@ -17,13 +17,13 @@ read-each-requires : tie.Need-read-each-requires
 read-each-requires c κs = search rules
 
 returns : tie.Need-returns
-returns c = search length-laws
+returns c = search length_laws
 
 same_length : tie.Need-same-length
 same_length c = search rules
 
 returns-2 : tie.Need-returns-2
-returns-2 c = search length-laws
+returns-2 c = search length_laws
 
 pub read-unordered-spec : {M : Type 1} → statement M
 read-unordered-spec =

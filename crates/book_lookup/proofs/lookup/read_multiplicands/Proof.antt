@@ -5,7 +5,7 @@ use Rattle.bits.specs.Inner.Cursors.{position}
 use Rattle.bits.specs.Field.{field}
 use Rattle.bits.proofs.Answers.{value_is, refused_is}
 use Rattle.bits.proofs.Filling.{Filling, filling_start, filling_refused, filling_next, filling_done}
-use Rattle.book_lookup.proofs.LookupLaws.{lookup-laws}
+use Rattle.book_lookup.proofs.LookupLaws.{lookup_laws}
 use borrow.Author.Rules.{rules}
 use Rattle.book_lookup.proofs.lookup.read_multiplicands.Statement.{statement}
 use Rattle.book_lookup.proofs.lookup.read_multiplicands.Tie as tie
@@ -35,7 +35,7 @@ enum-known-multiplicand : tie.Need-enum-known-multiplicand invariant-loop decrea
 enum-known-multiplicand c = search rules
 
 cast-part : tie.Need-overflow-cast-part invariant-loop decreases-loop
-cast-part c = search lookup-laws
+cast-part c = search lookup_laws
 
 mul-part : tie.Need-overflow-mul-part invariant-loop decreases-loop
 mul-part c = search rules

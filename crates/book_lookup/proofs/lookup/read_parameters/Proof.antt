@@ -1,5 +1,5 @@
 -- `book_lookup::lookup::read_parameters` meets its contract, by LookupLaws. Assumes nothing.
-use Rattle.book_lookup.proofs.LookupLaws.{lookup-laws}
+use Rattle.book_lookup.proofs.LookupLaws.{lookup_laws}
 use borrow.Author.Rules.{rules}
 use Rattle.book_lookup.proofs.lookup.read_parameters.Statement.{statement}
 use Rattle.book_lookup.proofs.lookup.read_parameters.Tie as tie
@@ -41,22 +41,22 @@ enum-known-sequence : tie.Need-enum-known-sequence
 enum-known-sequence c = search rules
 
 add-t23 : tie.Need-overflow-add-t23
-add-t23 c = search lookup-laws
+add-t23 c = search lookup_laws
 
 returns : tie.Need-returns
-returns c = search lookup-laws
+returns c = search lookup_laws
 
 returns-2 : tie.Need-returns-2
-returns-2 c = search lookup-laws
+returns-2 c = search lookup_laws
 
 returns-3 : tie.Need-returns-3
-returns-3 c = search lookup-laws
+returns-3 c = search lookup_laws
 
 returns-4 : tie.Need-returns-4
-returns-4 c = search lookup-laws
+returns-4 c = search lookup_laws
 
 returns-5 : tie.Need-returns-5
-returns-5 c = search lookup-laws
+returns-5 c = search lookup_laws
 
 pub read-parameters-spec : {M : Type 1} → statement M
 read-parameters-spec =

@@ -1,7 +1,7 @@
 -- `book_tables::judge::are_narrow` meets its contract. Assumes nothing.
 use Prim.Native.Nat.{◌-◌}
 use lib.ListN.{length}
-use Rattle.book_tables.proofs.TestLaws.{Narrowing, narrow_stop, narrow_end, narrow-laws}
+use Rattle.book_tables.proofs.TestLaws.{Narrowing, narrow_stop, narrow_end, narrow_laws}
 use borrow.Author.Rules.{rules}
 use Rattle.book_tables.proofs.judge.are_narrow.Statement.{statement}
 use Rattle.book_tables.proofs.judge.are_narrow.Tie as tie
@@ -16,7 +16,7 @@ power-requires : tie.Need-power-requires invariant-loop decreases-loop
 power-requires c κs = search rules
 
 loop-holds : tie.Need-loop-init invariant-loop decreases-loop
-loop-holds c = search narrow-laws
+loop-holds c = search narrow_laws
 
 mul-u32-from-u16 : tie.Need-overflow-mul-u32-from-u16 invariant-loop decreases-loop
 mul-u32-from-u16 c = search rules
@@ -37,7 +37,7 @@ loop-less : tie.Need-loop-smaller invariant-loop decreases-loop
 loop-less c = search rules
 
 loop-again : tie.Need-loop-preserved invariant-loop decreases-loop
-loop-again c = search narrow-laws
+loop-again c = search narrow_laws
 
 returns-2 : tie.Need-returns-2 invariant-loop decreases-loop
 returns-2 c = narrow_end _ _ _ _ c.before.loop.invariant (search rules)

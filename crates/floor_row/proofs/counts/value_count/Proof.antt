@@ -3,7 +3,7 @@ use Prim.Native.Nat.{◌≤◌, ◌-◌, ◌*◌}
 use mathlib.Core.Path.{◌≡◌}
 use borrow.Author.Rules.{rules}
 use Rattle.floor.specs.Inner.Counts.{values_to}
-use Rattle.floor_row.proofs.CountLaws.{count-laws}
+use Rattle.floor_row.proofs.CountLaws.{count_laws}
 use Rattle.floor_row.proofs.counts.value_count.Statement.{statement}
 use Rattle.floor_row.proofs.counts.value_count.Tie as tie
 
@@ -14,7 +14,7 @@ abbrev decreases-loop : tie.decreases-loop
 decreases-loop partitions count classes sum₀ i₀ sum i = count - i
 
 loop-holds : tie.Need-loop-init invariant-loop decreases-loop
-loop-holds c = search count-laws
+loop-holds c = search count_laws
 
 get-u16-requires : tie.Need-get-u16-requires invariant-loop decreases-loop
 get-u16-requires c κs = search rules
@@ -41,10 +41,10 @@ loop-less : tie.Need-loop-smaller invariant-loop decreases-loop
 loop-less c = search rules
 
 loop-again : tie.Need-loop-preserved invariant-loop decreases-loop
-loop-again c = search count-laws
+loop-again c = search count_laws
 
 returns : tie.Need-returns invariant-loop decreases-loop
-returns c = search count-laws
+returns c = search count_laws
 
 pub value-count-spec : {M : Type 1} → statement M
 value-count-spec =

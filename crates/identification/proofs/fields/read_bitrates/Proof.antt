@@ -1,5 +1,5 @@
 -- `identification::fields::read_bitrates` meets its contract: one law of FieldLaws for each way out. Assumes nothing.
-use Rattle.identification.proofs.FieldLaws.{bitrate-laws}
+use Rattle.identification.proofs.FieldLaws.{bitrate_laws}
 use borrow.Author.Rules.{rules}
 use Rattle.identification.proofs.fields.read_bitrates.Statement.{statement}
 use Rattle.identification.proofs.fields.read_bitrates.Tie as tie
@@ -41,16 +41,16 @@ signed-requires-3 : tie.Need-signed-requires-3
 signed-requires-3 c κs = search rules
 
 returns : tie.Need-returns
-returns c = search bitrate-laws
+returns c = search bitrate_laws
 
 returns-2 : tie.Need-returns-2
-returns-2 c = search bitrate-laws
+returns-2 c = search bitrate_laws
 
 returns-3 : tie.Need-returns-3
-returns-3 c = search bitrate-laws
+returns-3 c = search bitrate_laws
 
 returns-4 : tie.Need-returns-4
-returns-4 c = search bitrate-laws
+returns-4 c = search bitrate_laws
 
 pub read-bitrates-spec : {M : Type 1} → statement M
 read-bitrates-spec =

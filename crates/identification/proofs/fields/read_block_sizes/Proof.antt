@@ -1,5 +1,5 @@
 -- `identification::fields::read_block_sizes` meets its contract: one law of FieldLaws for each way out. Assumes nothing.
-use Rattle.identification.proofs.FieldLaws.{size-laws}
+use Rattle.identification.proofs.FieldLaws.{size_laws}
 use borrow.Author.Rules.{rules}
 use Rattle.identification.proofs.fields.read_block_sizes.Statement.{statement}
 use Rattle.identification.proofs.fields.read_block_sizes.Tie as tie
@@ -23,16 +23,16 @@ enum-known-second : tie.Need-enum-known-second
 enum-known-second c = search rules
 
 returns : tie.Need-returns
-returns c = search size-laws
+returns c = search size_laws
 
 returns-2 : tie.Need-returns-2
-returns-2 c = search size-laws
+returns-2 c = search size_laws
 
 returns-3 : tie.Need-returns-3
-returns-3 c = search size-laws
+returns-3 c = search size_laws
 
 returns-4 : tie.Need-returns-4
-returns-4 c = search size-laws
+returns-4 c = search size_laws
 
 pub read-block-sizes-spec : {M : Type 1} → statement M
 read-block-sizes-spec =

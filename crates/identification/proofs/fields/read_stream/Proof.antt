@@ -1,5 +1,5 @@
 -- `identification::fields::read_stream` meets its contract: one law of FieldLaws for each way out. Assumes nothing.
-use Rattle.identification.proofs.FieldLaws.{stream-laws}
+use Rattle.identification.proofs.FieldLaws.{stream_laws}
 use borrow.Author.Rules.{rules}
 use Rattle.identification.proofs.fields.read_stream.Statement.{statement}
 use Rattle.identification.proofs.fields.read_stream.Tie as tie
@@ -14,7 +14,7 @@ enum-known-version : tie.Need-enum-known-version
 enum-known-version c = search rules
 
 returns : tie.Need-returns
-returns c = search stream-laws
+returns c = search stream_laws
 
 field-requires-2 : tie.Need-field-requires-2
 field-requires-2 c κs = search rules
@@ -26,10 +26,10 @@ enum-known-channels : tie.Need-enum-known-channels
 enum-known-channels c = search rules
 
 returns-2 : tie.Need-returns-2
-returns-2 c = search stream-laws
+returns-2 c = search stream_laws
 
 returns-3 : tie.Need-returns-3
-returns-3 c = search stream-laws
+returns-3 c = search stream_laws
 
 field-requires-3 : tie.Need-field-requires-3
 field-requires-3 c κs = search rules
@@ -41,19 +41,19 @@ enum-known-rate : tie.Need-enum-known-rate
 enum-known-rate c = search rules
 
 returns-4 : tie.Need-returns-4
-returns-4 c = search stream-laws
+returns-4 c = search stream_laws
 
 returns-5 : tie.Need-returns-5
-returns-5 c = search stream-laws
+returns-5 c = search stream_laws
 
 returns-6 : tie.Need-returns-6
-returns-6 c = search stream-laws
+returns-6 c = search stream_laws
 
 returns-7 : tie.Need-returns-7
-returns-7 c = search stream-laws
+returns-7 c = search stream_laws
 
 returns-8 : tie.Need-returns-8
-returns-8 c = search stream-laws
+returns-8 c = search stream_laws
 
 pub read-stream-spec : {M : Type 1} → statement M
 read-stream-spec =

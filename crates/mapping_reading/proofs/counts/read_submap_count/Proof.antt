@@ -1,5 +1,5 @@
 -- `mapping_reading::counts::read_submap_count` meets its contract, by CountLaws. Assumes nothing.
-use Rattle.mapping_reading.proofs.CountLaws.{count-laws}
+use Rattle.mapping_reading.proofs.CountLaws.{count_laws}
 use borrow.Author.Rules.{rules}
 use Rattle.mapping_reading.proofs.counts.read_submap_count.Statement.{statement}
 use Rattle.mapping_reading.proofs.counts.read_submap_count.Tie as tie
@@ -14,7 +14,7 @@ enum-known-flag : tie.Need-enum-known-flag
 enum-known-flag c = search rules
 
 returns : tie.Need-returns
-returns c = search count-laws
+returns c = search count_laws
 
 field-requires : tie.Need-field-requires
 field-requires c κs = search rules
@@ -26,16 +26,16 @@ enum-known-number : tie.Need-enum-known-number
 enum-known-number c = search rules
 
 add-t14 : tie.Need-overflow-add-t14
-add-t14 c = search count-laws
+add-t14 c = search count_laws
 
 returns-2 : tie.Need-returns-2
-returns-2 c = search count-laws
+returns-2 c = search count_laws
 
 returns-3 : tie.Need-returns-3
-returns-3 c = search count-laws
+returns-3 c = search count_laws
 
 returns-4 : tie.Need-returns-4
-returns-4 c = search count-laws
+returns-4 c = search count_laws
 
 pub read-submap-count-spec : {M : Type 1} → statement M
 read-submap-count-spec =

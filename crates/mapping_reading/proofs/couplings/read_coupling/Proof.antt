@@ -1,5 +1,5 @@
 -- `mapping_reading::couplings::read_coupling` meets its contract, by CouplingLaws. Assumes nothing.
-use Rattle.mapping_reading.proofs.CouplingLaws.{coupling-laws, both_one, magnitude_refused, angle_refused, coupling_whole}
+use Rattle.mapping_reading.proofs.CouplingLaws.{coupling_laws, both_one, magnitude_refused, angle_refused, coupling_whole}
 use borrow.Author.Rules.{rules}
 use Rattle.mapping_reading.proofs.couplings.read_coupling.Statement.{statement}
 use Rattle.mapping_reading.proofs.couplings.read_coupling.Tie as tie
@@ -26,10 +26,10 @@ returns : tie.Need-returns
 returns c = search both_one
 
 cast-t19 : tie.Need-overflow-cast-t19
-cast-t19 c = search coupling-laws
+cast-t19 c = search coupling_laws
 
 cast-t20 : tie.Need-overflow-cast-t20
-cast-t20 c = search coupling-laws
+cast-t20 c = search coupling_laws
 
 slice-aggregate-write-u8 : tie.Need-slice-aggregate-write-u8
 slice-aggregate-write-u8 c = search rules

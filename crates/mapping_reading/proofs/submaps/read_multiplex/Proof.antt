@@ -1,5 +1,5 @@
 -- `mapping_reading::submaps::read_multiplex` meets its contract, by SubmapLaws. Assumes nothing.
-use Rattle.mapping_reading.proofs.SubmapLaws.{multiplex-laws}
+use Rattle.mapping_reading.proofs.SubmapLaws.{multiplex_laws}
 use borrow.Author.Rules.{rules}
 use Rattle.mapping_reading.proofs.submaps.read_multiplex.Statement.{statement}
 use Rattle.mapping_reading.proofs.submaps.read_multiplex.Tie as tie
@@ -14,25 +14,25 @@ enum-known-number : tie.Need-enum-known-number
 enum-known-number c = search rules
 
 returns : tie.Need-returns
-returns c = search multiplex-laws
+returns c = search multiplex_laws
 
 add-put-u8 : tie.Need-overflow-add-put-u8
-add-put-u8 c = search multiplex-laws
+add-put-u8 c = search multiplex_laws
 
 cast-put-u8 : tie.Need-overflow-cast-put-u8
-cast-put-u8 c = search multiplex-laws
+cast-put-u8 c = search multiplex_laws
 
 put-u8-requires : tie.Need-put-u8-requires
 put-u8-requires c κs = search rules
 
 returns-2 : tie.Need-returns-2
-returns-2 c = search multiplex-laws
+returns-2 c = search multiplex_laws
 
 same_length : tie.Need-same-length
 same_length c = search rules
 
 returns-3 : tie.Need-returns-3
-returns-3 c = search multiplex-laws
+returns-3 c = search multiplex_laws
 
 pub read-multiplex-spec : {M : Type 1} → statement M
 read-multiplex-spec =

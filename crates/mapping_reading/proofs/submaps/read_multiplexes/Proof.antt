@@ -1,11 +1,11 @@
 -- `mapping_reading::submaps::read_multiplexes` meets its contract, by SubmapLaws. Assumes nothing.
-use Rattle.mapping_reading.proofs.SubmapLaws.{multiplex-laws, multiplex_each}
+use Rattle.mapping_reading.proofs.SubmapLaws.{multiplex_laws, multiplex_each}
 use borrow.Author.Rules.{rules}
 use Rattle.mapping_reading.proofs.submaps.read_multiplexes.Statement.{statement}
 use Rattle.mapping_reading.proofs.submaps.read_multiplexes.Tie as tie
 
 returns : tie.Need-returns
-returns c = search multiplex-laws
+returns c = search multiplex_laws
 
 read-channels-requires : tie.Need-read-channels-requires
 read-channels-requires c κs = search rules

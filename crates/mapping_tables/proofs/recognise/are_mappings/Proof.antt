@@ -1,6 +1,6 @@
 -- `mapping_tables::recognise::are_mappings` meets its contract, by RecogniseLaws. Assumes nothing.
 use Prim.Native.Nat.{◌*◌, ◌-◌, ◌≤◌}
-use Rattle.mapping_tables.proofs.RecogniseLaws.{Finding, recognise-laws, part_width, find_stop, find_next}
+use Rattle.mapping_tables.proofs.RecogniseLaws.{Finding, recognise_laws, part_width, find_stop, find_next}
 use borrow.Author.Rules.{rules}
 use Rattle.mapping_tables.proofs.recognise.are_mappings.Statement.{statement}
 use Rattle.mapping_tables.proofs.recognise.are_mappings.Tie as tie
@@ -16,10 +16,10 @@ mul-if1 : tie.Need-overflow-mul-if1 invariant-loop decreases-loop
 mul-if1 c = search rules
 
 returns : tie.Need-returns invariant-loop decreases-loop
-returns c = search recognise-laws
+returns c = search recognise_laws
 
 loop-holds : tie.Need-loop-init invariant-loop decreases-loop
-loop-holds c = search recognise-laws
+loop-holds c = search recognise_laws
 
 mul-is-mapping : tie.Need-overflow-mul-is-mapping invariant-loop decreases-loop
 mul-is-mapping c = search rules
@@ -40,7 +40,7 @@ part-is-mapping-end : tie.Need-slice-bounds-is-mapping-end invariant-loop decrea
 part-is-mapping-end c = search rules
 
 is-mapping-requires : tie.Need-is-mapping-requires invariant-loop decreases-loop
-is-mapping-requires c κs = search recognise-laws
+is-mapping-requires c κs = search recognise_laws
 
 returns-2 : tie.Need-returns-2 invariant-loop decreases-loop
 returns-2 c = find_stop _ _ _ _ c.before.before.before.before.loop.invariant.2 c.before.before.before.loop-test.true c.before.is-mapping.ensures (part_width (mapping_width * c.before.before.before.before.loop.i) mapping_width) c.if2.true
@@ -61,7 +61,7 @@ zeros-u8-requires : tie.Need-zeros-u8-requires invariant-loop decreases-loop
 zeros-u8-requires c κs = search rules
 
 returns-3 : tie.Need-returns-3 invariant-loop decreases-loop
-returns-3 c = search recognise-laws
+returns-3 c = search recognise_laws
 
 pub are-mappings-spec : {M : Type 1} → statement M
 are-mappings-spec =

@@ -1,6 +1,6 @@
 -- `mapping_tables::recognise::are_submaps` meets its contract, by RecogniseLaws, mappings's Laws and reading's PairRows. Assumes nothing.
 use Prim.Native.Nat.{◌-◌, ◌≤◌}
-use Rattle.mapping_tables.proofs.RecogniseLaws.{submap-recognise-laws}
+use Rattle.mapping_tables.proofs.RecogniseLaws.{submap_recognise_laws}
 use Rattle.mapping.proofs.Laws.{submap_pairs}
 use Rattle.reading.proofs.PairRows.{Finding}
 use Rattle.mapping.specs.Inner.Valid.{ValidSubmap}
@@ -18,10 +18,10 @@ mul-if1 : tie.Need-overflow-mul-if1 invariant-loop decreases-loop
 mul-if1 c = search rules
 
 returns : tie.Need-returns invariant-loop decreases-loop
-returns c = search submap-recognise-laws
+returns c = search submap_recognise_laws
 
 loop-holds : tie.Need-loop-init invariant-loop decreases-loop
-loop-holds c = search submap-recognise-laws
+loop-holds c = search submap_recognise_laws
 
 mul-is-submap : tie.Need-overflow-mul-is-submap invariant-loop decreases-loop
 mul-is-submap c = search rules
@@ -42,7 +42,7 @@ is-submap-requires : tie.Need-is-submap-requires invariant-loop decreases-loop
 is-submap-requires c κs = search rules
 
 returns-2 : tie.Need-returns-2 invariant-loop decreases-loop
-returns-2 c = search submap-recognise-laws
+returns-2 c = search submap_recognise_laws
 
 add-i : tie.Need-overflow-add-i invariant-loop decreases-loop
 add-i c = search rules
@@ -51,7 +51,7 @@ loop-less : tie.Need-loop-smaller invariant-loop decreases-loop
 loop-less c = search rules
 
 loop-again : tie.Need-loop-preserved invariant-loop decreases-loop
-loop-again c = search submap-recognise-laws
+loop-again c = search submap_recognise_laws
 
 mul-zeros-u8 : tie.Need-overflow-mul-zeros-u8 invariant-loop decreases-loop
 mul-zeros-u8 c = search rules
@@ -60,7 +60,7 @@ zeros-u8-requires : tie.Need-zeros-u8-requires invariant-loop decreases-loop
 zeros-u8-requires c κs = search rules
 
 returns-3 : tie.Need-returns-3 invariant-loop decreases-loop
-returns-3 c = search submap-recognise-laws
+returns-3 c = search submap_recognise_laws
 
 pub are-submaps-spec : {M : Type 1} → statement M
 are-submaps-spec =

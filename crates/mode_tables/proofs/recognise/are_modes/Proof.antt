@@ -2,7 +2,7 @@
 use Rattle.reading.proofs.PairRows.{Finding}
 use Rattle.mode.specs.Inner.Valid.{ValidMode}
 use Prim.Native.Nat.{◌-◌, ◌≤◌}
-use Rattle.mode_tables.proofs.RecogniseLaws.{mode_pairs, recognise-laws}
+use Rattle.mode_tables.proofs.RecogniseLaws.{mode_pairs, recognise_laws}
 use borrow.Author.Rules.{rules}
 use Rattle.mode_tables.proofs.recognise.are_modes.Statement.{statement}
 use Rattle.mode_tables.proofs.recognise.are_modes.Tie as tie
@@ -17,10 +17,10 @@ mul-if1 : tie.Need-overflow-mul-if1 invariant-loop decreases-loop
 mul-if1 c = search rules
 
 returns : tie.Need-returns invariant-loop decreases-loop
-returns c = search recognise-laws
+returns c = search recognise_laws
 
 loop-holds : tie.Need-loop-init invariant-loop decreases-loop
-loop-holds c = search recognise-laws
+loop-holds c = search recognise_laws
 
 mul-is-mode : tie.Need-overflow-mul-is-mode invariant-loop decreases-loop
 mul-is-mode c = search rules
@@ -41,7 +41,7 @@ is-mode-requires : tie.Need-is-mode-requires invariant-loop decreases-loop
 is-mode-requires c κs = search rules
 
 returns-2 : tie.Need-returns-2 invariant-loop decreases-loop
-returns-2 c = search recognise-laws
+returns-2 c = search recognise_laws
 
 add-i : tie.Need-overflow-add-i invariant-loop decreases-loop
 add-i c = search rules
@@ -50,7 +50,7 @@ loop-less : tie.Need-loop-smaller invariant-loop decreases-loop
 loop-less c = search rules
 
 loop-again : tie.Need-loop-preserved invariant-loop decreases-loop
-loop-again c = search recognise-laws
+loop-again c = search recognise_laws
 
 mul-zeros-u8 : tie.Need-overflow-mul-zeros-u8 invariant-loop decreases-loop
 mul-zeros-u8 c = search rules
@@ -59,7 +59,7 @@ zeros-u8-requires : tie.Need-zeros-u8-requires invariant-loop decreases-loop
 zeros-u8-requires c κs = search rules
 
 returns-3 : tie.Need-returns-3 invariant-loop decreases-loop
-returns-3 c = search recognise-laws
+returns-3 c = search recognise_laws
 
 pub are-modes-spec : {M : Type 1} → statement M
 are-modes-spec =

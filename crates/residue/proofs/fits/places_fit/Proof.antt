@@ -1,6 +1,6 @@
 -- `residue::fits::places_fit` meets its contract, by FitsLaws. Assumes nothing.
 use Prim.Native.Nat.{◌-◌}
-use Rattle.residue.proofs.FitsLaws.{Testing, testing-laws}
+use Rattle.residue.proofs.FitsLaws.{Testing, testing_laws}
 use Rattle.residue.specs.Reading.{place_fits}
 use Rattle.residue.specs.Inner.FromTable.{books_of}
 use borrow.Author.Rules.{rules}
@@ -14,10 +14,10 @@ abbrev decreases-loop : tie.decreases-loop
 decreases-loop places from to size books i₀ i = to - i
 
 loop-holds : tie.Need-loop-init invariant-loop decreases-loop
-loop-holds c = search testing-laws
+loop-holds c = search testing_laws
 
 returns : tie.Need-returns invariant-loop decreases-loop
-returns c = search testing-laws
+returns c = search testing_laws
 
 mul-u32-from-u16 : tie.Need-overflow-mul-u32-from-u16 invariant-loop decreases-loop
 mul-u32-from-u16 c = search rules
@@ -32,7 +32,7 @@ place-fits-requires : tie.Need-place-fits-requires invariant-loop decreases-loop
 place-fits-requires c κs = search rules
 
 returns-2 : tie.Need-returns-2 invariant-loop decreases-loop
-returns-2 c = search testing-laws
+returns-2 c = search testing_laws
 
 add-i : tie.Need-overflow-add-i invariant-loop decreases-loop
 add-i c = search rules
@@ -41,10 +41,10 @@ loop-less : tie.Need-loop-smaller invariant-loop decreases-loop
 loop-less c = search rules
 
 loop-again : tie.Need-loop-preserved invariant-loop decreases-loop
-loop-again c = search testing-laws
+loop-again c = search testing_laws
 
 returns-3 : tie.Need-returns-3 invariant-loop decreases-loop
-returns-3 c = search testing-laws
+returns-3 c = search testing_laws
 
 pub places-fit-spec : {M : Type 1} → statement M
 places-fit-spec =

@@ -1,5 +1,5 @@
 -- `residue_reading::cascade::read_cascade` meets its contract, by CascadeLaws. Assumes nothing.
-use Rattle.residue_reading.proofs.CascadeLaws.{cascade-laws, low_alone, low_cut, flag_cut, high_cut, high_and_low}
+use Rattle.residue_reading.proofs.CascadeLaws.{cascade_laws, low_alone, low_cut, flag_cut, high_cut, high_and_low}
 use borrow.Author.Rules.{rules}
 use Rattle.residue_reading.proofs.cascade.read_cascade.Statement.{statement}
 use Rattle.residue_reading.proofs.cascade.read_cascade.Tie as tie
@@ -35,10 +35,10 @@ enum-known-high : tie.Need-enum-known-high
 enum-known-high c = search rules
 
 mul-t19 : tie.Need-overflow-mul-t19
-mul-t19 c = search cascade-laws
+mul-t19 c = search cascade_laws
 
 add-t20 : tie.Need-overflow-add-t20
-add-t20 c = search cascade-laws
+add-t20 c = search cascade_laws
 
 returns-2 : tie.Need-returns-2
 returns-2 c = search low_cut

@@ -1,5 +1,5 @@
 -- `residue_reading::head::read_head_from` meets its contract, by HeadLaws. Assumes nothing.
-use Rattle.residue_reading.proofs.HeadLaws.{head-laws, classbook_unset, size_cut, classes_cut, classbook_cut, head_whole}
+use Rattle.residue_reading.proofs.HeadLaws.{head_laws, classbook_unset, size_cut, classes_cut, classbook_cut, head_whole}
 use borrow.Author.Rules.{rules}
 use Rattle.residue_reading.proofs.head.read_head_from.Statement.{statement}
 use Rattle.residue_reading.proofs.head.read_head_from.Tie as tie
@@ -35,10 +35,10 @@ returns : tie.Need-returns
 returns c = search classbook_unset
 
 add-t24 : tie.Need-overflow-add-t24
-add-t24 c = search head-laws
+add-t24 c = search head_laws
 
 add-t25 : tie.Need-overflow-add-t25
-add-t25 c = search head-laws
+add-t25 c = search head_laws
 
 returns-2 : tie.Need-returns-2
 returns-2 c = search size_cut

@@ -1,5 +1,5 @@
 -- `residue_reading::plan::read_place` meets its contract, by PlanLaws. Assumes nothing.
-use Rattle.residue_reading.proofs.PlanLaws.{place-laws, place_none, place_unset, place_cut, place_book}
+use Rattle.residue_reading.proofs.PlanLaws.{place_laws, place_none, place_unset, place_cut, place_book}
 use borrow.Author.Rules.{rules}
 use Rattle.residue_reading.proofs.plan.read_place.Statement.{statement}
 use Rattle.residue_reading.proofs.plan.read_place.Tie as tie
@@ -20,7 +20,7 @@ returns-2 : tie.Need-returns-2
 returns-2 c = search place_unset
 
 add-t13 : tie.Need-overflow-add-t13
-add-t13 c = search place-laws
+add-t13 c = search place_laws
 
 returns-3 : tie.Need-returns-3
 returns-3 c = search place_cut

@@ -1,6 +1,6 @@
 -- `residue_tables::recognise::places_set_up` meets its contract, by residues's FitsLaws. Assumes nothing.
 use Prim.Native.Nat.{◌-◌}
-use Rattle.residue.proofs.FitsLaws.{Testing, testing-laws}
+use Rattle.residue.proofs.FitsLaws.{Testing, testing_laws}
 use lib.Dec.{leb}
 use borrow.Author.Rules.{rules}
 use Rattle.residue_tables.proofs.recognise.places_set_up.Statement.{statement}
@@ -13,10 +13,10 @@ abbrev decreases-loop : tie.decreases-loop
 decreases-loop places from to count i₀ i = to - i
 
 loop-holds : tie.Need-loop-init invariant-loop decreases-loop
-loop-holds c = search testing-laws
+loop-holds c = search testing_laws
 
 returns : tie.Need-returns invariant-loop decreases-loop
-returns c = search testing-laws
+returns c = search testing_laws
 
 mul-u32-from-u16 : tie.Need-overflow-mul-u32-from-u16 invariant-loop decreases-loop
 mul-u32-from-u16 c = search rules
@@ -28,7 +28,7 @@ u32-from-u16-requires : tie.Need-u32-from-u16-requires invariant-loop decreases-
 u32-from-u16-requires c κs = search rules
 
 returns-2 : tie.Need-returns-2 invariant-loop decreases-loop
-returns-2 c = search testing-laws
+returns-2 c = search testing_laws
 
 add-i : tie.Need-overflow-add-i invariant-loop decreases-loop
 add-i c = search rules
@@ -37,10 +37,10 @@ loop-less : tie.Need-loop-smaller invariant-loop decreases-loop
 loop-less c = search rules
 
 loop-again : tie.Need-loop-preserved invariant-loop decreases-loop
-loop-again c = search testing-laws
+loop-again c = search testing_laws
 
 returns-3 : tie.Need-returns-3 invariant-loop decreases-loop
-returns-3 c = search testing-laws
+returns-3 c = search testing_laws
 
 pub places-set-up-spec : {M : Type 1} → statement M
 places-set-up-spec =

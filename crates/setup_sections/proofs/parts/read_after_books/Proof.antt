@@ -1,5 +1,5 @@
 -- `crate::parts::read_after_books` meets its contract, by PartLaws. Assumes nothing.
-use Rattle.setup_sections.proofs.PartLaws.{after-laws}
+use Rattle.setup_sections.proofs.PartLaws.{after_laws}
 use borrow.Author.Rules.{rules}
 use Rattle.setup_sections.proofs.parts.read_after_books.Statement.{statement}
 use Rattle.setup_sections.proofs.parts.read_after_books.Tie as tie
@@ -26,7 +26,7 @@ same-length-3 : tie.Need-same-length-3
 same-length-3 c = search rules
 
 returns : tie.Need-returns
-returns c = search after-laws
+returns c = search after_laws
 
 same-length-4 : tie.Need-same-length-4
 same-length-4 c = search rules
@@ -44,7 +44,7 @@ same-length-8 : tie.Need-same-length-8
 same-length-8 c = search rules
 
 returns-2 : tie.Need-returns-2
-returns-2 c = search after-laws
+returns-2 c = search after_laws
 
 pub read-after-books-spec : {M : Type 1} → statement M
 read-after-books-spec =

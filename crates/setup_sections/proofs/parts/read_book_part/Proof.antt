@@ -1,5 +1,5 @@
 -- `crate::parts::read_book_part` meets its contract, by PartLaws. Assumes nothing.
-use Rattle.setup_sections.proofs.PartLaws.{book-part-laws}
+use Rattle.setup_sections.proofs.PartLaws.{book_part_laws}
 use borrow.Author.Rules.{rules}
 use Rattle.setup_sections.proofs.parts.read_book_part.Statement.{statement}
 use Rattle.setup_sections.proofs.parts.read_book_part.Tie as tie
@@ -29,7 +29,7 @@ same-length-4 : tie.Need-same-length-4
 same-length-4 c = search rules
 
 returns : tie.Need-returns
-returns c = search book-part-laws
+returns c = search book_part_laws
 
 same-length-5 : tie.Need-same-length-5
 same-length-5 c = search rules
@@ -44,7 +44,7 @@ same-length-8 : tie.Need-same-length-8
 same-length-8 c = search rules
 
 returns-2 : tie.Need-returns-2
-returns-2 c = search book-part-laws
+returns-2 c = search book_part_laws
 
 pub read-book-part-spec : {M : Type 1} → statement M
 read-book-part-spec =

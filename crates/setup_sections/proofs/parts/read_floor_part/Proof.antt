@@ -1,5 +1,5 @@
 -- `crate::parts::read_floor_part` meets its contract, by PartLaws. Assumes nothing.
-use Rattle.setup_sections.proofs.PartLaws.{floor-part-laws}
+use Rattle.setup_sections.proofs.PartLaws.{floor_part_laws}
 use borrow.Author.Rules.{rules}
 use Rattle.setup_sections.proofs.parts.read_floor_part.Statement.{statement}
 use Rattle.setup_sections.proofs.parts.read_floor_part.Tie as tie
@@ -20,7 +20,7 @@ same_length : tie.Need-same-length
 same_length c = search rules
 
 returns : tie.Need-returns
-returns c = search floor-part-laws
+returns c = search floor_part_laws
 
 same-length-2 : tie.Need-same-length-2
 same-length-2 c = search rules
@@ -32,7 +32,7 @@ same-length-4 : tie.Need-same-length-4
 same-length-4 c = search rules
 
 returns-2 : tie.Need-returns-2
-returns-2 c = search floor-part-laws
+returns-2 c = search floor_part_laws
 
 pub read-floor-part-spec : {M : Type 1} → statement M
 read-floor-part-spec =

@@ -1,5 +1,5 @@
 -- `crate::parts::read_mapping_part` meets its contract, by PartLaws. Assumes nothing.
-use Rattle.setup_sections.proofs.PartLaws.{mapping-part-laws}
+use Rattle.setup_sections.proofs.PartLaws.{mapping_part_laws}
 use borrow.Author.Rules.{rules}
 use Rattle.setup_sections.proofs.parts.read_mapping_part.Statement.{statement}
 use Rattle.setup_sections.proofs.parts.read_mapping_part.Tie as tie
@@ -20,7 +20,7 @@ same_length : tie.Need-same-length
 same_length c = search rules
 
 returns : tie.Need-returns
-returns c = search mapping-part-laws
+returns c = search mapping_part_laws
 
 same-length-2 : tie.Need-same-length-2
 same-length-2 c = search rules
@@ -29,7 +29,7 @@ same-length-3 : tie.Need-same-length-3
 same-length-3 c = search rules
 
 returns-2 : tie.Need-returns-2
-returns-2 c = search mapping-part-laws
+returns-2 c = search mapping_part_laws
 
 pub read-mapping-part-spec : {M : Type 1} → statement M
 read-mapping-part-spec =
