@@ -1,0 +1,12 @@
+-- `book_lengths::lengths::read_ordered` meets its contract, by LengthLaws. Assumes nothing.
+use Rattle.book_lengths.proofs.LengthLaws.{length_laws}
+use Rattle.book_lengths.proofs.lengths.read_ordered.Goals as goal
+
+pub read_runs-requires : goal.read_runs-requires
+read_runs-requires c = search length_laws
+
+pub returns-in-Refused : goal.returns-in-Refused
+returns-in-Refused c = search length_laws
+
+pub returns-in-Value : goal.returns-in-Value
+returns-in-Value c = search length_laws

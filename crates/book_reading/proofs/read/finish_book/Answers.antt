@@ -1,0 +1,7 @@
+-- `book_reading::read::finish_book` meets its contract, by BookLaws. Assumes nothing.
+use Rattle.book_reading.proofs.BookLaws.{finish_whole}
+use borrow.Author.Rules.{rules}
+use Rattle.book_reading.proofs.read.finish_book.Goals as goal
+
+pub returns : goal.returns
+returns c = (finish_whole _ _ _ _ _ _ _ _ c.read_lookup-l.ensures.0 c.write_row.ensures, (search rules, c.read_lookup-l.ensures.1))

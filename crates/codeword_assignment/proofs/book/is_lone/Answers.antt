@@ -1,0 +1,13 @@
+-- `codeword_assignment::book::is_lone` meets its contract: the first used entry has length 1 and there is no second. Assumes nothing.
+use Rattle.codeword_assignment.proofs.Assigning.{lone_none, lone_other, lone_one}
+use Rattle.codeword_assignment.proofs.book.is_lone.Goals as goal
+
+pub returns-then-lengths-first : goal.returns-then-lengths-first
+returns-then-lengths-first c = lone_none _ _ c.next_used-first.ensures c.if-lengths-first.true
+
+pub returns-then-lengths-first-ne1 : goal.returns-then-lengths-first-ne1
+returns-then-lengths-first-ne1 c = lone_other _ _ c.next_used-first.ensures c.if-lengths-first.false c.if-lengths-first-ne1.true
+
+pub returns : goal.returns
+returns c =
+    lone_one _ _ c.next_used-first.ensures _ c.if-lengths-first.false c.if-lengths-first-ne1.false c.next_used.ensures

@@ -1,0 +1,22 @@
+-- `floor_points::heights::begin_heights` meets its contract. The loop fills the heights from the values, which are below 65,536. Assumes nothing.
+use Prim.Native.Nat.{ℕ, ◌+◌, ◌-◌}
+use native.Mathlib.Omega.{arith}
+use mathlib.Core.Path.{ap}
+use Rattle.floor_points.proofs.Filling.{fill_begin, fill_turn, fill_end}
+use Rattle.floor_points.proofs.Stepping.{filled_bounded}
+use Rattle.floor_points.proofs.heights.begin_heights.Goals as goal
+
+pub loop-i-init : goal.loop-i-init
+loop-i-init c = fill_begin _ _ _ c.requires
+
+pub overflow_add-heights : goal.overflow_add-heights
+overflow_add-heights c = omega (arith, c.shared_slice_known-1.given c.loop-i.i)
+
+pub loop-i-preserved : goal.loop-i-preserved
+loop-i-preserved c = fill_turn _ _ _ _ _ c.loop-i.invariant (omega arith) (ap (λ (v : ℕ). 65536 + v) c.u32_from_u16.ensures)
+
+pub shape_of-heights : goal.shape_of-heights
+shape_of-heights c = omega arith
+
+pub returns : goal.returns
+returns c = (fill_end _ _ _ _ c.loop-i.invariant (omega arith), filled_bounded _ _ _ c.loop-i.invariant (omega arith) (λ k. omega (arith, c.shared_slice_known-1.given k)))

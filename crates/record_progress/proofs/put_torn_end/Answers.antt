@@ -1,0 +1,25 @@
+-- `record_progress::put_torn_end` meets its contract, by LastLaws. Assumes nothing.
+use mathlib.Core.Path.{◌∙◌}
+use native.Mathlib.Omega.{arith}
+use Rattle.record_progress.proofs.LastLaws.{torn_end_put}
+use Rattle.record_progress.proofs.put_torn_end.Goals as goal
+
+pub put_torn-end-requires : goal.put_torn-end-requires
+put_torn-end-requires c = let p = c.requires.0 in omega (arith, p)
+
+pub put_end-requires : goal.put_end-requires
+put_end-requires c =
+    let a = c.put_torn-end.ensures.1.1 in
+    let b = c.lines-1.given in
+    let p = c.requires.0 in
+    omega (arith, a, b, p)
+
+pub shape_of-lines : goal.shape_of-lines
+shape_of-lines c = c.lines-2-1.given ∙ c.lines-1.given
+
+pub returns : goal.returns
+returns c =
+    let w = torn_end_put _ _ _ c.put_torn-end.ensures.0 c.put_torn-end.ensures.1.0 c.put_end.ensures.0 c.put_end.ensures.1.0 in
+    let a = c.put_torn-end.ensures.1.1 in
+    let b = c.put_end.ensures.1.1 in
+    (w.0, w.1, omega (arith, a, b))

@@ -1,0 +1,111 @@
+-- `take_records` meets its contract, by TakingLaws. The invariant: what was taken so far is one taking, and another record may be taken. Assumes nothing.
+use mathlib.Core.Path.{refl, ◌∙◌}
+use Prim.Native.Nat.{◌-◌}
+use native.Mathlib.Omega.{arith}
+use borrow.Author.Tests.{not-false}
+use Rattle.record_progress.proofs.TakingLaws.{taken_none, taken_then, taken_length, within_long, turn_less, turn_room}
+use Rattle.record_taking.proofs.take_records.Goals as goal
+
+pub loop-at-init : goal.loop-at-init
+loop-at-init c =
+    record {
+      taken = taken_none _ _ _ _;
+      kept = c.requires.0;
+      room = c.requires.1;
+      same = record { counts = refl; books = refl; lengths = refl; codewords = refl; multiplicands = refl; floors = refl; residues = refl; plans = refl; mappings = refl; modes = refl; of_curves_is = refl; of_words = refl };
+    }
+
+pub take_record-at-requires : goal.take_record-at-requires
+take_record-at-requires c = (c.loop-at.invariant.kept, c.loop-at.invariant.room)
+
+pub may_go_on-requires : goal.may_go_on-requires
+may_go_on-requires c =
+    let s = c.take_record-at.ensures.1.1.0.ends in let e = c.lines-1.given in omega (arith, s, e)
+
+pub shape_of-counts-then-not-may_go_on : goal.shape_of-counts-then-not-may_go_on
+shape_of-counts-then-not-may_go_on c =
+    c.counts-1.given ∙ c.loop-at.invariant.same.counts
+
+pub shape_of-books-then-not-may_go_on : goal.shape_of-books-then-not-may_go_on
+shape_of-books-then-not-may_go_on c =
+    c.books-1.given ∙ c.loop-at.invariant.same.books
+
+pub shape_of-lengths-then-not-may_go_on : goal.shape_of-lengths-then-not-may_go_on
+shape_of-lengths-then-not-may_go_on c =
+    c.lengths-1.given ∙ c.loop-at.invariant.same.lengths
+
+pub shape_of-codewords-then-not-may_go_on : goal.shape_of-codewords-then-not-may_go_on
+shape_of-codewords-then-not-may_go_on c =
+    c.codewords-1.given ∙ c.loop-at.invariant.same.codewords
+
+pub shape_of-multiplicands-then-not-may_go_on : goal.shape_of-multiplicands-then-not-may_go_on
+shape_of-multiplicands-then-not-may_go_on c =
+    c.multiplicands-1.given ∙ c.loop-at.invariant.same.multiplicands
+
+pub shape_of-floors-then-not-may_go_on : goal.shape_of-floors-then-not-may_go_on
+shape_of-floors-then-not-may_go_on c =
+    c.floors-1.given ∙ c.loop-at.invariant.same.floors
+
+pub shape_of-residues-then-not-may_go_on : goal.shape_of-residues-then-not-may_go_on
+shape_of-residues-then-not-may_go_on c =
+    c.residues-1.given ∙ c.loop-at.invariant.same.residues
+
+pub shape_of-plans-then-not-may_go_on : goal.shape_of-plans-then-not-may_go_on
+shape_of-plans-then-not-may_go_on c =
+    c.plans-1.given ∙ c.loop-at.invariant.same.plans
+
+pub shape_of-mappings-then-not-may_go_on : goal.shape_of-mappings-then-not-may_go_on
+shape_of-mappings-then-not-may_go_on c =
+    c.mappings-1.given ∙ c.loop-at.invariant.same.mappings
+
+pub shape_of-modes-then-not-may_go_on : goal.shape_of-modes-then-not-may_go_on
+shape_of-modes-then-not-may_go_on c =
+    c.modes-1.given ∙ c.loop-at.invariant.same.modes
+
+pub shape_of-curves-then-not-may_go_on : goal.shape_of-curves-then-not-may_go_on
+shape_of-curves-then-not-may_go_on c =
+    c.curves-1.given ∙ c.loop-at.invariant.same.of_curves_is
+
+pub shape_of-words-then-not-may_go_on : goal.shape_of-words-then-not-may_go_on
+shape_of-words-then-not-may_go_on c =
+    c.words-1.given ∙ c.loop-at.invariant.same.of_words
+
+pub shape_of-lines-then-not-may_go_on : goal.shape_of-lines-then-not-may_go_on
+shape_of-lines-then-not-may_go_on c =
+    c.lines-1.given ∙ taken_length c.loop-at.invariant.taken
+
+pub returns-then-not-may_go_on : goal.returns-then-not-may_go_on
+returns-then-not-may_go_on c = (
+  taken_then c.loop-at.invariant.taken c.take_record-at.ensures.0,
+  (
+    c.take_record-at.ensures.1.0,
+    within_long c.take_record-at.ensures.1.1.0 (taken_length c.loop-at.invariant.taken),
+  ),
+)
+
+pub loop-at-smaller : goal.loop-at-smaller
+loop-at-smaller c =
+    turn_less c.loop-at.at c.take_record-at.ensures.1.1.0 c.take_record-at.ensures.1.1.1 (c.may_go_on.ensures (not-false _ c.if-not-may_go_on.false))
+
+pub loop-at-preserved : goal.loop-at-preserved
+loop-at-preserved c =
+    record {
+      taken = taken_then c.loop-at.invariant.taken c.take_record-at.ensures.0;
+      kept = c.take_record-at.ensures.1.0;
+      room = turn_room c.take_record-at.ensures.1.1.0 (c.may_go_on.ensures (not-false _ c.if-not-may_go_on.false));
+      same =
+          record {
+            counts = c.counts-1.given ∙ c.loop-at.invariant.same.counts;
+            books = c.books-1.given ∙ c.loop-at.invariant.same.books;
+            lengths = c.lengths-1.given ∙ c.loop-at.invariant.same.lengths;
+            codewords = c.codewords-1.given ∙ c.loop-at.invariant.same.codewords;
+            multiplicands = c.multiplicands-1.given ∙ c.loop-at.invariant.same.multiplicands;
+            floors = c.floors-1.given ∙ c.loop-at.invariant.same.floors;
+            residues = c.residues-1.given ∙ c.loop-at.invariant.same.residues;
+            plans = c.plans-1.given ∙ c.loop-at.invariant.same.plans;
+            mappings = c.mappings-1.given ∙ c.loop-at.invariant.same.mappings;
+            modes = c.modes-1.given ∙ c.loop-at.invariant.same.modes;
+            of_curves_is = c.curves-1.given ∙ c.loop-at.invariant.same.of_curves_is;
+            of_words = c.words-1.given ∙ c.loop-at.invariant.same.of_words;
+          };
+    }

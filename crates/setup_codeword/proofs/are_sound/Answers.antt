@@ -1,0 +1,13 @@
+-- `setup_codeword::are_sound` judges the identity and then the tables (proofs/CallLaws). Assumes nothing.
+use Rattle.setup_codeword.proofs.CallLaws.{identity_fails, few_channels, tables_tell}
+use borrow.Author.Rules.{rules}
+use Rattle.setup_codeword.proofs.are_sound.Goals as goal
+
+pub returns-then-not-is_sound : goal.returns-then-not-is_sound
+returns-then-not-is_sound c = identity_fails c.is_sound.ensures c.if-not-is_sound.true
+
+pub are_sound-requires : goal.are_sound-requires
+are_sound-requires c = search (rules, few_channels)
+
+pub returns : goal.returns
+returns c = tables_tell c.is_sound.ensures c.if-not-is_sound.false c.are_sound.ensures.0

@@ -1,0 +1,9 @@
+-- `crate::parts::read_book_part` meets its contract, by PartLaws. Assumes nothing.
+use Rattle.setup_sections.proofs.PartLaws.{book_part_laws}
+use Rattle.setup_sections.proofs.parts.read_book_part.Goals as goal
+
+pub returns-in-Refused : goal.returns-in-Refused
+returns-in-Refused c = search book_part_laws
+
+pub returns-in-Next : goal.returns-in-Next
+returns-in-Next c = search book_part_laws

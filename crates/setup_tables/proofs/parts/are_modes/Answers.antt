@@ -1,0 +1,9 @@
+-- `setup_tables::parts::are_modes` meets its contract. Assumes nothing.
+use Rattle.setup_tables.proofs.Laws.{few_modes, modes_said}
+use Rattle.setup_tables.proofs.parts.are_modes.Goals as goal
+
+pub are_modes-requires : goal.are_modes-requires
+are_modes-requires c = search few_modes
+
+pub returns : goal.returns
+returns c = modes_said _ c.get_u32-2.ensures c.get_u32.ensures c.wide_u32.ensures c.are_modes.ensures

@@ -1,0 +1,28 @@
+-- `torchvalley::torchvalley_identification` meets its contract: one law for each way out, and beside it that 0 stands for a sound identity alone. Assumes
+-- nothing.
+use Rattle.torchvalley.proofs.Laws.{door_laws, and_sound}
+use Rattle.torchvalley.proofs.torchvalley_identification.Goals as goal
+
+pub standard-requires : goal.standard-requires
+standard-requires c = search door_laws
+
+pub read-requires : goal.read-requires
+read-requires c = search door_laws
+
+pub enum_known-identity : goal.enum_known-identity
+enum_known-identity c = search door_laws
+
+pub enum_known-refusal : goal.enum_known-refusal
+enum_known-refusal c = search door_laws
+
+pub number_of-requires : goal.number_of-requires
+number_of-requires c = search door_laws
+
+pub no_identity-requires : goal.no_identity-requires
+no_identity-requires c = search door_laws
+
+pub returns-in-Accepted : goal.returns-in-Accepted
+returns-in-Accepted c = and_sound _ _ (search door_laws)
+
+pub returns-in-Refused : goal.returns-in-Refused
+returns-in-Refused c = and_sound _ _ (search door_laws)
