@@ -24,7 +24,7 @@ use Rattle.audio.specs.Call.{accepted, room_of}
 use Rattle.audio_head.specs.declared.HeadRead.{HeadRead}
 use Rattle.audio_head.specs.declared.HeadRead.TheVariants as H
 use Rattle.audio_head.specs.Inner.Readers.{modes_in}
-use Rattle.audio_head.specs.Inner.Answers.{head_read_lem}
+use Rattle.audio_head.specs.Inner.Answers.{head_read}
 use Rattle.audio_head.proofs.RunLaws.{modes_decoded}
 use Rattle.audio_settle.specs.declared.Judged.{Judged}
 use Rattle.audio_judge.specs.Inner.Ready.{Ready}
@@ -41,13 +41,13 @@ module _ (i : Identity) (t : Tables) (x : Ready i t) where
   c = decode_setup t
 
   -- the head that was read, by as many modes as there are
-  module _ (s : List ℕ) {n : ℕ} (m : n ≡ get_or t.counts 4 0) (q : HeadRead) (f : (lens : ℕ → List ℕ) → head_read_lem q ≡ came_to (run (read lens) (head_requests i (modes_in t.modes n)) s 0)) where
-    head_is : head_read_lem q ≡ came_to (head_run i c s)
+  module _ (s : List ℕ) {n : ℕ} (m : n ≡ get_or t.counts 4 0) (q : HeadRead) (f : (lens : ℕ → List ℕ) → head_read q ≡ came_to (run (read lens) (head_requests i (modes_in t.modes n)) s 0)) where
+    head_is : head_read q ≡ came_to (head_run i c s)
     head_is = f (lengths_of c) ∙ ap (λ (l : List Mode). came_to (run (read (lengths_of c)) (head_requests i l) s 0)) (ap (modes_in t.modes) m ∙ sym (modes_decoded t))
 
     pub head_asked : {h : Head} {k : Cursor} → q ≡ H.Value h k → HeadIs i c s h (position k)
-    unfolding head_read_lem
-    head_asked w = sym head_is ∙ ap head_read_lem w
+    unfolding head_read
+    head_asked w = sym head_is ∙ ap head_read w
 
     module _ (tally : Tally) (entry list : List ℕ) {b : Bool} (sound : b ≡ tally_sound i tally) (left : not b ≡ false) where
       is_sound_lem : tally_sound i tally ≡ true
@@ -55,8 +55,8 @@ module _ (i : Identity) (t : Tables) (x : Ready i t) where
 
       pub judged_head_refused : {z : Refusal} {number : ℕ} {r : Judged} → q ≡ H.Refused z → number ≡ z.number → r ≡ refused_by false number
           → JudgedIs i.channels c (accepted i tally (room_of entry list) s c) r entry entry list list
-      unfolding head_read_lem
-      judged_head_refused {z} w d a = head_refused i c tally s entry list is_sound_lem (sym head_is ∙ ap head_read_lem w) (a ∙ ap (refused_by false) d)
+      unfolding head_read
+      judged_head_refused {z} w d a = head_refused i c tally s entry list is_sound_lem (sym head_is ∙ ap head_read w) (a ∙ ap (refused_by false) d)
 
       pub judged_head_read : {h : Head} {k : Cursor} {r : Judged} {exit list' : List ℕ} → q ≡ H.Value h k → JudgedIs i.channels c (after_head i c tally s h (position k) (room_of entry list)) r entry exit list list'
           → JudgedIs i.channels c (accepted i tally (room_of entry list) s c) r entry exit list list'

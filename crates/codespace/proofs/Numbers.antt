@@ -19,7 +19,7 @@ use Rattle.codespace.specs.Claims.{Balanced}
 use Rattle.codespace.specs.Inner.Blocks.{enter_answer, enter_blocks, Reached}
 use Rattle.codespace.specs.Inner.Steps.{first_occupied}
 use Rattle.codespace.specs.Answers.{number, outcome, is_none}
-use Rattle.codespace.specs.Entering.{Entered, entered_all_lem}
+use Rattle.codespace.specs.Entering.{Entered, entered_all}
 use Rattle.codespace.proofs.Whole.{AnswerMeans, answer_says}
 use Rattle.codespace.proofs.Claimed.{answers_snoc, answers-length, balanced, next_answer, next_reached}
 use Rattle.codespace.proofs.Places.{Small, refused_same}
@@ -114,16 +114,16 @@ module _ (ls : List ℕ) (places : ℕ) (out₀ : List ℕ) (cleared : out₀ �
   abbrev Balances : ℕ → List ℕ → Type 0
   Balances r out = r ≡ 0 → Balanced ls (map outcome (take (length ls) out))
 
-  pub entered_short : length out₀ < length ls → ((17, out₀) ≡ entered_all_lem ls places) × Balances 17 out₀
-  unfolding entered_all_lem
+  pub entered_short : length out₀ < length ls → ((17, out₀) ≡ entered_all ls places) × Balances 17 out₀
+  unfolding entered_all
   entered_short l =
       let n = all_places in (
         rw (lt-ltb places (length ls) (omega arith), pad_nil places, cleared),
         λ z. absurd (omega arith),
       )
 
-  pub entered_all_lem : (out bs : List ℕ) (left : ℕ) → left ≤ 0 → Entering ls out₀ out bs left → ((0, out) ≡ entered_all_lem ls places) × Balances 0 out
-  unfolding entered_all_lem
+  pub entered_all_lem : (out bs : List ℕ) (left : ℕ) → left ≤ 0 → Entering ls out₀ out bs left → ((0, out) ≡ entered_all ls places) × Balances 0 out
+  unfolding entered_all
   entered_all_lem out bs left h w =
       let all = map number (answers [] ls) in
       let m = all_places in

@@ -18,5 +18,5 @@ pub record Entered (bs : List ℕ) (len r : ℕ) (bs' : List ℕ) : Type 0 where
 
 -- ENTERING A LIST of lengths one by one from an empty space, with so many places lent for the answers: the number, and what all places hold.
 -- 17 and zeros where there are fewer places than lengths (01); else 0 and each of the ledger's answers as a number, and zeros behind them
-unfoldable pub entered_all_lem : List ℕ → ℕ → ℕ × List ℕ
-entered_all_lem lengths places = cond (ltb places (length lengths)) (17, pad places []) (0, pad places (map number (answers [] lengths)))
+unfoldable pub entered_all : List ℕ → ℕ → ℕ × List ℕ
+entered_all lengths places = cond (ltb places (length lengths)) (17, pad places []) (0, pad places (map number (answers [] lengths)))

@@ -233,7 +233,7 @@ module _ (ls : List ℕ) (accepted : first_refused ls ≡ none) where
         places = codewords_length ls;
         below = λ e h. codeword_below e h;
         not_prefix = λ e f h k l q. not_a_prefix e f h k l q;
-        at_most_one_lem = λ s e f a b. at_most_one_lem s e f a b;
+        at_most_one = λ s e f a b. at_most_one_lem s e f a b;
       }
 
   pub complete : free_after ls ≡ 0 → Complete ls (ledger_codewords ls)

@@ -104,7 +104,7 @@ pub record PrefixCode (lengths codewords : List ℕ) : Type 0 where
   pub below : (e : ℕ) → 0 < get_or lengths e 0 → get_or codewords e 0 < 2 ^ get_or lengths e 0
   pub not_prefix : (e f : ℕ) → 0 < get_or lengths e 0 → 0 < get_or lengths f 0 → get_or lengths e 0 ≤ get_or lengths f 0
       → get_or codewords f 0 / 2 ^ (get_or lengths f 0 - get_or lengths e 0) ≡ get_or codewords e 0 → e ≡ f
-  pub at_most_one_lem : (s e f : ℕ) → Begins lengths codewords s e → Begins lengths codewords s f → e ≡ f
+  pub at_most_one : (s e f : ℕ) → Begins lengths codewords s e → Begins lengths codewords s f → e ≡ f
 
 -- and a complete one: every string begins with one of them
 abbrev pub Complete : List ℕ → List ℕ → Type 0

@@ -38,7 +38,7 @@ use Rattle.floor.specs.Reading.{floor_type, floor1, floor, floor_from}
 use Rattle.floor.specs.Inner.Counts.{classes_to, values_to, Partitions}
 use Rattle.floor.proofs.XListAccepted.{EndsFit, ends_fit}
 use Rattle.floor.proofs.CountLaws.{classes_counted, class_count_most, values_counted}
-use Rattle.floor_x_list.specs.Inner.Pieces.{EndsRead, ends_read_lem, ends_in_buffer}
+use Rattle.floor_x_list.specs.Inner.Pieces.{EndsRead, ends_read, ends_in_buffer}
 use Rattle.floor_reading.specs.Inner.Pieces.{row_of}
 
 -- the row is stored in two runs: the 5 counts with the 31 places for partitions, then the rest
@@ -58,7 +58,7 @@ row_long count named ps cs e p q =
     omega arith
 
 row_written : (count named : ℕ) (ps cs : List ℕ) (e : Ends) (entry : List ℕ) (i : ℕ) → length ps ≡ 31 → length cs ≡ 176
-    → {m b : ℕ} {l : List ℕ} → ends_in_buffer e ≡ ends_read_lem m b l → {h₁ h₂ h₃ h₄ h₅ n : ℕ} → length e.xs ≡ n → h₁ ≡ count → h₂ ≡ named → h₃ ≡ m → h₄ ≡ b → h₅ ≡ 2 + n
+    → {m b : ℕ} {l : List ℕ} → ends_in_buffer e ≡ ends_read m b l → {h₁ h₂ h₃ h₄ h₅ n : ℕ} → length e.xs ≡ n → h₁ ≡ count → h₂ ≡ named → h₃ ≡ m → h₄ ≡ b → h₅ ≡ 2 + n
     → {t : List ℕ} → t ≡ sets entry i (((h₁ ∷ h₂ ∷ h₃ ∷ h₄ ∷ h₅ ∷ []) ++ ps) ++ (cs ++ l))
     → put_row (row_of count named ps cs) e (table entry i) ≡ table t (i + floor_width)
 unfolding put_row ends_in_buffer row_of
@@ -75,13 +75,13 @@ row_written count named ps cs e entry i p q {m} {b} {l} h {h₁} {h₂} {h₃} {
     λ j. table (sym same j) (i + sym (row_long count named ps cs e p q) j)
 
 module _ (place : Cursor) (count named : ℕ) (ps cs : List ℕ) (s : List ℕ) (k : Cursor) (entry : List ℕ) (i : ℕ) {n : ℕ} (values : n ≡ values_to cs ps count) {st : Step} {m b : ℕ} {l : List ℕ}
-    (w : Wrote (mapped ends_in_buffer (ends (position place) n s (position k))) st (ends_read_lem m b l)) where
+    (w : Wrote (mapped ends_in_buffer (ends (position place) n s (position k))) st (ends_read m b l)) where
   pub after_refused : {z : Refusal} → st ≡ S.Refused z → (u : Table) → Wrote (into1 (put_row (row_of count named ps cs)) (ends (position place) (values_to cs ps count) s (position k)) (table entry i)) (S.Refused z) u
   unfolding into1 mapped
   after_refused t u = wrote_refused u (rw (← values, mapped_bad ends_in_buffer (ends (position place) n s (position k)) (wrote_bad w t)))
 
   module _ {c : Cursor} (t : st ≡ S.Next c) where
-    read : (e : Ends) × (ends (position place) n s (position k) ≡ ok (e, position c)) × (ends_in_buffer e ≡ ends_read_lem m b l)
+    read : (e : Ends) × (ends (position place) n s (position k) ≡ ok (e, position c)) × (ends_in_buffer e ≡ ends_read m b l)
     read = mapped_ok ends_in_buffer (ends (position place) n s (position k)) (wrote_ok w t)
 
     fits : EndsFit n read.0

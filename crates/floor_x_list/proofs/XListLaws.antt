@@ -31,7 +31,7 @@ use Rattle.numbers.proofs.Collected.{Collected, gathered, rows_cell}
 use Rattle.numbers.proofs.ListLaws.{take-pad}
 use Rattle.floor.specs.XListReading.{x_values, ends, ends_from}
 use Rattle.floor.proofs.XListAccepted.{values_ok}
-use Rattle.floor_x_list.specs.Inner.Pieces.{EndsRead, ends_read_lem, ends_in_buffer}
+use Rattle.floor_x_list.specs.Inner.Pieces.{EndsRead, ends_read, ends_in_buffer}
 
 abbrev at : ℕ → Cursor → Refusal
 at n c = record { number = n; place = c }
@@ -63,7 +63,7 @@ module _ (place n m b : ℕ) (s : List ℕ) (k : ℕ) (xs : List ℕ) {l : List 
   list_twice j e f h g d c p u = wrote_refused u (rw (e, sym (ap distinct (list_plain f h g)) ∙ d, p))
 
   list_once : (c : Cursor) → x_values place b n s k ≡ ok (xs, position c) → length xs ≡ n → n ≤ 63 → l ≡ pad 65 (0 ∷ 2 ^ b ∷ xs) → distinct (slice 0 (2 + n) l) ≡ true
-      → Wrote (mapped ends_in_buffer (ends_from place n m b s k)) (S.Next c) (ends_read_lem m b l)
+      → Wrote (mapped ends_in_buffer (ends_from place n m b s k)) (S.Next c) (ends_read m b l)
   unfolding ends_from mapped ends_in_buffer
   list_once c e f h g d = wrote_next (rw (e, sym (ap distinct (list_plain f h g)) ∙ d, g))
 
@@ -100,7 +100,7 @@ module _ (place : Cursor) (n m b : ℕ) (s : List ℕ) (k : Cursor) (entry : Lis
         (ap (λ (j : ℕ). x_values (position place) j n s (position k)) (sym long) ∙ g.read) g.long (list_few t)
         (g.holds ∙ ap (λ (y : List ℕ). pad 65 (0 ∷ 2 ^ b ∷ y)) (rows_cell g.items)) (sym tested ∙ not-true d f) place refl u
 
-    pub list_read : not d ≡ false → Wrote (mapped ends_in_buffer (ends_from (position place) n m b s (position k))) (S.Next c) (ends_read_lem m b l)
+    pub list_read : not d ≡ false → Wrote (mapped ends_in_buffer (ends_from (position place) n m b s (position k))) (S.Next c) (ends_read m b l)
     list_read f =
         let g = whole t in
         list_once (position place) n m b s (position k) g.items c

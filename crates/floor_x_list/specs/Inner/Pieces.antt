@@ -10,8 +10,8 @@ pub record EndsRead : Type 0 where
   pub rangebits : ℕ
   pub list : List ℕ
 
-abbrev pub ends_read_lem : ℕ → ℕ → List ℕ → EndsRead
-ends_read_lem multiplier rangebits list = record { multiplier = multiplier; rangebits = rangebits; list = list }
+abbrev pub ends_read : ℕ → ℕ → List ℕ → EndsRead
+ends_read multiplier rangebits list = record { multiplier = multiplier; rangebits = rangebits; list = list }
 
 unfoldable pub ends_in_buffer : Ends → EndsRead
-ends_in_buffer e = ends_read_lem e.multiplier e.rangebits (pad x_list_room (x_list e.rangebits e.xs))
+ends_in_buffer e = ends_read e.multiplier e.rangebits (pad x_list_room (x_list e.rangebits e.xs))
