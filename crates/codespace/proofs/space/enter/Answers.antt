@@ -7,9 +7,6 @@ use Rattle.codespace.proofs.Numbers.{entered_so}
 use Rattle.codespace.proofs.Steps.{outside_answer, outside_blocks, refused_answer, refused_blocks, taken_answer, taken_blocks, found_low, found_block}
 use Rattle.codespace.proofs.space.enter.Goals as goal
 
-is_length_lem : (c : tie.Else2) → IsLength c.before.before.args.length
-is_length_lem c = record { low = omega arith; high = omega arith }
-
 pub returns-then-length-lt1 : goal.returns-then-length-lt1
 returns-then-length-lt1 c = entered_so (outside_answer _ _ (λ k. let l = k.low in omega arith)) (outside_blocks _ _ (λ k. let l = k.low in omega arith))
 
@@ -18,21 +15,21 @@ returns-then-length-gt32 c = entered_so (outside_answer _ _ (λ k. let h = k.hig
 
 pub returns-then-from-ge33 : goal.returns-then-from-ge33
 returns-then-from-ge33 c =
-    let k = is_length_lem c in
+    let k : IsLength c.args.length = record { low = omega arith; high = omega arith } in
     let n = c.requires in
     let e = c.smallest_block-from.ensures in
     entered_so (sym (ap number (refused_answer _ _ _ k n e c.if-from-ge33.true))) (refused_blocks _ _ _ k n e c.if-from-ge33.true)
 
 pub split_block-requires : goal.split_block-requires
 split_block-requires c =
-    let k = is_length_lem c in
+    let k : IsLength c.args.length = record { low = omega arith; high = omega arith } in
     let n = c.requires in
     let e = c.smallest_block-from.ensures in
     (found_low _ _ _ k n e, omega arith, found_block _ _ _ k n e c.if-from-ge33.false)
 
 pub returns : goal.returns
 returns c =
-    let k = is_length_lem c in
+    let k : IsLength c.args.length = record { low = omega arith; high = omega arith } in
     let n = c.requires in
     let e = c.smallest_block-from.ensures in
     entered_so (sym (ap number (taken_answer _ _ _ k n e c.if-from-ge33.false))) (c.split_block.ensures ∙ taken_blocks _ _ _ k n e c.if-from-ge33.false)
