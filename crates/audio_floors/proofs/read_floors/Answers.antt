@@ -2,7 +2,7 @@
 use native.Mathlib.Omega.{arith}
 use Prim.Native.Nat.{◌*◌, ◌-◌}
 use mathlib.Core.Path.{refl, ap}
-use Rattle.audio_floors.proofs.FloorsLaws.{readable, product_few, start_few, go_start, go_done, part_end, go_next, go_cut}
+use Rattle.audio_floors.proofs.FloorsLaws.{readable, product_few, start_few, go_start, go_done, part_low, part_end, rest_room, go_next, go_cut}
 use Rattle.audio_floors.proofs.read_floors.Goals as goal
 
 pub overflow_mul-end : goal.overflow_mul-end
@@ -22,6 +22,10 @@ overflow_add-start c =
     record
     { fits = omega (arith, start_few _ _ _ _ _ _ _ _ c.loop-channel.invariant (omega (arith, c.loop-channel-test.true, c.wide_u32-count.ensures)) c.requires.0 c.requires.1) }
 
+pub slice_bounds-read_channel-end : goal.slice_bounds-read_channel-end
+slice_bounds-read_channel-end c =
+    part_low _ _ _ _ _ _ _ _ c.loop-channel.invariant (omega (arith, c.loop-channel-test.true, c.wide_u32-count.ensures))
+
 pub read_channel-read-requires : goal.read_channel-read-requires
 read_channel-read-requires c =
     readable c.requires.3 (omega (arith, c.loop-channel-test.true, c.wide_u32-count.ensures)) c.channel_floor-floor.ensures
@@ -35,6 +39,17 @@ pub slice_bounds-clear_u8-count : goal.slice_bounds-clear_u8-count
 slice_bounds-clear_u8-count c =
     (part_end _ _ _ _ _ _ _ _ c.loop-channel.invariant (omega (arith, c.loop-channel-test.true, c.wide_u32-count.ensures))
     (ap (λ n. n * c.args.half) c.wide_u32-count.ensures)).0
+
+pub slice_bounds-clear_u8-start : goal.slice_bounds-clear_u8-start
+slice_bounds-clear_u8-start c =
+    (part_end _ _ _ _ _ _ _ _ c.loop-channel.invariant (omega (arith, c.loop-channel-test.true, c.wide_u32-count.ensures))
+    (ap (λ n. n * c.args.half) c.wide_u32-count.ensures)).0
+
+pub slice_bounds-clear_u8-end : goal.slice_bounds-clear_u8-end
+slice_bounds-clear_u8-end c =
+    rest_room _ _ _ _ _ _ _ _ c.loop-channel.invariant (omega (arith, c.loop-channel-test.true, c.wide_u32-count.ensures))
+    c.channel_floor-floor.ensures c.read_channel-read.ensures
+    (ap (λ n. n * c.args.half) c.wide_u32-count.ensures)
 
 pub returns-then-read : goal.returns-then-read
 returns-then-read c =

@@ -22,7 +22,7 @@ pub returns-in-Cut : goal.returns-in-Cut
 returns-in-Cut c =
     let pre = c.requires in
     let within = submap_in _ _ _ _ _ _ _ _ _ _ pre.1 c.submaps.ensures c.wide_u8-count.ensures c.loop-submap-test.true in
-    submaps_cut _ _ _ _ _ _ _ _ c.loop-submap.invariant within c.read_submap.ensures c.progress-in-Cut-1.given.1
+    submaps_cut _ _ _ _ _ _ _ _ c.loop-submap.invariant within c.read_submap.ensures c.in-Cut.is
 
 pub returns-in-Full : goal.returns-in-Full
 returns-in-Full c =
@@ -34,7 +34,7 @@ pub loop-submap-preserved : goal.loop-submap-preserved
 loop-submap-preserved c =
     let pre = c.requires in
     let within = submap_in _ _ _ _ _ _ _ _ _ _ pre.1 c.submaps.ensures c.wide_u8-count.ensures c.loop-submap-test.true in
-    submaps_next _ _ _ _ _ _ _ _ c.loop-submap.invariant within c.read_submap.ensures c.progress-1.given.1
+    submaps_next _ _ _ _ _ _ _ _ c.loop-submap.invariant within c.read_submap.ensures c.in-Whole.is
 
 pub returns : goal.returns
 returns c =

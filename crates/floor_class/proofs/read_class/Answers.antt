@@ -5,7 +5,7 @@ use Rattle.floor_class.proofs.ClassLaws.{class_laws, class_cut₁, class_cut₂,
 use Rattle.floor_class.proofs.read_class.Goals as goal
 
 pub overflow_add-dimensions : goal.overflow_add-dimensions
-overflow_add-dimensions c = omega (arith, value_below 3 _ _ c.field.ensures c.dimensions-1.given.1)
+overflow_add-dimensions c = omega (arith, value_below 3 _ _ c.field.ensures c.in-Value.is)
 
 pub read_class_row-requires : goal.read_class_row-requires
 read_class_row-requires c = search class_laws

@@ -14,7 +14,7 @@ shape_of-out-then-r-x c = omega arith
 pub returns-then-r-x : goal.returns-then-r-x
 returns-then-r-x c =
     up_to_flat c.args.x.now c.args.y.now c.args.flags.now c.args.multiplier _ _ _ _ _ _ _
-    (λ k. omega (arith, c.shared_slice_known-1.given k)) c.loop-at.invariant c.last_at-l.ensures.0
+    (λ k. omega (arith, c.type_inv.x k)) c.loop-at.invariant c.last_at-l.ensures.0
     c.next_after-r.ensures.0 c.if-r-x.true c.height_at.ensures c.draw_flat.ensures
 
 pub loop-at-smaller : goal.loop-at-smaller

@@ -9,10 +9,10 @@ pub loop-i-init : goal.loop-i-init
 loop-i-init c = (search rules, search rules, fill_start)
 
 pub returns-in-Refused : goal.returns-in-Refused
-returns-in-Refused c = fill_refused c.loop-i.invariant.2 (omega arith) c.read_floor.ensures (omega arith) c.z-1.given.1 _
+returns-in-Refused c = fill_refused c.loop-i.invariant.2 (omega arith) c.read_floor.ensures (omega arith) c.in-Refused.is _
 
 pub loop-i-preserved : goal.loop-i-preserved
-loop-i-preserved c = (search rules, search rules, fill_next c.loop-i.invariant.2 (omega arith) c.read_floor.ensures (omega arith) (search rules) (omega arith) c.after-1.given.1)
+loop-i-preserved c = (search rules, search rules, fill_next c.loop-i.invariant.2 (omega arith) c.read_floor.ensures (omega arith) (search rules) (omega arith) c.in-Next.is)
 
 pub returns : goal.returns
 returns c = fill_done c.loop-i.invariant.2 (omega arith) (omega arith)

@@ -5,7 +5,7 @@ use Rattle.floor_x_list.proofs.XListLaws.{ends_laws, ends_cut₁, ends_cut₂, e
 use Rattle.floor_x_list.proofs.read_ends.Goals as goal
 
 pub overflow_add-multiplier : goal.overflow_add-multiplier
-overflow_add-multiplier c = omega (arith, value_below 2 _ _ c.field.ensures c.multiplier-1.given.1)
+overflow_add-multiplier c = omega (arith, value_below 2 _ _ c.field.ensures c.in-Value.is)
 
 pub read_x_list-requires : goal.read_x_list-requires
 read_x_list-requires c = search ends_laws

@@ -14,18 +14,18 @@ pub returns-in-Refused : goal.returns-in-Refused
 unfolding common_header
 returns-in-Refused c =
     let l = c.loop-i in
-    byte_missing _ _ l.i l.at _ l.invariant.2 (omega arith) c.field.result c.field.ensures c.z-1.given.1
+    byte_missing _ _ l.i l.at _ l.invariant.2 (omega arith) c.field.result c.field.ensures c.in-Refused.is
 
 pub returns-then-byte-wide : goal.returns-then-byte-wide
 unfolding common_header
 returns-then-byte-wide c =
     let l = c.loop-i in
-    byte_wrong _ _ l.i l.at _ l.invariant.2 (omega arith) c.field.result c.field.ensures c.byte-1.given.1 c.wide.ensures c.if-byte-wide.true
+    byte_wrong _ _ l.i l.at _ l.invariant.2 (omega arith) c.field.result c.field.ensures c.in-Value.is c.wide.ensures c.if-byte-wide.true
 
 pub loop-i-preserved : goal.loop-i-preserved
 loop-i-preserved c =
     let l = c.loop-i in
-    let found = byte_found _ _ l.i l.at _ l.invariant.2 (omega arith) c.field.result c.field.ensures c.byte-1.given.1 c.wide.ensures c.if-byte-wide.false in
+    let found = byte_found _ _ l.i l.at _ l.invariant.2 (omega arith) c.field.result c.field.ensures c.in-Value.is c.wide.ensures c.if-byte-wide.false in
     (omega arith, refl, found)
 
 pub returns : goal.returns

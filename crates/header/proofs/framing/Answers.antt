@@ -7,12 +7,12 @@ use Rattle.header.proofs.framing.Goals as goal
 
 pub returns-then-flag-eq0 : goal.returns-then-flag-eq0
 unfolding framing outcome
-returns-then-flag-eq0 c = rw (value_is c.bit.ensures c.flag-1.given.1, eq-eqb _ _ c.if-flag-eq0.true)
+returns-then-flag-eq0 c = rw (value_is c.bit.ensures c.in-Value.is, eq-eqb _ _ c.if-flag-eq0.true)
 
 pub returns-in-Refused : goal.returns-in-Refused
 unfolding framing outcome
-returns-in-Refused c = rw (refused_is c.bit.ensures c.z-1.given.1)
+returns-in-Refused c = rw (refused_is c.bit.ensures c.in-Refused.is)
 
 pub returns-else-flag-eq0 : goal.returns-else-flag-eq0
 unfolding framing outcome
-returns-else-flag-eq0 c = rw (value_is c.bit.ensures c.flag-1.given.1, ne_eqb _ _ c.if-flag-eq0.false)
+returns-else-flag-eq0 c = rw (value_is c.bit.ensures c.in-Value.is, ne_eqb _ _ c.if-flag-eq0.false)

@@ -7,6 +7,6 @@ use Rattle.record_lines.proofs.put_end.Goals as goal
 pub returns : goal.returns
 unfolding text codes_from
 returns c =
-    ends
+    let both = ends
     (known_most (join c.put_field-at_end.ensures c.put_text.ensures)
-    (end_is _) (omega arith))
+    (end_is _) (omega arith)) in record { out_after = both.0; value = both.1 }

@@ -11,6 +11,6 @@ put_decimal-at_words-requires c = omega (arith, long_decimal c.args.number)
 pub returns : goal.returns
 unfolding text codes_from
 returns c =
-    ends
+    let both = ends
     (known_most (join (join c.put_decimal-at_words.ensures c.put_words-at_newline.ensures) c.put_text.ensures)
-    (line_is _ _) (omega arith))
+    (line_is _ _) (omega arith)) in record { out_after = both.0; value = both.1 }

@@ -29,4 +29,4 @@ shape_of-lines c = c.lines-2-1.given
 
 pub returns : goal.returns
 returns c =
-    last_end c.requires c.if-progress-gt0.false c.if-progress-input.false c.put_end.ensures.0 c.put_end.ensures.1
+    last_end c.requires c.if-progress-gt0.false c.if-progress-input.false c.put_end.ensures.out_after c.put_end.ensures.value

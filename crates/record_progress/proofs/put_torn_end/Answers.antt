@@ -9,7 +9,7 @@ put_torn-end-requires c = let p = c.requires.0 in omega (arith, p)
 
 pub put_end-requires : goal.put_end-requires
 put_end-requires c =
-    let a = c.put_torn-end.ensures.1.1 in
+    let a = c.put_torn-end.ensures.value.1 in
     let b = c.lines-1.given in
     let p = c.requires.0 in
     omega (arith, a, b, p)
@@ -19,7 +19,7 @@ shape_of-lines c = c.lines-2-1.given ∙ c.lines-1.given
 
 pub returns : goal.returns
 returns c =
-    let w = torn_end_put _ _ _ c.put_torn-end.ensures.0 c.put_torn-end.ensures.1.0 c.put_end.ensures.0 c.put_end.ensures.1.0 in
-    let a = c.put_torn-end.ensures.1.1 in
-    let b = c.put_end.ensures.1.1 in
+    let w = torn_end_put _ _ _ c.put_torn-end.ensures.out_after c.put_torn-end.ensures.value.0 c.put_end.ensures.out_after c.put_end.ensures.value.0 in
+    let a = c.put_torn-end.ensures.value.1 in
+    let b = c.put_end.ensures.value.1 in
     (w.0, w.1, omega (arith, a, b))

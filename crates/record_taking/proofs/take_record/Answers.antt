@@ -13,25 +13,25 @@ shape_of-lines-then-progress-gt0 c = c.lines-1.given
 
 pub returns-then-progress-gt0 : goal.returns-then-progress-gt0
 returns-then-progress-gt0 c =
-    (c.pass_over.ensures.0 _, (kept_same c.pass_over.ensures.1.0 c.requires.0, (c.pass_over.ensures.1.1, c.pass_over.ensures.1.2)))
+    (c.pass_over.ensures.taken _, (kept_same c.pass_over.ensures.kept_value.0 c.requires.0, (c.pass_over.ensures.kept_value.1, c.pass_over.ensures.kept_value.2)))
 
 pub skip_body-requires : goal.skip_body-requires
 skip_body-requires c =
-    let h = skips_inside c.requires.1 (front_rest c.args.progress.from c.args.input.now (sym c.length-1.given.1 ∙ c.look.ensures)) in let l = c.well-formed.1.0.0 in omega (arith, h, l)
+    let h = skips_inside c.requires.1 (front_rest c.args.progress.from c.args.input.now (sym c.in-TooLong.is ∙ c.look.ensures)) in let l = c.well_formed.1.0.0 in omega (arith, h, l)
 
 pub take_whole-requires : goal.take_whole-requires
 take_whole-requires c =
-    (c.requires.0, (c.requires.1, omega arith, front_rest c.args.progress.from c.args.input.now (sym c.kind-1.given.1 ∙ c.look.ensures)))
+    record { kept_tables = c.requires.0; room = (c.requires.1, omega arith, front_rest c.args.progress.from c.args.input.now (sym c.in-Whole.is ∙ c.look.ensures)) }
 
 pub returns-in-Partial : goal.returns-in-Partial
 returns-in-Partial c =
     let e = c.wait.ensures in
-    (waits_taken c.requires.1 e _ (omega arith), (kept_same (ap (λ (p : Progress). p.kept) e) c.requires.0, (waits_within c.requires.1 e (front_rest c.args.progress.from c.args.input.now (sym c.enum_told-1.given.1 ∙ c.look.ensures)), waits_moves c.requires.1 e)))
+    (waits_taken c.requires.1 e _ (omega arith), (kept_same (ap (λ (p : Progress). p.kept) e) c.requires.0, (waits_within c.requires.1 e (front_rest c.args.progress.from c.args.input.now (sym c.in-Partial.is ∙ c.look.ensures)), waits_moves c.requires.1 e)))
 
 pub returns-in-TooLong : goal.returns-in-TooLong
 returns-in-TooLong c =
     let e = c.skip_body.ensures in
-    let h = front_rest c.args.progress.from c.args.input.now (sym c.length-1.given.1 ∙ c.look.ensures) in
+    let h = front_rest c.args.progress.from c.args.input.now (sym c.in-TooLong.is ∙ c.look.ensures) in
     (skips_taken c.requires.1 e h _ (omega arith), (kept_same (ap (λ (p : Progress). p.kept) e) c.requires.0, (skips_within c.requires.1 e h, skips_moves c.requires.1 e h)))
 
 pub shape_of-counts : goal.shape_of-counts

@@ -26,8 +26,8 @@ returns-then-more-gt0 c =
     let i = c.input-2-1.given in
     let span = c.make_room-span.result in
     let h = c.make_room-span.ensures.room in
-    let before-it = c.make_room-span.new.0 in
-    let after-it = c.read_more-got.new.0 in
+    let before-it = c.make_room-span.new.input in
+    let after-it = c.read_more-got.new.input in
     let more = c.read_more-got.result.more in
     going_turned c.args.progress (take more (drop span.to after-it)) c.going.ensures (omega arith) (omega (arith, o)) (omega (arith, m, i)) c.requires.2
     c.requires.0.of_lines
@@ -35,11 +35,11 @@ returns-then-more-gt0 c =
 
 pub slice_bounds-write_last-end-2 : goal.slice_bounds-write_last-end-2
 slice_bounds-write_last-end-2 c =
-    sym (length-take-le c.make_room-span.result.to c.read_more-got.new.0 (still_lt c.make_room-span.ensures.room c.input-2-1.given))
+    sym (length-take-le c.make_room-span.result.to c.read_more-got.new.input (still_lt c.make_room-span.ensures.room c.input-2-1.given))
 
 pub write_last-status-requires : goal.write_last-status-requires
 write_last-status-requires c =
-    reads_last c.requires.0 c.read_more-got.new.0 c.requires.1 c.requires.2 c.make_room-span.ensures c.read_more-got.ensures.0 c.input-2-1.given c.going-last.ensures
+    reads_last c.requires.0 c.read_more-got.new.input c.requires.1 c.requires.2 c.make_room-span.ensures c.read_more-got.ensures.0 c.input-2-1.given c.going-last.ensures
 
 pub shape_of-input : goal.shape_of-input
 shape_of-input c = c.input-2-1.given ∙ c.input-1.given

@@ -8,10 +8,10 @@ pub loop-i-init : goal.loop-i-init
 loop-i-init c = search residues_laws
 
 pub returns-in-Refused : goal.returns-in-Refused
-returns-in-Refused c = (search residues_laws, accepted_valid _ _ _ _)
+returns-in-Refused c = record { wrote = search residues_laws; accepted_valid = accepted_valid _ _ _ _ }
 
 pub loop-i-preserved : goal.loop-i-preserved
 loop-i-preserved c = search residues_laws
 
 pub returns : goal.returns
-returns c = (search residues_laws, accepted_valid _ _ _ _)
+returns c = record { wrote = search residues_laws; accepted_valid = accepted_valid _ _ _ _ }

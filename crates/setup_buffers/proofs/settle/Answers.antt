@@ -37,4 +37,4 @@ shape_of-modes c = c.modes-1.given
 
 pub returns-in-Refused : goal.returns-in-Refused
 returns-in-Refused c =
-    settled_refused _ _ c.answer-1.given.1 c.number_of-number.ensures c.clear.ensures
+    settled_refused _ _ c.in-Refused.is c.number_of-number.ensures c.clear.ensures

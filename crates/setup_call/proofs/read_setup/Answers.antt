@@ -42,7 +42,7 @@ shape_of-modes c = c.modes-2-1.given ∙ c.modes-1.given
 
 pub returns : goal.returns
 returns c =
-    call_left c.requires c.read_checked-answer.ensures
+    let both = call_left c.requires c.read_checked-answer.ensures
     (lengths_same c.counts-1.given c.books-1.given c.lengths-1.given c.codewords-1.given
     c.multiplicands-1.given c.floors-1.given c.residues-1.given c.plans-1.given
-    c.mappings-1.given c.modes-1.given) c.settle.ensures
+    c.mappings-1.given c.modes-1.given) c.settle.ensures in record { modes_value = both.0; accepted_sound = both.1 }

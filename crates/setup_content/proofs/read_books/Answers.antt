@@ -21,8 +21,9 @@ pub shape_of-multiplicands : goal.shape_of-multiplicands
 shape_of-multiplicands c = c.multiplicands-2-1.given ∙ c.multiplicands-1.given
 
 pub returns : goal.returns
-returns c = (
-  books_cleared _ c.clear_books.ensures.0 c.clear_books.ensures.1 c.clear_books.ensures.2
-      c.clear_books.ensures.3 _ _ c.read_book_part.ensures.0,
-  c.read_book_part.ensures.1,
-)
+returns c =
+    record {
+      read_into = books_cleared _ c.clear_books.ensures.0 c.clear_books.ensures.1 c.clear_books.ensures.2
+          c.clear_books.ensures.3 _ _ c.read_book_part.ensures.read_into;
+      count_bound = c.read_book_part.ensures.count_bound;
+    }

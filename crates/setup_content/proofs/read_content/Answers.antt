@@ -7,7 +7,7 @@ read_books-first-requires c = room_books _ _ _ _ _ _ _ _ _ _ _ c.requires.0 c.re
 
 pub read_rest-requires : goal.read_rest-requires
 read_rest-requires c =
-    (c.requires.2, c.requires.3, c.read_books-first.ensures.1)
+    (c.requires.2, c.requires.3, c.read_books-first.ensures.count_bound)
 
 pub shape_of-books-in-Refused : goal.shape_of-books-in-Refused
 shape_of-books-in-Refused c = c.books-1.given
@@ -22,7 +22,7 @@ pub shape_of-multiplicands-in-Refused : goal.shape_of-multiplicands-in-Refused
 shape_of-multiplicands-in-Refused c = c.multiplicands-1.given
 
 pub returns-in-Refused : goal.returns-in-Refused
-returns-in-Refused c = content_refused _ _ _ _ c.read_books-first.ensures.0 c.step-1.given.1
+returns-in-Refused c = content_refused _ _ _ _ c.read_books-first.ensures.read_into c.in-Refused.is
 
 pub shape_of-counts : goal.shape_of-counts
 shape_of-counts c = c.counts-1.given
@@ -56,5 +56,5 @@ shape_of-modes c = c.modes-1.given
 
 pub returns-in-Next : goal.returns-in-Next
 returns-in-Next c =
-    content_read _ _ _ _ c.read_books-first.ensures.0 _ _ _ _ _ _ c.requires.0 c.read_books-first.ensures.1
-    c.step-in-Next-1.given.1 c.read_rest.ensures
+    content_read _ _ _ _ c.read_books-first.ensures.read_into _ _ _ _ _ _ c.requires.0 c.read_books-first.ensures.count_bound
+    c.in-Next.is c.read_rest.ensures

@@ -1,6 +1,6 @@
 -- `audio_floors::channel::draw_floor` meets its contract, by ChannelLaws: the X list and the multiplier are those of the floor's row. Assumes nothing.
 use mathlib.Core.Path.{◌∙◌}
-use Rattle.audio_floors.proofs.ChannelLaws.{multiplier_few, floor_drawn}
+use Rattle.audio_floors.proofs.ChannelLaws.{x_end, multiplier_few, floor_drawn}
 use borrow.Author.Rules.{rules}
 use Rattle.audio_floors.proofs.channel.draw_floor.Goals as goal
 
@@ -21,6 +21,10 @@ multiplier-requires c = c.requires.few
 
 pub u8_from_u16-multiplier-requires : goal.u8_from_u16-multiplier-requires
 u8_from_u16-multiplier-requires c = multiplier_few c.requires c.multiplier.ensures
+
+pub slice_bounds-draw_values-end : goal.slice_bounds-draw_values-end
+slice_bounds-draw_values-end c =
+    x_end c.requires (c.wide_u16.ensures ∙ c.x_count.ensures)
 
 pub draw_values-requires : goal.draw_values-requires
 draw_values-requires c = c.requires.values_few

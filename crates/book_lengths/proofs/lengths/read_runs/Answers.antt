@@ -11,13 +11,13 @@ pub returns-then-bits-gt32 : goal.returns-then-bits-gt32
 returns-then-bits-gt32 c = running_long _ _ _ _ _ c.loop-entry.invariant.1 (search rules) c.if-bits-gt32.true _
 
 pub returns-in-Refused : goal.returns-in-Refused
-returns-in-Refused c = running_refused _ _ _ _ _ c.loop-entry.invariant.1 (search rules) (search rules) c.read_run.ensures c.z-1.given.1 _
+returns-in-Refused c = running_refused _ _ _ _ _ c.loop-entry.invariant.1 (search rules) (search rules) c.read_run.ensures c.in-Refused.is _
 
 pub fill_run-requires : goal.fill_run-requires
-fill_run-requires c = running_fits _ _ _ _ _ c.loop-entry.invariant.1 (search rules) (search rules) c.read_run.ensures c.number-1.given.1
+fill_run-requires c = running_fits _ _ _ _ _ c.loop-entry.invariant.1 (search rules) (search rules) c.read_run.ensures c.in-Value.is
 
 pub loop-entry-preserved : goal.loop-entry-preserved
-loop-entry-preserved c = (search rules, running_next _ _ _ _ _ c.loop-entry.invariant.1 (search rules) (search rules) c.read_run.ensures c.number-1.given.1 _ c.fill_run.ensures)
+loop-entry-preserved c = (search rules, running_next _ _ _ _ _ c.loop-entry.invariant.1 (search rules) (search rules) c.read_run.ensures c.in-Value.is _ c.fill_run.ensures)
 
 pub returns : goal.returns
 returns c = running_done _ _ _ _ _ c.loop-entry.invariant.1 (search rules)

@@ -11,13 +11,13 @@ pub loop-i-init : goal.loop-i-init
 loop-i-init c = filling_start _ _ _ _
 
 pub returns-in-Refused : goal.returns-in-Refused
-returns-in-Refused c = filling_refused _ _ _ _ c.loop-i.invariant (search rules) (refused_is c.field.ensures c.z-1.given.1) _
+returns-in-Refused c = filling_refused _ _ _ _ c.loop-i.invariant (search rules) (refused_is c.field.ensures c.in-Refused.is) _
 
 pub overflow_cast-part : goal.overflow_cast-part
 overflow_cast-part c = search lookup_laws
 
 pub loop-i-preserved : goal.loop-i-preserved
-loop-i-preserved c = filling_next _ _ _ _ c.loop-i.invariant (search rules) (value_is c.field.ensures c.multiplicand-1.given.1)
+loop-i-preserved c = filling_next _ _ _ _ c.loop-i.invariant (search rules) (value_is c.field.ensures c.in-Value.is)
 
 pub returns : goal.returns
 returns c = filling_done _ _ _ _ c.loop-i.invariant (search rules)

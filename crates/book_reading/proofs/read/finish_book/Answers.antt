@@ -4,4 +4,4 @@ use borrow.Author.Rules.{rules}
 use Rattle.book_reading.proofs.read.finish_book.Goals as goal
 
 pub returns : goal.returns
-returns c = (finish_whole _ _ _ _ _ _ _ _ c.read_lookup-l.ensures.0 c.write_row.ensures, (search rules, c.read_lookup-l.ensures.1))
+returns c = record { wrote = finish_whole _ _ _ _ _ _ _ _ c.read_lookup-l.ensures.wrote c.write_row.ensures; entries_value = (search rules, c.read_lookup-l.ensures.count_bound) }

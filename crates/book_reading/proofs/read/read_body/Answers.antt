@@ -4,8 +4,8 @@ use borrow.Author.Rules.{rules}
 use Rattle.book_reading.proofs.read.read_body.Goals as goal
 
 pub returns-in-Refused : goal.returns-in-Refused
-returns-in-Refused c = (body_refused _ _ _ _ _ _ _ _ _ _ _ _ c.read_entries_at.ensures c.z-1.given.1 _, (search rules, c.requires.values_within))
+returns-in-Refused c = record { wrote = body_refused _ _ _ _ _ _ _ _ _ _ _ _ c.read_entries_at.ensures c.in-Refused.is _; entries_bound = (search rules, c.requires.values_within) }
 
 pub returns-in-Next : goal.returns-in-Next
 returns-in-Next c =
-    (body_whole _ _ _ _ _ _ _ _ _ _ _ _ c.read_entries_at.ensures c.next-1.given.1 c.requires.lengths_fit c.lone_mark_at-lone.ensures c.finish_book.ensures.0 c.finish_book.ensures.1.0, (search rules, c.finish_book.ensures.1.1))
+    record { wrote = body_whole _ _ _ _ _ _ _ _ _ _ _ _ c.read_entries_at.ensures c.in-Next.is c.requires.lengths_fit c.lone_mark_at-lone.ensures c.finish_book.ensures.wrote c.finish_book.ensures.entries_value.0; entries_bound = (search rules, c.finish_book.ensures.entries_value.1) }

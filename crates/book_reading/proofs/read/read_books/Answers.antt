@@ -18,7 +18,7 @@ returns-in_default c =
     let w = c.loop-index.invariant.2 in
     let m = c.loop-index-test.true in
     let b = c.read_book-read.ensures in
-    (books_refused _ _ _ _ _ _ _ _ w m b.0 c.enum_told-1.given.1 _, b.1)
+    record { wrote = books_refused _ _ _ _ _ _ _ _ w m b.0 c.in_default.is _; entries_le_entries = b.1 }
 
 pub loop-index-preserved : goal.loop-index-preserved
 loop-index-preserved c =
@@ -26,8 +26,8 @@ loop-index-preserved c =
     let v = c.loop-index.invariant in
     let m = c.loop-index-test.true in
     let b = c.read_book-read.ensures in
-    let n = c.step-1.given.1 in
+    let n = c.in-Next.is in
     (v.0, v.1, books_next _ _ _ _ _ _ _ _ v.2 m b.0 n (omega arith) (omega arith) (omega arith) (omega arith) b.1.0 b.1.1, n)
 
 pub returns : goal.returns
-returns c = (books_done _ _ _ _ _ _ _ _ c.loop-index.invariant.2 c.loop-index.invariant.3 c.loop-index-test.false, (c.loop-index.invariant.2.entries_within, c.loop-index.invariant.2.values_within))
+returns c = record { wrote = books_done _ _ _ _ _ _ _ _ c.loop-index.invariant.2 c.loop-index.invariant.3 c.loop-index-test.false; entries_le_entries = (c.loop-index.invariant.2.entries_within, c.loop-index.invariant.2.values_within) }

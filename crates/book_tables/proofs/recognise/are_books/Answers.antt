@@ -7,16 +7,16 @@ use borrow.Author.Rules.{rules}
 use Rattle.book_tables.proofs.recognise.are_books.Goals as goal
 
 pub returns-then-books-lt-NEED : goal.returns-then-books-lt-NEED
-returns-then-books-lt-NEED c = (iff_false (λ s. let k = s.books_room in let t = c.if-books-lt-NEED.true in omega arith), search (rules, one_content))
+returns-then-books-lt-NEED c = record { variant = iff_false (λ s. let k = s.books_room in let t = c.if-books-lt-NEED.true in omega arith); one_content = search (rules, one_content) }
 
 pub returns-then-lengths-wide_u32 : goal.returns-then-lengths-wide_u32
-returns-then-lengths-wide_u32 c = (iff_false (λ s. let k = s.lengths_room in let t = c.if-lengths-wide_u32.true in let e = c.wide_u32.ensures in omega arith), search (rules, one_content))
+returns-then-lengths-wide_u32 c = record { variant = iff_false (λ s. let k = s.lengths_room in let t = c.if-lengths-wide_u32.true in let e = c.wide_u32.ensures in omega arith); one_content = search (rules, one_content) }
 
 pub returns-then-codewords-wide_u32 : goal.returns-then-codewords-wide_u32
-returns-then-codewords-wide_u32 c = (iff_false (λ s. let k = s.codewords_room in let t = c.if-codewords-wide_u32.true in let e = c.wide_u32-2.ensures in omega arith), search (rules, one_content))
+returns-then-codewords-wide_u32 c = record { variant = iff_false (λ s. let k = s.codewords_room in let t = c.if-codewords-wide_u32.true in let e = c.wide_u32-2.ensures in omega arith); one_content = search (rules, one_content) }
 
 pub returns-then-multiplicands-wide_u32 : goal.returns-then-multiplicands-wide_u32
-returns-then-multiplicands-wide_u32 c = (iff_false (λ s. let k = s.multiplicands_room in let t = c.if-multiplicands-wide_u32.true in let e = c.wide_u32-3.ensures in omega arith), search (rules, one_content))
+returns-then-multiplicands-wide_u32 c = record { variant = iff_false (λ s. let k = s.multiplicands_room in let t = c.if-multiplicands-wide_u32.true in let e = c.wide_u32-3.ensures in omega arith); one_content = search (rules, one_content) }
 
 pub are_rows-requires : goal.are_rows-requires
 are_rows-requires c = search (rules, all_buffers)

@@ -6,7 +6,7 @@ use Rattle.codespace.proofs.Numbers.{entering_start, entering_turn, entered_shor
 use Rattle.codespace.proofs.space.enter_lengths.Goals as goal
 
 pub returns-then-answers-lengths : goal.returns-then-answers-lengths
-returns-then-answers-lengths c = entered_short _ _ _ c.clear_u64.ensures c.if-answers-lengths.true
+returns-then-answers-lengths c = let both = entered_short _ _ _ c.clear_u64.ensures c.if-answers-lengths.true in record { answers_after = both.0; balanced = both.1 }
 
 pub loop-left-init : goal.loop-left-init
 loop-left-init c =
@@ -22,4 +22,4 @@ loop-left-preserved c =
 
 pub returns : goal.returns
 returns c =
-    entered_all_lem _ _ _ c.clear_u64.ensures _ _ _ c.loop-left-test.false c.loop-left.invariant
+    let both = entered_all_lem _ _ _ c.clear_u64.ensures _ _ _ c.loop-left-test.false c.loop-left.invariant in record { answers_after = both.0; balanced = both.1 }

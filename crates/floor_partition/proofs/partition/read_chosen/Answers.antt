@@ -1,7 +1,7 @@
 -- `floor_partition::partition::read_chosen` meets its contract: what is left to read, written into the list as it is, is the whole (proofs/ChosenLaws). Assumes nothing.
 use Prim.Native.Nat.{◌-◌}
 use native.Mathlib.Omega.{arith}
-use Rattle.floor_partition.proofs.ChosenLaws.{subclasses_few, choose_start, digit_few, place_stored, choose_refused, choose_next, choose_done}
+use Rattle.floor_partition.proofs.ChosenLaws.{subclasses_few, choose_start, base_low, digit_few, place_stored, choose_refused, choose_next, choose_done}
 use borrow.Author.Rules.{rules}
 use Rattle.floor_partition.proofs.partition.read_chosen.Goals as goal
 
@@ -17,6 +17,9 @@ choices-base-requires c = subclasses_few c.requires.1 c.class_subclasses.ensures
 pub loop-i-init : goal.loop-i-init
 loop-i-init c = choose_start c.requires.0 c.requires.1 c.class_dimensions.ensures c.wide_u16-count.ensures c.class_subclasses.ensures c.choices-base.ensures
 
+pub nonzero_rem-left : goal.nonzero_rem-left
+nonzero_rem-left c = base_low c.loop-i.invariant
+
 pub subclass_book-place-requires : goal.subclass_book-place-requires
 subclass_book-place-requires c = (c.loop-i.invariant.stored.floor_few, c.loop-i.invariant.stored.class_few, digit_few c.loop-i.invariant c.wide_u32.ensures)
 
@@ -24,12 +27,15 @@ pub read_value-requires : goal.read_value-requires
 read_value-requires c = place_stored c.loop-i.invariant c.wide_u32.ensures c.subclass_book-place.ensures
 
 pub returns-in-Refused : goal.returns-in-Refused
-returns-in-Refused c = choose_refused c.loop-i.invariant c.wide_u32.ensures c.subclass_book-place.ensures (omega arith) c.read_value.ensures c.z-1.given.1 _
+returns-in-Refused c = choose_refused c.loop-i.invariant c.wide_u32.ensures c.subclass_book-place.ensures (omega arith) c.read_value.ensures c.in-Refused.is _
+
+pub nonzero_div-left : goal.nonzero_div-left
+nonzero_div-left c = base_low c.loop-i.invariant
 
 pub loop-i-preserved : goal.loop-i-preserved
 loop-i-preserved c =
     choose_next c.loop-i.invariant c.wide_u32.ensures c.subclass_book-place.ensures (omega arith)
-    c.read_value.ensures c.after-1.given.1 (search rules)
+    c.read_value.ensures c.in-Next.is (search rules)
 
 pub returns : goal.returns
 returns c = choose_done c.loop-i.invariant (omega arith)

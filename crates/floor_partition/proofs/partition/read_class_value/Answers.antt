@@ -19,4 +19,4 @@ pub read_entry-requires : goal.read_entry-requires
 read_entry-requires c = search (rules, master_stored)
 
 pub returns : goal.returns
-returns c = class_read c.requires c.class_subclasses.ensures c.if-class_subclasses-eq0.false c.class_master.ensures c.u32_from_u16-master.ensures _ _ _ c.read_entry.ensures.0
+returns c = class_read c.requires c.class_subclasses.ensures c.if-class_subclasses-eq0.false c.class_master.ensures c.u32_from_u16-master.ensures _ _ _ c.read_entry.ensures.result_value

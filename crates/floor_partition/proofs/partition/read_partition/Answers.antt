@@ -9,7 +9,7 @@ pub read_chosen-requires : goal.read_chosen-requires
 read_chosen-requires c = c.requires
 
 pub returns-in-Refused : goal.returns-in-Refused
-returns-in-Refused c = partition_cut _ _ _ _ _ _ _ c.read_class_value.ensures c.z-1.given.1 _
+returns-in-Refused c = partition_cut _ _ _ _ _ _ _ c.read_class_value.ensures c.in-Refused.is _
 
 pub returns-in-Value : goal.returns-in-Value
-returns-in-Value c = partition_read _ _ _ _ _ _ _ c.read_class_value.ensures c.class_value-1.given.1 c.read_chosen.ensures
+returns-in-Value c = partition_read _ _ _ _ _ _ _ c.read_class_value.ensures c.in-Value.is c.read_chosen.ensures

@@ -13,12 +13,12 @@ pub read_entry-requires : goal.read_entry-requires
 read_entry-requires c = search (rules, value_stored)
 
 pub narrow-requires : goal.narrow-requires
-narrow-requires c = value_fits c.requires _ _ c.if-place-eq0.false c.u32_from_u16.ensures _ c.read_entry.ensures.0 c.entry-1.given.1
+narrow-requires c = value_fits c.requires _ _ c.if-place-eq0.false c.u32_from_u16.ensures _ c.read_entry.ensures.result_value c.in-Value.is
 
 pub returns-in-Refused : goal.returns-in-Refused
-returns-in-Refused c = value_cut c.requires _ _ c.if-place-eq0.false c.u32_from_u16.ensures _ c.read_entry.ensures.0 c.z-1.given.1 _ _ _
+returns-in-Refused c = value_cut c.requires _ _ c.if-place-eq0.false c.u32_from_u16.ensures _ c.read_entry.ensures.result_value c.in-Refused.is _ _ _
 
 pub returns-in-Value : goal.returns-in-Value
 returns-in-Value c =
-    value_read c.requires _ _ c.if-place-eq0.false c.u32_from_u16.ensures _ c.read_entry.ensures.0 c.entry-1.given.1
+    value_read c.requires _ _ c.if-place-eq0.false c.u32_from_u16.ensures _ c.read_entry.ensures.result_value c.in-Value.is
     c.narrow.ensures _ _ _ c.put_u16-in-Value.ensures

@@ -10,7 +10,7 @@ pub loop-i-init : goal.loop-i-init
 loop-i-init c = fill_begin _ _ _ c.requires
 
 pub overflow_add-heights : goal.overflow_add-heights
-overflow_add-heights c = omega (arith, c.shared_slice_known-1.given c.loop-i.i)
+overflow_add-heights c = omega (arith, c.type_inv.values c.loop-i.i)
 
 pub loop-i-preserved : goal.loop-i-preserved
 loop-i-preserved c = fill_turn _ _ _ _ _ c.loop-i.invariant (omega arith) (ap (λ (v : ℕ). 65536 + v) c.u32_from_u16.ensures)
@@ -19,4 +19,4 @@ pub shape_of-heights : goal.shape_of-heights
 shape_of-heights c = omega arith
 
 pub returns : goal.returns
-returns c = (fill_end _ _ _ _ c.loop-i.invariant (omega arith), filled_bounded _ _ _ c.loop-i.invariant (omega arith) (λ k. omega (arith, c.shared_slice_known-1.given k)))
+returns c = (fill_end _ _ _ _ c.loop-i.invariant (omega arith), filled_bounded _ _ _ c.loop-i.invariant (omega arith) (λ k. omega (arith, c.type_inv.values k)))

@@ -10,10 +10,10 @@ steps-requires c =
 pub returns : goal.returns
 returns c =
     let e = made_points c.args.range c.args.x.now c.args.values.now c.args.heights.now
-    c.args.flags.now _ _ c.steps.new.1.1.1.1.0 _ c.requires.0 c.begin_heights.ensures.0
+    c.args.flags.now _ _ c.steps.new.heights _ c.requires.0 c.begin_heights.ensures.0
     c.begin_flags.ensures c.steps.ensures in (
-      made_y c.args.range c.args.x.now c.args.values.now c.steps.new.1.1.1.1.0 _ _ e
+      made_y c.args.range c.args.x.now c.args.values.now c.steps.new.heights _ _ e
           c.clamp_all.ensures,
       made_flags c.args.range c.args.x.now c.args.values.now
-          c.steps.new.1.1.1.1.0 _ e,
+          c.steps.new.heights _ e,
     )

@@ -21,7 +21,7 @@ read_partition-requires c = (place_low c.loop-i.invariant, go_class c.loop-i.inv
 pub returns-in-Refused : goal.returns-in-Refused
 returns-in-Refused c =
     go_refused c.loop-i.invariant (omega arith) c.partition_class.ensures c.wide_u16-class.ensures
-    c.read_partition.ensures c.z-1.given.1 _
+    c.read_partition.ensures c.in-Refused.is _
 
 pub class_dimensions-requires : goal.class_dimensions-requires
 class_dimensions-requires c = (
@@ -36,7 +36,7 @@ overflow_add-at c = record { fits = omega (arith, place_low c.loop-i.invariant, 
 pub loop-i-preserved : goal.loop-i-preserved
 loop-i-preserved c =
     go_next c.loop-i.invariant (omega arith) c.partition_class.ensures c.wide_u16-class.ensures
-    c.read_partition.ensures c.after-1.given.1 (search rules) c.class_dimensions.ensures
+    c.read_partition.ensures c.in-Next.is (search rules) c.class_dimensions.ensures
     c.wide_u16-at.ensures refl
 
 pub returns : goal.returns

@@ -4,14 +4,15 @@ use Rattle.floor_values.proofs.Known.{values_known}
 use Rattle.floor_values.proofs.values.read_values.Goals as goal
 
 pub returns-then-nonzero-eq0 : goal.returns-then-nonzero-eq0
-returns-then-nonzero-eq0 c = (floor_unused _ _ _ _ _ c.bit.ensures _ c.nonzero-1.given.1 c.if-nonzero-eq0.true, values_known c.requires)
+returns-then-nonzero-eq0 c = record { wrote = floor_unused _ _ _ _ _ c.bit.ensures _ c.in-Value.is c.if-nonzero-eq0.true; floor_values = values_known c.requires }
 
 pub returns-in-Refused : goal.returns-in-Refused
-returns-in-Refused c = (floor_cut _ _ _ _ _ c.bit.ensures _ c.z-1.given.1 _, values_known c.requires)
+returns-in-Refused c = record { wrote = floor_cut _ _ _ _ _ c.bit.ensures _ c.in-Refused.is _; floor_values = values_known c.requires }
 
 pub returns-else-nonzero-eq0 : goal.returns-else-nonzero-eq0
-returns-else-nonzero-eq0 c = (
-  floor_used _ _ _ _ _ c.bit.ensures _ c.nonzero-1.given.1 c.if-nonzero-eq0.false
-      c.read_used.ensures,
-  values_known c.requires,
-)
+returns-else-nonzero-eq0 c =
+    record {
+      wrote = floor_used _ _ _ _ _ c.bit.ensures _ c.in-Value.is c.if-nonzero-eq0.false
+          c.read_used.ensures;
+      floor_values = values_known c.requires;
+    }

@@ -11,10 +11,10 @@ pub shape_of-row-in-Refused : goal.shape_of-row-in-Refused
 shape_of-row-in-Refused c = search filling
 
 pub returns-in-Refused : goal.returns-in-Refused
-returns-in-Refused c = fill_refused _ _ _ _ _ _ _ _ _ _ _ c.loop-i.invariant.2 c.loop-i-test.true c.read_multiplex.ensures c.z-1.given.1 _
+returns-in-Refused c = fill_refused _ _ _ _ _ _ _ _ _ _ _ c.loop-i.invariant.2 c.loop-i-test.true c.read_multiplex.ensures c.in-Refused.is _
 
 pub loop-i-preserved : goal.loop-i-preserved
-loop-i-preserved c = (search rules, search rules, fill_next _ _ _ _ _ _ _ _ _ _ _ c.loop-i.invariant.2 c.loop-i-test.true c.read_multiplex.ensures c.next-1.given.1 (search rules))
+loop-i-preserved c = (search rules, search rules, fill_next _ _ _ _ _ _ _ _ _ _ _ c.loop-i.invariant.2 c.loop-i-test.true c.read_multiplex.ensures c.in-Next.is (search rules))
 
 pub shape_of-row : goal.shape_of-row
 shape_of-row c = search filling

@@ -10,10 +10,10 @@ pub returns-then-residue-known : goal.returns-then-residue-known
 returns-then-residue-known c = search residue_unknown
 
 pub overflow_cast-pair : goal.overflow_cast-pair
-overflow_cast-pair c = record { fits = byte_below _ _ c.field-in-Value.ensures c.floor-1.given.1 }
+overflow_cast-pair c = record { fits = byte_below _ _ c.field-in-Value.ensures c.in-Value-field.is }
 
 pub overflow_cast-pair-in-Value-field-2 : goal.overflow_cast-pair-in-Value-field-2
-overflow_cast-pair-in-Value-field-2 c = record { fits = byte_below _ _ c.field-in-Value-field.ensures c.residue-1.given.1 }
+overflow_cast-pair-in-Value-field-2 c = record { fits = byte_below _ _ c.field-in-Value-field.ensures c.in-Value-field-2.is }
 
 pub returns-in-Refused : goal.returns-in-Refused
 returns-in-Refused c = search discarded_cut

@@ -11,7 +11,7 @@ pub loop-i-init : goal.loop-i-init
 loop-i-init c = (moved_none _ _, omega arith, refl)
 
 pub overflow_add-input : goal.overflow_add-input
-overflow_add-input c = let l = c.well-formed.0.0 in omega (arith, l)
+overflow_add-input c = let l = c.well_formed.0.0 in omega (arith, l)
 
 pub bounds-input-from : goal.bounds-input-from
 bounds-input-from c = omega arith
@@ -20,7 +20,7 @@ pub bounds-input-i : goal.bounds-input-i
 bounds-input-i c = omega arith
 
 pub overflow_add-i : goal.overflow_add-i
-overflow_add-i c = let l = c.well-formed.0.0 in omega (arith, l)
+overflow_add-i c = let l = c.well_formed.0.0 in omega (arith, l)
 
 pub loop-i-smaller : goal.loop-i-smaller
 loop-i-smaller c = omega arith

@@ -8,10 +8,10 @@ use Rattle.record_turn.proofs.feeding.read_more.Goals as goal
 
 pub returns-then-got-lt0 : goal.returns-then-got-lt0
 returns-then-got-lt0 c =
-    let p = c.requires in (take_put c.args.to (length c.args.input.now - c.args.to) c.args.input.now c.read-got.new.1.0 c.requires, omega (arith, p))
+    let p = c.requires in (take_put c.args.to (length c.args.input.now - c.args.to) c.args.input.now c.read-got.new.buf c.requires, omega (arith, p))
 
 pub returns : goal.returns
 returns c = (
-  take_put c.args.to (length c.args.input.now - c.args.to) c.args.input.now c.read-got.new.1.0 c.requires,
-  count_inside c.args.to (put_mid c.args.to (length c.args.input.now - c.args.to) c.args.input.now c.read-got.new.1.0) c.requires c.input-1.given.1 c.count-more.ensures.0.0,
+  take_put c.args.to (length c.args.input.now - c.args.to) c.args.input.now c.read-got.new.buf c.requires,
+  count_inside c.args.to (put_mid c.args.to (length c.args.input.now - c.args.to) c.args.input.now c.read-got.new.buf) c.requires c.input-1.given.1 c.count-more.ensures.in_bounds.0,
 )

@@ -18,7 +18,7 @@ later_passes-requires c =
     let p = c.requires in
     let a = c.args in
     let x = c.first_pass.ensures in
-    let q = c.progress-1.given.1 in
+    let q = c.in-Whole.is in
     (read_room x q, p.1, other_than_zero _ (search rules), residue_class_words p.1 a.packet.now a.live a.partitions a.from a.out.now p.0 x (search rules) q)
 
 -- src/whole.rt:75:1
@@ -27,7 +27,7 @@ returns-in-Whole c =
     let p = c.requires in
     let a = c.args in
     let x = c.first_pass.ensures in
-    let q = c.progress-1.given.1 in
+    let q = c.in-Whole.is in
     residue_then p.1 a.packet.now a.live a.partitions a.from a.out.now p.0 x (search rules) q c.later_passes.ensures
 
 -- src/whole.rt:75:1

@@ -7,28 +7,22 @@ use Rattle.residue_tables.proofs.recognise.are_residues.Goals as goal
 
 pub returns-then-residues-lt-RESIDUES_NEED : goal.returns-then-residues-lt-RESIDUES_NEED
 returns-then-residues-lt-RESIDUES_NEED c =
-    let books = books_of c.args.book_count c.args.books.now in (
-      short books c.args.n c.args.residues.now c.args.plans.now (search rules),
-      one_content books c.args.n c.args.residues.now c.args.plans.now c.requires,
-    )
+    let books = books_of c.args.book_count c.args.books.now in record { variant = short books c.args.n c.args.residues.now c.args.plans.now (search rules); one_content = one_content books c.args.n c.args.residues.now c.args.plans.now c.requires }
 
 pub returns-then-plans-lt-PLANS_NEED : goal.returns-then-plans-lt-PLANS_NEED
 returns-then-plans-lt-PLANS_NEED c =
-    let books = books_of c.args.book_count c.args.books.now in (
-      short_plans books c.args.n c.args.residues.now c.args.plans.now (search rules),
-      one_content books c.args.n c.args.residues.now c.args.plans.now c.requires,
-    )
+    let books = books_of c.args.book_count c.args.books.now in record { variant = short_plans books c.args.n c.args.residues.now c.args.plans.now (search rules); one_content = one_content books c.args.n c.args.residues.now c.args.plans.now c.requires }
 
 pub loop-i-init : goal.loop-i-init
 loop-i-init c = recognising_start _ _ _ _
 
 pub returns-then-not-is_residue : goal.returns-then-not-is_residue
 returns-then-not-is_residue c =
-    let books = books_of c.args.book_count c.args.books.now in (
-      recognising_failed books c.args.n c.args.residues.now c.args.plans.now c.requires (search rules) (search rules) c.loop-i.invariant
-          (search rules) c.is_residue.ensures c.if-not-is_residue.true,
-      one_content books c.args.n c.args.residues.now c.args.plans.now c.requires,
-    )
+    let books = books_of c.args.book_count c.args.books.now in record {
+      variant = recognising_failed books c.args.n c.args.residues.now c.args.plans.now c.requires (search rules) (search rules) c.loop-i.invariant
+          (search rules) c.is_residue.ensures c.if-not-is_residue.true;
+      one_content = one_content books c.args.n c.args.residues.now c.args.plans.now c.requires;
+    }
 
 pub loop-i-preserved : goal.loop-i-preserved
 loop-i-preserved c =
@@ -36,17 +30,17 @@ loop-i-preserved c =
 
 pub returns-then-not-zeros_u32 : goal.returns-then-not-zeros_u32
 returns-then-not-zeros_u32 c =
-    let books = books_of c.args.book_count c.args.books.now in (
-      tail_failed books c.args.n c.args.residues.now c.args.plans.now c.requires (search rules) (search rules) c.loop-i.invariant
-          (search rules) c.wide_u32.ensures c.zeros_u32.ensures c.if-not-zeros_u32.true,
-      one_content books c.args.n c.args.residues.now c.args.plans.now c.requires,
-    )
+    let books = books_of c.args.book_count c.args.books.now in record {
+      variant = tail_failed books c.args.n c.args.residues.now c.args.plans.now c.requires (search rules) (search rules) c.loop-i.invariant
+          (search rules) c.wide_u32.ensures c.zeros_u32.ensures c.if-not-zeros_u32.true;
+      one_content = one_content books c.args.n c.args.residues.now c.args.plans.now c.requires;
+    }
 
 pub returns : goal.returns
 returns c =
-    let books = books_of c.args.book_count c.args.books.now in (
-      tail_judged books c.args.n c.args.residues.now c.args.plans.now c.requires (search rules) (search rules) c.loop-i.invariant
+    let books = books_of c.args.book_count c.args.books.now in record {
+      variant = tail_judged books c.args.n c.args.residues.now c.args.plans.now c.requires (search rules) (search rules) c.loop-i.invariant
           (search rules) c.wide_u32.ensures c.zeros_u32.ensures c.if-not-zeros_u32.false c.wide_u32-2.ensures
-          c.zeros_u16.ensures,
-      one_content books c.args.n c.args.residues.now c.args.plans.now c.requires,
-    )
+          c.zeros_u16.ensures;
+      one_content = one_content books c.args.n c.args.residues.now c.args.plans.now c.requires;
+    }

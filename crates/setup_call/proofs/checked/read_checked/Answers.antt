@@ -5,7 +5,7 @@ use Rattle.setup_call.proofs.checked.read_checked.Goals as goal
 
 pub read_content-requires : goal.read_content-requires
 read_content-requires c =
-    content_ready _ _ _ _ c.have_room-room.ensures c.begin.ensures c.requires c.from-1.given.1
+    content_ready _ _ _ _ c.have_room-room.ensures c.begin.ensures c.requires c.in-Next.is
 
 pub shape_of-counts-in-Refused : goal.shape_of-counts-in-Refused
 shape_of-counts-in-Refused c = refl
@@ -38,7 +38,7 @@ pub shape_of-modes-in-Refused : goal.shape_of-modes-in-Refused
 shape_of-modes-in-Refused c = refl
 
 pub returns-in-Refused : goal.returns-in-Refused
-returns-in-Refused c = checked_refused _ _ _ _ c.have_room-room.ensures c.begin.ensures c.z-1.given.1
+returns-in-Refused c = checked_refused _ _ _ _ c.have_room-room.ensures c.begin.ensures c.in-Refused.is
 
 pub shape_of-counts-in-Next : goal.shape_of-counts-in-Next
 shape_of-counts-in-Next c = c.counts-1.given
@@ -72,4 +72,4 @@ shape_of-modes-in-Next c = c.modes-1.given
 
 pub returns-in-Next : goal.returns-in-Next
 returns-in-Next c =
-    checked_read _ _ _ _ c.have_room-room.ensures c.begin.ensures c.from-1.given.1 c.read_content.ensures
+    checked_read _ _ _ _ c.have_room-room.ensures c.begin.ensures c.in-Next.is c.read_content.ensures

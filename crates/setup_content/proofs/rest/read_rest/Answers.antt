@@ -21,7 +21,7 @@ pub shape_of-modes-in-Refused : goal.shape_of-modes-in-Refused
 shape_of-modes-in-Refused c = c.modes-1.given
 
 pub returns-in-Refused : goal.returns-in-Refused
-returns-in-Refused c = rest_refused _ _ _ _ c.read_after-after.ensures c.step-1.given.1
+returns-in-Refused c = rest_refused _ _ _ _ c.read_after-after.ensures c.in-Refused.is
 
 pub shape_of-counts-in-Next : goal.shape_of-counts-in-Next
 shape_of-counts-in-Next c = c.counts-1.given
@@ -42,4 +42,4 @@ pub shape_of-modes-in-Next : goal.shape_of-modes-in-Next
 shape_of-modes-in-Next c = c.modes-1.given
 
 pub returns-in-Next : goal.returns-in-Next
-returns-in-Next c = rest_read _ _ _ _ c.read_after-after.ensures _ c.write_counts.ensures c.step-in-Next-1.given.1 c.read_framing.ensures
+returns-in-Next c = rest_read _ _ _ _ c.read_after-after.ensures _ c.write_counts.ensures c.in-Next.is c.read_framing.ensures

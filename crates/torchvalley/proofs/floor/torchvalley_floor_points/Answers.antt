@@ -4,4 +4,4 @@ use Rattle.figures.proofs.Table.{figures}
 use Rattle.torchvalley.proofs.floor.torchvalley_floor_points.Goals as goal
 
 pub returns : goal.returns
-returns c = (search rules, figures)
+returns c = record { flags_after = search rules; figures = figures }

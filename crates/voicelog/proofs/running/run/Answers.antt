@@ -26,12 +26,12 @@ pub slice_bounds-take_records-end-in-loop-turn : goal.slice_bounds-take_records-
 slice_bounds-take_records-end-in-loop-turn c = sym (length-take-le c.loop-turn.to c.loop-turn.input c.loop-turn.invariant.inside)
 
 pub take_records-at-requires : goal.take_records-at-requires
-take_records-at-requires c = (c.loop-turn.invariant.kept, c.loop-turn.invariant.room)
+take_records-at-requires c = record { kept_tables = c.loop-turn.invariant.kept; room = c.loop-turn.invariant.room }
 
 pub after_records-turn-requires : goal.after_records-turn-requires
 after_records-turn-requires c =
     record {
-      within = within_long c.take_records-at.ensures.1.1 (sym c.lines-1.given);
+      within = within_long c.take_records-at.ensures.kept_tables_2.1 (sym c.lines-1.given);
       inside = c.loop-turn.invariant.inside;
       of_input = c.loop-turn.invariant.of_input ∙ c.requires.of_input;
       of_lines = c.lines-1.given ∙ c.loop-turn.invariant.of_lines ∙ c.requires.of_lines;
@@ -102,7 +102,7 @@ loop-turn-smaller c = let h = c.after_records-turn.ensures.more c.if-turn.false 
 pub loop-turn-preserved : goal.loop-turn-preserved
 loop-turn-preserved c =
     record {
-      kept = kept_same c.after_records-turn.ensures.same c.take_records-at.ensures.1.0;
+      kept = kept_same c.after_records-turn.ensures.same c.take_records-at.ensures.kept_tables_2.0;
       room = c.after_records-turn.ensures.room c.if-turn.false;
       inside = c.after_records-turn.ensures.inside c.if-turn.false;
       same =
