@@ -8,4 +8,4 @@ read_codeword-requires c =
 
 pub returns : goal.returns
 returns c =
-    let both = read c.requires c.wide_u32-first.ensures c.first_entry.ensures c.wide_u32.ensures c.entries.ensures c.lone-lone.ensures _ _ _ c.read_codeword.ensures in record { result_value = both.0; settled = both.1 }
+    let both = read c.requires c.wide_u32-first.ensures c.first_entry.ensures c.wide_u32.ensures c.entries.ensures c.lone-lone.ensures _ _ _ (c.read_codeword.ensures.result_value, c.read_codeword.ensures.settled) in record { result_value = both.0; settled = both.1 }

@@ -74,4 +74,4 @@ pub shape_of-lines : goal.shape_of-lines
 shape_of-lines c = c.lines-in-Whole-1.given
 
 pub returns-in-Whole : goal.returns-in-Whole
-returns-in-Whole c = c.take_whole.ensures
+returns-in-Whole c = record { taken = c.take_whole.ensures.taken; kept_tables_2 = c.take_whole.ensures.kept_tables_2; within = c.take_whole.ensures.within }

@@ -13,4 +13,4 @@ pub read_entry-requires : goal.read_entry-requires
 read_entry-requires c = call_stored c.are_sound-sound.ensures.tested c.are_sound-sound.ensures.value c.if-not-sound.false _ c.is_set_up-set_up.ensures c.if-not-set_up.false
 
 pub returns : goal.returns
-returns c = let both = call_read (search rules) c.are_sound-sound.ensures.tested c.are_sound-sound.ensures.value _ _ _ c.if-not-sound.false c.is_set_up-set_up.ensures c.if-not-set_up.false c.read_entry.ensures in record { result_value = both.0; demand3 = both.1 }
+returns c = let both = call_read (search rules) c.are_sound-sound.ensures.tested c.are_sound-sound.ensures.value _ _ _ c.if-not-sound.false c.is_set_up-set_up.ensures c.if-not-set_up.false (c.read_entry.ensures.result_value, c.read_entry.ensures.settled) in record { result_value = both.0; demand3 = both.1 }

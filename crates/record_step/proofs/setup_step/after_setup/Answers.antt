@@ -12,4 +12,4 @@ read_setup-number-requires c =
 
 pub returns : goal.returns
 returns c =
-    setup_settled _ _ _ c.requires c.if-not-kept.false c.standard.ensures c.read_setup-number.ensures c.get_u32.ensures c.get_u32-2.ensures c.numbered.ensures
+    setup_settled _ _ _ c.requires c.if-not-kept.false c.standard.ensures (c.read_setup-number.ensures.modes_value, c.read_setup-number.ensures.accepted_sound) c.get_u32.ensures c.get_u32-2.ensures c.numbered.ensures

@@ -37,4 +37,4 @@ shape_of-modes c = c.modes-1.given
 
 pub returns : goal.returns
 returns c =
-    let both = setup_standard c.standard.ensures c.read_setup.ensures in record { modes_value = both.0; accepted_sound = both.1 }
+    let both = setup_standard c.standard.ensures (c.read_setup.ensures.modes_value, c.read_setup.ensures.accepted_sound) in record { modes_value = both.0; accepted_sound = both.1 }

@@ -6,4 +6,4 @@ pub are_sound-requires : goal.are_sound-requires
 are_sound-requires c = small c.standard.ensures
 
 pub returns : goal.returns
-returns c = let both = sound_standard c.standard.ensures c.are_sound.ensures in record { value = both.0; tested = both.1 }
+returns c = let both = sound_standard c.standard.ensures (c.are_sound.ensures.value, c.are_sound.ensures.tested) in record { value = both.0; tested = both.1 }
