@@ -1,15 +1,17 @@
 -- `audio_call::read_audio` meets its contract, by CallLaws. Assumes nothing.
+use mathlib.Core.Bool.{not}
+use mathlib.Core.Path.{ap}
 use Rattle.audio_call.proofs.CallLaws.{call_unsound, packet_asked, call_sound}
 use Rattle.audio_call.proofs.read_audio.Goals as goal
 
 pub returns-then-not-sound : goal.returns-then-not-sound
 returns-then-not-sound c =
-    call_unsound _ _ _ c.are_sound-sound.ensures.value c.args.tally c.args.packet.now c.args.curves.now c.args.words.now c.if-not-sound.true c.refuse.ensures
+    call_unsound _ _ _ c.are_sound-sound.ensures.value c.args.tally c.args.packet.now c.args.curves.now c.args.words.now (ap not c.if-not-sound.true) c.refuse.ensures
 
 pub read_packet-requires : goal.read_packet-requires
 read_packet-requires c =
-    packet_asked _ _ _ c.are_sound-sound.ensures.value c.if-not-sound.false c.requires.0 c.requires.1
+    packet_asked _ _ _ c.are_sound-sound.ensures.value (ap not c.if-not-sound.false) c.requires.0 c.requires.1
 
 pub returns : goal.returns
 returns c =
-    call_sound _ _ _ c.are_sound-sound.ensures.value c.if-not-sound.false c.args.tally c.args.packet.now c.args.curves.now c.args.words.now c.read_packet.ensures
+    call_sound _ _ _ c.are_sound-sound.ensures.value (ap not c.if-not-sound.false) c.args.tally c.args.packet.now c.args.curves.now c.args.words.now c.read_packet.ensures

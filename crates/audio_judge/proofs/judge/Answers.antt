@@ -1,11 +1,13 @@
 -- `audio_judge::judge` meets its contract, by JudgeWholeLaws: one law for each way out. Assumes nothing.
+use mathlib.Core.Bool.{not}
+use mathlib.Core.Path.{ap}
 use Rattle.audio_judge.proofs.JudgeWholeLaws.{modes_asked, judged_unsound, judged_head_refused, head_asked, judged_head_read}
 use borrow.Author.Rules.{rules}
 use Rattle.audio_judge.proofs.judge.Goals as goal
 
 pub returns-then-not-is_sound : goal.returns-then-not-is_sound
 returns-then-not-is_sound c =
-    judged_unsound _ _ c.requires _ _ _ _ c.is_sound.ensures c.if-not-is_sound.true c.refused.ensures
+    judged_unsound _ _ c.requires _ _ _ _ c.is_sound.ensures (ap not c.if-not-is_sound.true) c.refused.ensures
 
 pub read_head-requires : goal.read_head-requires
 read_head-requires c =
@@ -28,12 +30,12 @@ returns-in-Refused c =
           c.args.curves.now
           c.args.words.now
           c.is_sound.ensures
-          c.if-not-is_sound.false,
+          (ap not c.if-not-is_sound.false),
     )
 
 pub returns-in-Value : goal.returns-in-Value
 returns-in-Value c =
     (judged_head_read _ _ c.requires c.args.packet.now c.get_u32-mode_count.ensures _ c.read_head.ensures
-    c.args.tally c.args.curves.now c.args.words.now c.is_sound.ensures c.if-not-is_sound.false)
+    c.args.tally c.args.curves.now c.args.words.now c.is_sound.ensures (ap not c.if-not-is_sound.false))
     (search rules)
     c.judge_body.ensures

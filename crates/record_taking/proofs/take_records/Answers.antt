@@ -1,5 +1,6 @@
 -- `take_records` meets its contract, by TakingLaws. The invariant: what was taken so far is one taking, and another record may be taken. Assumes nothing.
-use mathlib.Core.Path.{refl, ◌∙◌}
+use mathlib.Core.Bool.{not}
+use mathlib.Core.Path.{refl, ◌∙◌, ap}
 use Prim.Native.Nat.{◌-◌}
 use native.Mathlib.Omega.{arith}
 use borrow.Author.Tests.{not-false}
@@ -85,14 +86,14 @@ returns-then-not-may_go_on c = (
 
 pub loop-at-smaller : goal.loop-at-smaller
 loop-at-smaller c =
-    turn_less c.loop-at.at c.take_record-at.ensures.kept_tables_2.1.0 c.take_record-at.ensures.kept_tables_2.1.1 (c.may_go_on.ensures (not-false _ c.if-not-may_go_on.false))
+    turn_less c.loop-at.at c.take_record-at.ensures.kept_tables_2.1.0 c.take_record-at.ensures.kept_tables_2.1.1 (c.may_go_on.ensures (not-false _ (ap not c.if-not-may_go_on.false)))
 
 pub loop-at-preserved : goal.loop-at-preserved
 loop-at-preserved c =
     record {
       taken = taken_then c.loop-at.invariant.taken c.take_record-at.ensures.taken;
       kept = c.take_record-at.ensures.kept_tables_2.0;
-      room = turn_room c.take_record-at.ensures.kept_tables_2.1.0 (c.may_go_on.ensures (not-false _ c.if-not-may_go_on.false));
+      room = turn_room c.take_record-at.ensures.kept_tables_2.1.0 (c.may_go_on.ensures (not-false _ (ap not c.if-not-may_go_on.false)));
       same =
           record {
             counts = c.counts-1.given ∙ c.loop-at.invariant.same.counts;

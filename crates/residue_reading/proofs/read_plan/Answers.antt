@@ -1,4 +1,6 @@
 -- `residue_reading::read_plan` meets its contract, by ReadLaws. Assumes nothing.
+use mathlib.Core.Bool.{not}
+use mathlib.Core.Path.{ap}
 use Rattle.bits.specs.Inner.Cursors.{position}
 use Rattle.residue.specs.Inner.Heads.{head_of}
 use Rattle.residue.specs.Inner.Plans.{tables_at}
@@ -26,20 +28,20 @@ loop-i-preserved c =
 pub returns-then-not-head_fits : goal.returns-then-not-head_fits
 returns-then-not-head_fits c =
     head_unfit _ _ _ _ _ c.requires.2 c.requires.1 c.loop-i.invariant (omega (arith, c.wide_u32-classes.ensures))
-    c.args.books.now c.args.place (head_of c.args.head) c.head_fits.ensures c.if-not-head_fits.true
+    c.args.books.now c.args.place (head_of c.args.head) c.head_fits.ensures (ap not c.if-not-head_fits.true)
     (tables_at c.args.residues.now c.args.plans.now c.args.index) _
 
 pub returns-then-not-plan_fits : goal.returns-then-not-plan_fits
 returns-then-not-plan_fits c =
     plan_unfit _ _ _ _ _ c.requires.2 c.requires.1 c.loop-i.invariant (omega (arith, c.wide_u32-classes.ensures))
     c.args.books.now c.args.place (head_of c.args.head) c.head_fits.ensures
-    c.if-not-head_fits.false c.wide_u32-classes.ensures c.plan_fits.ensures c.if-not-plan_fits.true
+    (ap not c.if-not-head_fits.false) c.wide_u32-classes.ensures c.plan_fits.ensures (ap not c.if-not-plan_fits.true)
     (tables_at c.args.residues.now c.args.plans.now c.args.index) _
 
 pub returns : goal.returns
 returns c =
     residue_written _ _ _ _ _ c.requires.2 c.requires.1 c.loop-i.invariant (omega (arith, c.wide_u32-classes.ensures))
     c.args.books.now c.args.place (head_of c.args.head) c.head_fits.ensures
-    c.if-not-head_fits.false c.wide_u32-classes.ensures c.plan_fits.ensures c.if-not-plan_fits.false
+    (ap not c.if-not-head_fits.false) c.wide_u32-classes.ensures c.plan_fits.ensures (ap not c.if-not-plan_fits.false)
     c.args.residues.now c.args.plans.now c.args.index c.write_head.ensures
     c.write_plan.ensures

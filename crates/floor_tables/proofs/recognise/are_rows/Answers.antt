@@ -1,4 +1,6 @@
 -- `floor_tables::recognise::are_rows` meets its contract. Assumes nothing.
+use mathlib.Core.Bool.{not}
+use mathlib.Core.Path.{ap}
 use Prim.Native.Nat.{◌*◌, ◌-◌}
 use native.Mathlib.Omega.{arith}
 use Rattle.reading.proofs.Encodes.{rows_start}
@@ -15,13 +17,13 @@ pub returns-then-not-is_floor : goal.returns-then-not-is_floor
 returns-then-not-is_floor c =
     let start = c.args in
     let here = c.loop-f in
-    rows_refuted floor_row _ floor_width floor_long _ _ here.f here.invariant.4 (omega arith) (slice_of start.floors.now (floor_width * here.f) floor_width) c.is_floor.ensures c.if-not-is_floor.true
+    rows_refuted floor_row _ floor_width floor_long _ _ here.f here.invariant.4 (omega arith) (slice_of start.floors.now (floor_width * here.f) floor_width) c.is_floor.ensures (ap not c.if-not-is_floor.true)
 
 pub loop-f-preserved : goal.loop-f-preserved
 loop-f-preserved c =
     let start = c.args in
     let here = c.loop-f in
-    let later = rows_shown floor_row _ floor_width floor_long _ _ here.f here.invariant.4 (omega arith) (slice_of start.floors.now (floor_width * here.f) floor_width) c.is_floor.ensures (omega arith) c.if-not-is_floor.false in
+    let later = rows_shown floor_row _ floor_width floor_long _ _ here.f here.invariant.4 (omega arith) (slice_of start.floors.now (floor_width * here.f) floor_width) c.is_floor.ensures (omega arith) (ap not c.if-not-is_floor.false) in
     (search rules, search rules, search rules, omega arith, later)
 
 pub returns : goal.returns

@@ -1,4 +1,6 @@
 -- `floor_tables::recognise::is_floor` meets its contract. Assumes nothing.
+use mathlib.Core.Bool.{not}
+use mathlib.Core.Path.{ap}
 use Rattle.floor_tables.proofs.FloorLaws.{floor_few, floor_partitions, floor_classes, floor_head, floor_end}
 use borrow.Author.Rules.{rules}
 use Rattle.reading.proofs.Encodes.{shown}
@@ -17,7 +19,7 @@ pub returns-then-not-is_head : goal.returns-then-not-is_head
 returns-then-not-is_head c = search floor_head
 
 pub is_list-requires : goal.is_list-requires
-is_list-requires c = (search rules, search rules, shown c.is_head.ensures c.if-not-is_head.false)
+is_list-requires c = (search rules, search rules, shown c.is_head.ensures (ap not c.if-not-is_head.false))
 
 pub returns : goal.returns
 returns c = search floor_end

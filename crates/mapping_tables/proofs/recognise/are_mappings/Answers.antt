@@ -1,4 +1,6 @@
 -- `mapping_tables::recognise::are_mappings` meets its contract, by RecogniseLaws. Assumes nothing.
+use mathlib.Core.Bool.{not}
+use mathlib.Core.Path.{ap}
 use Prim.Native.Nat.{◌*◌, ◌-◌}
 use Rattle.mapping_tables.proofs.RecogniseLaws.{recognise_laws, part_width, find_stop, find_next}
 use borrow.Author.Rules.{rules}
@@ -15,10 +17,10 @@ pub is_mapping-requires : goal.is_mapping-requires
 is_mapping-requires c = search recognise_laws
 
 pub returns-then-not-is_mapping : goal.returns-then-not-is_mapping
-returns-then-not-is_mapping c = find_stop _ _ _ _ c.loop-i.invariant.2 c.loop-i-test.true c.is_mapping.ensures (part_width (mapping_width * c.loop-i.i) mapping_width) c.if-not-is_mapping.true
+returns-then-not-is_mapping c = find_stop _ _ _ _ c.loop-i.invariant.2 c.loop-i-test.true c.is_mapping.ensures (part_width (mapping_width * c.loop-i.i) mapping_width) (ap not c.if-not-is_mapping.true)
 
 pub loop-i-preserved : goal.loop-i-preserved
-loop-i-preserved c = (search rules, search rules, find_next _ _ _ _ c.loop-i.invariant.2 c.loop-i-test.true c.is_mapping.ensures (part_width (mapping_width * c.loop-i.i) mapping_width) c.if-not-is_mapping.false)
+loop-i-preserved c = (search rules, search rules, find_next _ _ _ _ c.loop-i.invariant.2 c.loop-i-test.true c.is_mapping.ensures (part_width (mapping_width * c.loop-i.i) mapping_width) (ap not c.if-not-is_mapping.false))
 
 pub returns : goal.returns
 returns c = search recognise_laws
