@@ -5,6 +5,8 @@
 ghost use Rattle.std.specs.Prelude.{◌<◌, ◌≤◌};
 
 use records::Answer;
+use std::io;
+use std::io::{Print, Stdout};
 use torchvalley::IdentityAnswer;
 
 // The good packet, and one byte more: one channel, rate 8000, block sizes 256 and 2048.
@@ -16,13 +18,14 @@ fn good() -> [u8; 31] {
 }
 
 // The first `length` bytes of a packet.
-fn cut(number: u64, packet: [u8; 31], length: usize)
+fn cut(out: Stdout, number: u64, packet: [u8; 31], length: usize) -> io::Result<()>
     requires { length ≤ 31 }
 {
     write_line(
+        out,
         number,
         came_to(torchvalley::torchvalley_identification(&packet[..length])),
-    );
+    )
 }
 
 // What a packet came to, as the tool has it.
@@ -35,24 +38,32 @@ fn came_to(answer: IdentityAnswer) -> Answer {
 }
 
 // The tool's line, to standard output.
-fn write_line(number: u64, answer: Answer) {
+fn write_line(out: Stdout, number: u64, answer: Answer) -> io::Result<()> {
     let mut line = [0u8; record_lines::LONGEST];
     let end = record_lines::put_line(number, answer, &mut line, 0);
-    io::write_all(libc::STDOUT_FILENO, &line[..end]);
+    out.write_all(&line[..end])
 }
 
 // The good packet's first `length` bytes, one of them changed.
-fn changed(number: u64, at: usize, byte: u8, length: usize)
+fn changed(out: Stdout, number: u64, at: usize, byte: u8, length: usize) -> io::Result<()>
     requires at_bound { at < 31 }
     requires length_len_bound { length ≤ 31 }
 {
     let mut packet = good();
     packet[at] = byte;
-    cut(number, packet, length);
+    cut(out, number, packet, length)
 }
 
 // The good packet's first `length` bytes, two of them changed.
-fn changed_twice(number: u64, at: usize, byte: u8, also: usize, other: u8, length: usize)
+fn changed_twice(
+    out: Stdout,
+    number: u64,
+    at: usize,
+    byte: u8,
+    also: usize,
+    other: u8,
+    length: usize,
+) -> io::Result<()>
     requires at_bound { at < 31 }
     requires also_bound { also < 31 }
     requires length_len_bound { length ≤ 31 }
@@ -60,87 +71,90 @@ fn changed_twice(number: u64, at: usize, byte: u8, also: usize, other: u8, lengt
     let mut packet = good();
     packet[at] = byte;
     packet[also] = other;
-    cut(number, packet, length);
+    cut(out, number, packet, length)
 }
 
-fn main() {
-    cut(1, good(), 30);
-    cut(2, good(), 31);
-    versions();
-    channels();
-    rates();
-    block_sizes();
-    framing();
-    opening();
-    cuts();
-    wrong_bytes();
+fn main(rt: HostRuntime) -> io::Result<()> {
+    let out = rt.stdout();
+    cut(out, 1, good(), 30)?;
+    cut(out, 2, good(), 31)?;
+    versions(out)?;
+    channels(out)?;
+    rates(out)?;
+    block_sizes(out)?;
+    framing(out)?;
+    opening(out)?;
+    cuts(out)?;
+    wrong_bytes(out)
 }
 
 // Every cut length.
-fn cuts() {
+fn cuts(out: Stdout) -> io::Result<()> {
     let mut length: usize = 0;
     while length < 30 {
-        cut(100 + length as u64, good(), length);
+        cut(out, 100 + length as u64, good(), length)?;
         length = length + 1;
     }
+    Ok(())
 }
 
 // Each of the seven opening bytes wrong.
-fn wrong_bytes() {
+fn wrong_bytes(out: Stdout) -> io::Result<()> {
     let mut at: usize = 0;
     while at < 7 {
-        changed(200 + at as u64, at, 0, 30);
+        changed(out, 200 + at as u64, at, 0, 30)?;
         at = at + 1;
     }
+    Ok(())
 }
 
 // Version 1 in its lowest and in its highest bit; before the channels; a version that is cut is a cut, whatever its bits show.
-fn versions() {
-    changed(10, 7, 1, 30);
-    changed(11, 10, 0x80, 30);
-    changed_twice(12, 7, 1, 11, 0, 30);
-    changed(13, 7, 1, 10);
+fn versions(out: Stdout) -> io::Result<()> {
+    changed(out, 10, 7, 1, 30)?;
+    changed(out, 11, 10, 0x80, 30)?;
+    changed_twice(out, 12, 7, 1, 11, 0, 30)?;
+    changed(out, 13, 7, 1, 10)
 }
 
 // 8, 9, 255 and 0 channels; judged at their byte, before a rate that is 0 or cut.
-fn channels() {
-    changed(20, 11, 8, 30);
-    changed(21, 11, 9, 30);
-    changed(22, 11, 255, 30);
-    changed(23, 11, 0, 30);
-    changed(24, 11, 0, 12);
-    changed(25, 11, 9, 12);
+fn channels(out: Stdout) -> io::Result<()> {
+    changed(out, 20, 11, 8, 30)?;
+    changed(out, 21, 11, 9, 30)?;
+    changed(out, 22, 11, 255, 30)?;
+    changed(out, 23, 11, 0, 30)?;
+    changed(out, 24, 11, 0, 12)?;
+    changed(out, 25, 11, 9, 12)
 }
 
 // Rate 0, and the greatest byte in the highest place.
-fn rates() {
-    changed_twice(30, 12, 0, 13, 0, 30);
-    changed_twice(31, 12, 0, 13, 0, 16);
-    changed_twice(32, 12, 0, 15, 0x80, 30);
+fn rates(out: Stdout) -> io::Result<()> {
+    changed_twice(out, 30, 12, 0, 13, 0, 30)?;
+    changed_twice(out, 31, 12, 0, 13, 0, 16)?;
+    changed_twice(out, 32, 12, 0, 15, 0x80, 30)
 }
 
 // Exponents 5 and 14, each of the two; 6 and 13; equal; the first above the second.
-fn block_sizes() {
-    changed(40, 28, 0xB5, 30);
-    changed(41, 28, 0xBE, 30);
-    changed(42, 28, 0x58, 30);
-    changed(43, 28, 0xE8, 30);
-    changed(44, 28, 0xD6, 30);
-    changed(45, 28, 0x88, 30);
-    changed(46, 28, 0x8B, 30);
-    changed(47, 28, 0x8B, 29);
+fn block_sizes(out: Stdout) -> io::Result<()> {
+    changed(out, 40, 28, 0xB5, 30)?;
+    changed(out, 41, 28, 0xBE, 30)?;
+    changed(out, 42, 28, 0x58, 30)?;
+    changed(out, 43, 28, 0xE8, 30)?;
+    changed(out, 44, 28, 0xD6, 30)?;
+    changed(out, 45, 28, 0x88, 30)?;
+    changed(out, 46, 28, 0x8B, 30)?;
+    changed(out, 47, 28, 0x8B, 29)
 }
 
 // Framing bit 0, with and without other bits in its byte; 1 with other bits.
-fn framing() {
-    changed(50, 29, 0, 30);
-    changed(51, 29, 0xFE, 30);
-    changed(52, 29, 0xFF, 30);
+fn framing(out: Stdout) -> io::Result<()> {
+    changed(out, 50, 29, 0, 30)?;
+    changed(out, 51, 29, 0xFE, 30)?;
+    changed(out, 52, 29, 0xFF, 30)
 }
 
 // A wrong name byte, and then the end: each byte is judged before the next is needed.
-fn opening() {
-    changed(60, 1, 0, 2);
-    changed(61, 1, 0, 1);
-    changed(62, 0, 5, 1);
+fn opening(out: Stdout) -> io::Result<()> {
+    changed(out, 60, 1, 0, 2)?;
+    changed(out, 61, 1, 0, 1)?;
+    changed(out, 62, 0, 5, 1)
 }

@@ -5,7 +5,6 @@ use mathlib.Core.List.{List, ◌++◌, append_assoc}
 use mathlib.Core.Path.{◌≡◌, refl, sym, ◌∙◌, ap}
 use lib.ListN.{length, take, length-append}
 use lib.Seq.{sets}
-use Rattle.io.specs.Digits.{last_digits, IsDigitCount}
 use Rattle.reading.proofs.Tables.{sets_append}
 use Rattle.identification.specs.declared.Identity.{Identity}
 use Rattle.records.specs.declared.Answer.{Answer}
@@ -13,7 +12,7 @@ use Rattle.records.specs.declared.Answer.TheVariants.{Identified, SetUp, AudioRe
 use Rattle.record_lines.specs.Text.{text, decimal}
 use Rattle.record_lines.specs.Lines.{words, line, torn_line, end_line}
 use Rattle.record_lines.specs.Inner.Puts.{Put}
-use Rattle.record_lines.proofs.Numbers.{decimal_is, short_decimal}
+use Rattle.record_lines.proofs.Numbers.{short_decimal}
 
 module _ {entry now : List ℕ} {at after most : ℕ} {bytes : List ℕ} (p : Put entry now at after most bytes) where
   -- other bytes behind them
@@ -47,10 +46,6 @@ ends p = (p.written, (p.place, p.within))
 -- a number of 32 bits behind a text has ten digits at the most
 pub short_field : (front : List ℕ) (n : ℕ) → n < 4294967296 → length (front ++ decimal n) ≤ length front + 10
 short_field front n h = omega (arith, length-append front (decimal n), short_decimal n h)
-
--- what `io::decimal` puts in front is the number in decimal
-pub spelt : (l : List ℕ) (k n : ℕ) → n < 18446744073709551616 → IsDigitCount 10 1 n k → take k l ≡ last_digits 10 k n → take k l ≡ decimal n
-spelt l k n h f e = e ∙ decimal_is k n h f
 
 -- the words of each answer, as they are put
 pub identified_words : (i : Identity) → (text " identity channels " ++ decimal i.channels ++ (text " rate " ++ decimal i.rate))

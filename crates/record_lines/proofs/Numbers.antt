@@ -1,4 +1,4 @@
--- A number in decimal: what `io::decimal` puts is our `decimal`, and how many digits that has. Assumes nothing.
+-- A number in decimal: what the library writes is our `decimal`, and how many digits that has. Assumes nothing.
 use Prim.Native.Nat.{ℕ, zero, suc, ◌+◌, ◌*◌, ◌-◌, ◌/◌, ◌%◌, ◌^◌, ◌≤◌, ◌<◌}
 use native.Mathlib.Nat.{pow-suc, le-div_iff_mul-le, div-lt_iff_lt-mul, mod-eq_of_lt, mod-lt, one-le-pow}
 use native.Mathlib.Numerals.{unary_clauses}
@@ -11,7 +11,8 @@ use lib.Dec.{ltb}
 use borrow.Author.Tests.{lt-ltb, le-ltb}
 use lib.ListN.{length, length-append}
 use Rattle.reading.proofs.Least.{lt_or_le}
-use Rattle.io.specs.Digits.{last_digits, hex_digit_ascii, IsDigitCount}
+use Rattle.std.specs.Fmt.{decimal as library}
+use Rattle.std.proofs.lemmas.Fmt.{decimal_digit, decimal_step}
 use Rattle.record_lines.specs.Text.{decimal, last_digits_of}
 
 -- one digit, and one digit more
@@ -23,30 +24,21 @@ more : (m n : ℕ) → 10 ≤ n → last_digits_of (suc m) n ≡ last_digits_of 
 unfolding last_digits_of
 more m n h = rw (le-ltb n 10 h) refl
 
-digit : (n : ℕ) → hex_digit_ascii (n % 10) ≡ 48 + n % 10
-digit n = rw (lt-ltb (n % 10) 10 (mod-lt n (omega arith))) refl
-
 tenth : (k n : ℕ) → n < 10 ^ suc (suc k) → n / 10 < 10 ^ suc k
 tenth k n h = (div-lt_iff_lt-mul {k = 10} {x = n} {y = 10 ^ suc k} (omega arith)).1 (rw pow-suc at h)
 
--- the fewest digits that hold a number are its last ones without zeros in front
-same : (k m n : ℕ) → n < 10 ^ suc m → n < 10 ^ suc k → (1 < suc k → 10 ^ k ≤ n) → last_digits 10 (suc k) n ≡ last_digits_of (suc m) n
-same zero m n f h g = ap (λ (x : ℕ). x ∷ []) (digit n ∙ ap (λ (x : ℕ). 48 + x) (mod-eq_of_lt low)) ∙ sym (last m n low)
-  where
-    low : n < 10
-    low = h
-same (suc k) zero n f h g = let low : n < 10 = f in absurd (omega (arith, one-le-pow k 10 (omega arith), pow-suc 10 k, g (omega arith)))
-same (suc k) (suc m) n f h g =
-    (λ j. same k m (n / 10) (tenth m n f) (tenth k n h) (λ _. below) j ++ (digit n j ∷ []))
-    ∙ sym (more (suc m) n (omega (arith, one-le-pow k 10 (omega arith), pow-suc 10 k, g (omega arith))))
-  where
-    below : 10 ^ k ≤ n / 10
-    below = (le-div_iff_mul-le {k = 10} {x = 10 ^ k} {y = n} (omega arith)).1 (rw pow-suc at (g (omega arith)))
+-- the digits that the library writes are the last ones without zeros in front
+same : (m n : ℕ) → n < 10 ^ suc m → n < 2 ^ 64 → library n ≡ last_digits_of (suc m) n
+same zero n f h = let low : n < 10 = f in decimal_digit n low ∙ sym (last zero n low)
+same (suc m) n f h =
+    ⊎_elim
+    (λ l. decimal_digit n l ∙ sym (last (suc m) n l))
+    (λ l. decimal_step n l h ∙ ap (λ (x : List ℕ). x ++ ((48 + n % 10) ∷ [])) (same m (n / 10) (tenth m n f) (omega (arith, h))) ∙ sym (more (suc m) n l))
+    (lt_or_le n 10)
 
-pub decimal_is : (k n : ℕ) → n < 18446744073709551616 → IsDigitCount 10 1 n k → last_digits 10 k n ≡ decimal n
+pub decimal_is : (n : ℕ) → n < 18446744073709551616 → library n ≡ decimal n
 unfolding decimal
-decimal_is zero n f w = absurd (omega (arith, w.0))
-decimal_is (suc k) n f w = same k 19 n (omega (arith, f)) w.1 (simp unary_clauses at w.2)
+decimal_is n f = same 19 n (omega (arith, f)) f
 
 -- how many digits there are
 none : (n : ℕ) → length (last_digits_of 0 n) ≡ 0

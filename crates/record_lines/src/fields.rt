@@ -19,9 +19,8 @@ pub fn put_decimal(number: u64, out: &mut [u8], at: usize) -> usize
     requires { at + length (decimal number) ≤ length out.old }
     ensures { Put out.old out.new at result 20 (decimal number) }
 {
-    let mut digits = [0u8; 20];
-    let count = io::decimal(number, &mut digits);
-    put_text(&digits[..count], out, at)
+    let mut digits = itoa::Buffer::new();
+    put_text(digits.format(number).as_bytes(), out, at)
 }
 
 // Puts a text with a number behind it.

@@ -2,6 +2,8 @@
 ghost use Rattle.std.specs.Prelude.{◌≡◌, ◌+◌, ◌≤◌, ◌<◌, length, take};
 ghost use Rattle.record_turn.specs.Inner.Turns.{moved, RoomMade};
 
+use std::io::{Read, Stdin};
+
 // Where the bytes begin that are not yet taken, and where those end that were read.
 #[derive(Clone, Copy)]
 pub struct Span {
@@ -47,21 +49,20 @@ fn move_front(input: &mut [u8], from: usize, count: usize)
     }
 }
 
-// One read behind the bytes that are there, which stay.
-pub fn read_more(input: &mut [u8], to: usize) -> Got
+// One read of standard input behind the bytes that are there, which stay.
+pub fn read_more(stdin: Stdin, input: &mut [u8], to: usize) -> Got
     requires { to ≤ length input.old }
     ensures { (take to input.new ≡ take to input.old) × (to + result.more ≤ length input.old) }
 {
-    let got = libc::read(libc::STDIN_FILENO, &mut input[to..]);
-    if got < 0 {
-        return Got {
+    let mut source = stdin;
+    match source.read(&mut input[to..]) {
+        Ok(more) => Got {
+            failed: false,
+            more,
+        },
+        Err(_) => Got {
             failed: true,
             more: 0,
-        };
-    }
-    let more = io::count(got, &input[to..]);
-    Got {
-        failed: false,
-        more,
+        },
     }
 }

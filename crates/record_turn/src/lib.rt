@@ -10,6 +10,7 @@ ghost use Rattle.record_turn.specs.Inner.Turns.{goes_on, Stopped, Turned, Reads}
 
 use crate::feeding::{make_room, read_more};
 use record_progress::{MOST_RECORDS, Progress, put_last};
+use std::io::{Print, Stdin, Stdout};
 
 // What a turn of the run came to.
 #[derive(Clone, Copy)]
@@ -24,6 +25,8 @@ pub struct Turn {
 
 // Writes the lines that were put, and reads more where that is needed.
 pub fn after_records(
+    stdin: Stdin,
+    stdout: Stdout,
     progress: Progress,
     to: usize,
     turns: u64,
@@ -34,7 +37,7 @@ pub fn after_records(
     ensures { Turned progress to turns input.old result input.new lines.new }
 {
     let end = progress.lines_end;
-    if !io::write_all(libc::STDOUT_FILENO, &lines[..end]) {
+    if stdout.write_all(&lines[..end]).is_err() {
         return stopped(progress, 1);
     }
     if turns == 0 {
@@ -44,13 +47,20 @@ pub fn after_records(
         return stopped(progress, 3);
     }
     if progress.waiting {
-        return read_on(progress, to, input, lines);
+        return read_on(stdin, stdout, progress, to, input, lines);
     }
     going(progress, progress.from, to)
 }
 
 // Reads more of the input, behind the bytes that are left; at its end, the last lines are written.
-fn read_on(progress: Progress, to: usize, input: &mut [u8], lines: &mut [u8]) -> Turn
+fn read_on(
+    stdin: Stdin,
+    stdout: Stdout,
+    progress: Progress,
+    to: usize,
+    input: &mut [u8],
+    lines: &mut [u8],
+) -> Turn
     requires { Reads progress to input.old lines.old × (progress.waiting ≡ true) × (progress.number < 18446744073709551614) }
     ensures { Turned progress to 1 input.old result input.new lines.new }
 {
@@ -58,7 +68,7 @@ fn read_on(progress: Progress, to: usize, input: &mut [u8], lines: &mut [u8]) ->
     let span = make_room(input, start, to);
     let from = span.from;
     let end = span.to;
-    let got = read_more(input, end);
+    let got = read_more(stdin, input, end);
     if got.failed {
         return stopped(progress, 2);
     }
@@ -68,16 +78,16 @@ fn read_on(progress: Progress, to: usize, input: &mut [u8], lines: &mut [u8]) ->
     }
     let last = going(progress, from, end);
     let rest = last.progress;
-    let status = write_last(rest, &input[..end], lines);
+    let status = write_last(stdout, rest, &input[..end], lines);
     stopped(progress, status)
 }
 
 // Writes the last lines, where the input has ended.
-fn write_last(progress: Progress, input: &[u8], lines: &mut [u8]) -> u32
+fn write_last(stdout: Stdout, progress: Progress, input: &[u8], lines: &mut [u8]) -> u32
     requires { LastRoom progress input.now lines.old }
 {
     let end = put_last(progress, input, lines);
-    if !io::write_all(libc::STDOUT_FILENO, &lines[..end]) {
+    if stdout.write_all(&lines[..end]).is_err() {
         return 1;
     }
     0

@@ -9,8 +9,7 @@ use codeword_assignment::book::Assigned;
 
 // Enters any lengths one by one, from an empty space. The answer is 0, and `answers` has the answer to each length, its codeword or 2^32 for a refusal, and
 // zeros behind them; or 17, where there are fewer places than lengths, and all are zero.
-#[unsafe(no_mangle)]
-pub extern "C" fn torchvalley_enter_lengths(lengths: &[u8], answers: &mut [u64]) -> u32
+pub fn torchvalley_enter_lengths(lengths: &[u8], answers: &mut [u64]) -> u32
     ensures answers_after { (result, answers.new) ≡ entered_all lengths.now (length answers.old) }
     ensures balanced { result ≡ 0 → Balanced lengths.now (map outcome (take (length lengths.now) answers.new)) }
 {
@@ -19,8 +18,7 @@ pub extern "C" fn torchvalley_enter_lengths(lengths: &[u8], answers: &mut [u64])
 
 // Hands out each used entry's codeword, in entry order, the lowest free of its length; 0 for an unused entry, and in places behind them. The answer is 0, or
 // 7, or 8; or 17, where the lent list has fewer places than there are entries. On a refusal the lent list is all zeros.
-#[unsafe(no_mangle)]
-pub extern "C" fn torchvalley_codewords(lengths: &[u8], codewords: &mut [u32]) -> u32
+pub fn torchvalley_codewords(lengths: &[u8], codewords: &mut [u32]) -> u32
     ensures value { result ≡ refusal (assigned lengths.now (length codewords.old)) }
     ensures codewords_after { codewords.new
         ≡ written (assigned lengths.now (length codewords.old)) lengths.now

@@ -8,8 +8,7 @@ ghost use Rattle.figures.specs.Figures.{Figures};
 
 // Final Y and flags of a floor's X list and the values read for it. True where the lists fit each other; otherwise false, and both outputs are all zero.
 // `Figures` is 01's table of figures, those of lengths among them.
-#[unsafe(no_mangle)]
-pub extern "C" fn torchvalley_floor_points(
+pub fn torchvalley_floor_points(
     x: &[u16],
     values: &[u16],
     multiplier: u8,
@@ -25,8 +24,7 @@ pub extern "C" fn torchvalley_floor_points(
 }
 
 // The curve's first places, as many as `out` has. True where the lists fit each other; otherwise false, and `out` is all zero.
-#[unsafe(no_mangle)]
-pub extern "C" fn torchvalley_floor_curve(
+pub fn torchvalley_floor_curve(
     x: &[u16],
     y: &[u8],
     flags: &[u8],

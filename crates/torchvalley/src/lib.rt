@@ -1,5 +1,5 @@
-// THE FRONT DOOR: the public calls, exported for C and Rust. Each is a thin function over the crates below; its contract has no
-// `requires` and settles the whole answer for every input. include/torchvalley.h declares them for C.
+// THE FRONT DOOR: the public calls, which crate torchvalley_c exports for C and Rust. Each is a thin function over the crates below; its contract has no
+// `requires` and settles the whole answer for every input. include/torchvalley.h declares the exports.
 #![tactic(auto)]
 
 pub mod codewords;
@@ -27,8 +27,7 @@ pub struct IdentityAnswer {
 }
 
 // Reads an identification packet, under 01's limits. Any bytes may be handed in.
-#[unsafe(no_mangle)]
-pub extern "C" fn torchvalley_identification(packet: &[u8]) -> IdentityAnswer
+pub fn torchvalley_identification(packet: &[u8]) -> IdentityAnswer
     ensures value { result ≡ answer_of (identification 8 packet.now) }
     ensures variant { (result.refusal ≡ 0) ↔ Sound 8 result.identity }
 {
@@ -45,8 +44,7 @@ pub extern "C" fn torchvalley_identification(packet: &[u8]) -> IdentityAnswer
 }
 
 // Whether an identity is sound: refusals 4 and 14 would not refuse it.
-#[unsafe(no_mangle)]
-pub extern "C" fn torchvalley_identity_sound(identity: Identity) -> bool
+pub fn torchvalley_identity_sound(identity: Identity) -> bool
     ensures { (result ≡ true) ↔ Sound 8 identity }
 {
     identification::sound::is_sound(identity, Limits::standard())

@@ -11,8 +11,7 @@ use identification::Identity;
 // Reads an audio packet, under 01's limits; the tally is brought up to date where it lies. Accepted, the answer's refusal is 0, `curves` has channels times n/2
 // bytes and `words` the codewords of the residues, zeros behind them. Else the answer is the number of the refusal alone, both outputs are all zero and the
 // tally is as it stood.
-#[unsafe(no_mangle)]
-pub extern "C" fn torchvalley_audio(
+pub fn torchvalley_audio(
     tally: &mut Tally,
     identity: Identity,
     counts: &[u32],
@@ -57,8 +56,7 @@ pub extern "C" fn torchvalley_audio(
 }
 
 // The same with the tally by value: the tally after the packet comes back with the answer.
-#[unsafe(no_mangle)]
-pub extern "C" fn torchvalley_audio_by_value(
+pub fn torchvalley_audio_by_value(
     tally: Tally,
     identity: Identity,
     counts: &[u32],

@@ -17,8 +17,7 @@ use reading::widths::wide_u8;
 
 // Reads a setup packet into the lent tables, under 01's limits. 0 where it is accepted: the tables hold its content, and zeros behind it. Else the
 // number of the refusal, and every table is all zero.
-#[unsafe(no_mangle)]
-pub extern "C" fn torchvalley_setup(
+pub fn torchvalley_setup(
     identity: Identity,
     packet: &[u8],
     counts: &mut [u32],
@@ -55,8 +54,7 @@ pub extern "C" fn torchvalley_setup(
 }
 
 // Whether the identity is sound, and the tables are the writing-out of some setup that meets every rule for it.
-#[unsafe(no_mangle)]
-pub extern "C" fn torchvalley_setup_sound(
+pub fn torchvalley_setup_sound(
     identity: Identity,
     counts: &[u32],
     books: &[u32],
@@ -138,8 +136,7 @@ fn codeword_answer(read: Field) -> CodewordAnswer
 }
 
 // Reads one codeword of a book of the tables, at a bit of a byte of the packet.
-#[unsafe(no_mangle)]
-pub extern "C" fn torchvalley_codeword(
+pub fn torchvalley_codeword(
     identity: Identity,
     counts: &[u32],
     books: &[u32],

@@ -3,11 +3,14 @@
 
 pub mod running;
 
+use std::io::{Stdin, Stdout};
+
 // Takes all records of standard input and writes their lines to standard output. It answers 0 where the input was read to its end (also one that ends inside a
 // record), 1 where standard output failed, 2 where standard input failed, 3 where there are more records than can be counted. No contract can say what is read
 // or written: what stands for it are the contracts of `record_progress` and `record_taking`, by which the lines of whatever was read are those of `report`.
-#[unsafe(no_mangle)]
-pub extern "C" fn voicelog(
+pub fn voicelog(
+    stdin: Stdin,
+    stdout: Stdout,
     counts: &mut [u32; 5],
     books: &mut [u32; 2816],
     lengths: &mut [u8; 16384],
@@ -24,6 +27,8 @@ pub extern "C" fn voicelog(
     lines: &mut [u8; 65536],
 ) -> u32 {
     running::run(
+        stdin,
+        stdout,
         counts,
         books,
         lengths,

@@ -6,9 +6,12 @@ ghost use Rattle.voicelog.specs.Inner.Buffers.{Buffers};
 use record_progress::start;
 use record_taking::take_records;
 use record_turn::after_records;
+use std::io::{Stdin, Stdout};
 
 // Takes all records of standard input.
 pub fn run(
+    stdin: Stdin,
+    stdout: Stdout,
     counts: &mut [u32],
     books: &mut [u32],
     lengths: &mut [u8],
@@ -49,7 +52,7 @@ pub fn run(
             words,
             lines,
         );
-        let turn = after_records(at, to, turns, input, lines);
+        let turn = after_records(stdin, stdout, at, to, turns, input, lines);
         if turn.done {
             return turn.status;
         }
