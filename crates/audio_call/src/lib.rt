@@ -3,7 +3,7 @@
 
 ghost use Rattle.std.specs.Prelude.{◌≤◌, ◌≡◌};
 ghost use Rattle.limits.specs.Standard.{standard};
-ghost use Rattle.setup.specs.Handed.{handed};
+ghost use Rattle.setup.specs.Handed.{shared};
 ghost use Rattle.setup.specs.Inner.Decode.{decode_setup};
 ghost use Rattle.setup.specs.Inner.Parts.{Small};
 ghost use Rattle.audio.specs.Call.{audio_by, audio_call, room_of, left_of};
@@ -38,7 +38,7 @@ pub fn read_packet(
     requires { Ready identity (lent_tables counts books lengths codewords multiplicands floors residues plans mappings modes)
         × ZeroFrom curves_end curves.old × ZeroFrom words_end words.old }
     ensures { left_of result.answer result.tally curves.new words.new
-        ≡ audio_by (decode_setup (handed counts books lengths codewords multiplicands floors residues plans mappings modes)) identity tally
+        ≡ audio_by (decode_setup (shared counts books lengths codewords multiplicands floors residues plans mappings modes)) identity tally
         packet.now (room_of curves.old words.old) }
 {
     let judged = audio_judge::judge(
@@ -84,7 +84,7 @@ pub fn read_audio(
 ) -> AudioLeft
     requires { Small limits × (limits.book_entries ≤ 65536) }
     ensures { left_of result.answer result.tally curves.new words.new
-        ≡ audio_call limits identity (handed counts books lengths codewords multiplicands floors residues plans mappings modes) tally
+        ≡ audio_call limits identity (shared counts books lengths codewords multiplicands floors residues plans mappings modes) tally
         packet.now (room_of curves.old words.old) }
 {
     let sound = setup_codeword::are_sound(
@@ -146,7 +146,7 @@ pub fn audio_by_value(
     words: &mut [u32],
 ) -> AudioLeft
     ensures { left_of result.answer result.tally curves.new words.new
-        ≡ audio_call standard identity (handed counts books lengths codewords multiplicands floors residues plans mappings modes) tally
+        ≡ audio_call standard identity (shared counts books lengths codewords multiplicands floors residues plans mappings modes) tally
         packet.now (room_of curves.old words.old) }
 {
     read_audio(

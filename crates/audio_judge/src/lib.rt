@@ -4,7 +4,7 @@
 ghost use Rattle.std.specs.Prelude.{ℕ, ◌+◌, ◌*◌, ◌<◌, ◌≡◌, get_or};
 ghost use Rattle.bits.specs.Inner.Cursors.{position};
 ghost use Rattle.mode.specs.Layout.{mode_width};
-ghost use Rattle.setup.specs.Handed.{handed};
+ghost use Rattle.setup.specs.Handed.{shared};
 ghost use Rattle.setup.specs.Inner.Decode.{decode_setup};
 ghost use Rattle.audio.specs.Tally.{counted};
 ghost use Rattle.audio.specs.Call.{accepted, room_of};
@@ -102,8 +102,8 @@ fn judge_body(
         × HeadIs identity
         (decode_setup (lent_tables counts books lengths codewords multiplicands floors residues plans mappings modes))
         packet.now head (position from) }
-    ensures { JudgedIs identity.channels (decode_setup (handed counts books lengths codewords multiplicands floors residues plans mappings modes))
-        (after_head identity (decode_setup (handed counts books lengths codewords multiplicands floors residues plans mappings modes)) tally
+    ensures { JudgedIs identity.channels (decode_setup (shared counts books lengths codewords multiplicands floors residues plans mappings modes))
+        (after_head identity (decode_setup (shared counts books lengths codewords multiplicands floors residues plans mappings modes)) tally
         packet.now head (position from) (room_of curves.old words.old))
         result curves.old curves.new words.old words.new }
 {
@@ -157,9 +157,9 @@ pub fn judge(
     words: &mut [u32],
 ) -> Judged
     requires { Ready identity (lent_tables counts books lengths codewords multiplicands floors residues plans mappings modes) }
-    ensures { JudgedIs identity.channels (decode_setup (handed counts books lengths codewords multiplicands floors residues plans mappings modes))
+    ensures { JudgedIs identity.channels (decode_setup (shared counts books lengths codewords multiplicands floors residues plans mappings modes))
         (accepted identity tally (room_of curves.old words.old) packet.now
-        (decode_setup (handed counts books lengths codewords multiplicands floors residues plans mappings modes)))
+        (decode_setup (shared counts books lengths codewords multiplicands floors residues plans mappings modes)))
         result curves.old curves.new words.old words.new }
 {
     if !audio_tally::is_sound(identity, tally) {

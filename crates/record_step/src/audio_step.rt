@@ -1,6 +1,6 @@
 // AN AUDIO RECORD: a good packet brings the tally up to date; without an identity and tables it is 18 (01, the tool).
 ghost use Rattle.std.specs.Prelude.{◌≡◌, ◌≤◌};
-ghost use Rattle.setup.specs.Handed.{handed};
+ghost use Rattle.setup.specs.Handed.{shared};
 ghost use Rattle.audio_judge.specs.Inner.Ready.{lent_tables};
 ghost use Rattle.record_step.specs.Inner.Kept.{KeptTables, KeptOutputs, packet_read, packet_answered, AudioStep};
 
@@ -77,7 +77,7 @@ pub fn after_audio(
 ) -> Stepped
     requires { KeptTables kept (lent_tables counts books lengths codewords multiplicands floors residues plans mappings modes)
         × KeptOutputs kept curves.old words.old }
-    ensures { AudioStep kept body.now (handed counts books lengths codewords multiplicands floors residues plans mappings modes)
+    ensures { AudioStep kept body.now (shared counts books lengths codewords multiplicands floors residues plans mappings modes)
         result curves.new words.new }
 {
     if !kept.has_tables {

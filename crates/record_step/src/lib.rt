@@ -8,7 +8,7 @@ pub mod unchanged; // a record that changes nothing
 
 ghost use Rattle.std.specs.Prelude.{◌≡◌};
 ghost use Rattle.setup.specs.Handed.{handed, left_in};
-ghost use Rattle.audio_judge.specs.Inner.Ready.{lent_tables};
+ghost use Rattle.audio_judge.specs.Inner.Ready.{writable_tables};
 ghost use Rattle.record_step.specs.Step.{step as record_step};
 ghost use Rattle.record_step.specs.Inner.Kept.{stream_of, KeptTables, KeptOutputs, StartsWith};
 
@@ -82,7 +82,7 @@ pub fn step(
     curves: &mut [u8],
     words: &mut [u32],
 ) -> Stepped
-    requires { KeptTables kept (lent_tables counts books lengths codewords multiplicands floors residues plans mappings modes)
+    requires { KeptTables kept (writable_tables counts books lengths codewords multiplicands floors residues plans mappings modes)
         × KeptOutputs kept curves.old words.old }
     ensures answer_value { (stream_of result.kept (left_in counts books lengths codewords multiplicands floors residues plans mappings modes), result.answer)
         ≡ record_step (stream_of kept (handed counts books lengths codewords multiplicands floors residues plans mappings modes)) kind body.now }

@@ -2,7 +2,7 @@
 // (01, the tool).
 ghost use Rattle.std.specs.Prelude.{◌≡◌};
 ghost use Rattle.setup.specs.Handed.{handed, left_in};
-ghost use Rattle.audio_judge.specs.Inner.Ready.{lent_tables};
+ghost use Rattle.audio_judge.specs.Inner.Ready.{writable_tables};
 ghost use Rattle.record_step.specs.Inner.Kept.{KeptTables, setup_accepted, setup_refused, setup_numbered, SetupStep};
 
 use crate::unchanged::refused;
@@ -83,7 +83,7 @@ pub fn after_setup(
     mappings: &mut [u8],
     modes: &mut [u8],
 ) -> Stepped
-    requires { KeptTables kept (lent_tables counts books lengths codewords multiplicands floors residues plans mappings modes) }
+    requires { KeptTables kept (writable_tables counts books lengths codewords multiplicands floors residues plans mappings modes) }
     ensures { SetupStep kept body.now (handed counts books lengths codewords multiplicands floors residues plans mappings modes)
         result (left_in counts books lengths codewords multiplicands floors residues plans mappings modes) }
 {

@@ -3,7 +3,7 @@
 
 ghost use Rattle.std.specs.Prelude.{◌≡◌, drop};
 ghost use Rattle.setup.specs.Handed.{handed, left_in};
-ghost use Rattle.audio_judge.specs.Inner.Ready.{lent_tables};
+ghost use Rattle.audio_judge.specs.Inner.Ready.{writable_tables};
 ghost use Rattle.records.specs.declared.Front.TheVariants.{Whole};
 ghost use Rattle.records.specs.Inner.Fronts.{front};
 ghost use Rattle.record_step.specs.Inner.Kept.{KeptTables, KeptOutputs};
@@ -30,7 +30,7 @@ pub fn take_records(
     words: &mut [u32],
     lines: &mut [u8],
 ) -> Progress
-    requires kept_tables { KeptTables progress.kept (lent_tables counts books lengths codewords multiplicands floors residues plans mappings modes)
+    requires kept_tables { KeptTables progress.kept (writable_tables counts books lengths codewords multiplicands floors residues plans mappings modes)
         × KeptOutputs progress.kept curves.old words.old }
     requires room { Room progress input.now lines.old }
     ensures taken { Taken progress (handed counts books lengths codewords multiplicands floors residues plans mappings modes)
@@ -84,7 +84,7 @@ fn take_record(
     words: &mut [u32],
     lines: &mut [u8],
 ) -> Progress
-    requires kept_tables { KeptTables progress.kept (lent_tables counts books lengths codewords multiplicands floors residues plans mappings modes)
+    requires kept_tables { KeptTables progress.kept (writable_tables counts books lengths codewords multiplicands floors residues plans mappings modes)
         × KeptOutputs progress.kept curves.old words.old }
     requires room { Room progress input.now lines.old }
     ensures taken { Taken progress (handed counts books lengths codewords multiplicands floors residues plans mappings modes)
@@ -143,7 +143,7 @@ fn take_whole(
     words: &mut [u32],
     lines: &mut [u8],
 ) -> Progress
-    requires kept_tables { KeptTables progress.kept (lent_tables counts books lengths codewords multiplicands floors residues plans mappings modes)
+    requires kept_tables { KeptTables progress.kept (writable_tables counts books lengths codewords multiplicands floors residues plans mappings modes)
         × KeptOutputs progress.kept curves.old words.old }
     requires room { Room progress input.now lines.old × (progress.skip ≡ 0) × (Whole kind length ≡ front (drop progress.from input.now)) }
     ensures taken { Taken progress (handed counts books lengths codewords multiplicands floors residues plans mappings modes)

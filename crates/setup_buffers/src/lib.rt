@@ -3,7 +3,7 @@
 
 ghost use Rattle.std.specs.Prelude.{◌≡◌};
 ghost use Rattle.setup.specs.Layout.{has_room, cleared};
-ghost use Rattle.setup.specs.Handed.{handed, left_in};
+ghost use Rattle.setup.specs.Handed.{handed, shared, left_in};
 ghost use Rattle.setup.specs.Call.{left};
 ghost use Rattle.setup_buffers.specs.Inner.Blank.{LeftBlank};
 ghost use Rattle.setup_buffers.specs.Inner.Settled.{settled};
@@ -27,7 +27,7 @@ pub fn have_room(
     mappings: &[u8],
     modes: &[u8],
 ) -> bool
-    ensures { result ≡ has_room limits (handed counts books lengths codewords multiplicands floors residues plans mappings modes) }
+    ensures { result ≡ has_room limits (shared counts books lengths codewords multiplicands floors residues plans mappings modes) }
 {
     if counts.len() < 5 {
         return false;

@@ -5,7 +5,7 @@
 ghost use Rattle.std.specs.Prelude.{◌≡◌, ltb, get_or};
 ghost use Rattle.reading.specs.Outcome.{refusal, bad};
 ghost use Rattle.bits.specs.Inner.Cursors.{position, outcome};
-ghost use Rattle.setup.specs.Handed.{handed};
+ghost use Rattle.setup.specs.Handed.{shared};
 ghost use Rattle.setup.specs.Inner.Parts.{Small};
 ghost use Rattle.setup.specs.SoundTest.{sound_test, Tested};
 ghost use Rattle.setup_codeword.specs.Call.{codeword_call};
@@ -47,8 +47,8 @@ pub fn are_sound(
     modes: &[u8],
 ) -> bool
     requires { Small limits }
-    ensures value { result ≡ sound_test limits identity (handed counts books lengths codewords multiplicands floors residues plans mappings modes) }
-    ensures tested { Tested limits identity (handed counts books lengths codewords multiplicands floors residues plans mappings modes) }
+    ensures value { result ≡ sound_test limits identity (shared counts books lengths codewords multiplicands floors residues plans mappings modes) }
+    ensures tested { Tested limits identity (shared counts books lengths codewords multiplicands floors residues plans mappings modes) }
 {
     if !identification::sound::is_sound(identity, limits) {
         return false;
@@ -89,7 +89,7 @@ pub fn read_codeword(
 ) -> Field
     requires { Small limits }
     ensures result_value { outcome result
-        ≡ codeword_call limits identity (handed counts books lengths codewords multiplicands floors residues plans mappings modes)
+        ≡ codeword_call limits identity (shared counts books lengths codewords multiplicands floors residues plans mappings modes)
         book packet.now (position from) }
     ensures demand3 { Demand3 limits }
 {

@@ -1,6 +1,6 @@
 // All ten tables (01, "What the reader takes and gives": a later call accepts tables exactly when they are the writing-out of some content that meets every rule).
 ghost use Rattle.std.specs.Prelude.{true, ◌↔◌, ◌≡◌, ◌≤◌};
-ghost use Rattle.setup.specs.Handed.{handed};
+ghost use Rattle.setup.specs.Handed.{shared};
 ghost use Rattle.setup.specs.Inner.Parts.{Small};
 ghost use Rattle.setup.specs.Sound.{Sound, OneContent};
 
@@ -23,8 +23,8 @@ pub fn are_sound(
     modes: &[u8],
 ) -> bool
     requires { Small limits × (channels ≤ 255) }
-    ensures variant { (result ≡ true) ↔ Sound limits channels (handed counts books lengths codewords multiplicands floors residues plans mappings modes) }
-    ensures one_content { OneContent (handed counts books lengths codewords multiplicands floors residues plans mappings modes) }
+    ensures variant { (result ≡ true) ↔ Sound limits channels (shared counts books lengths codewords multiplicands floors residues plans mappings modes) }
+    ensures one_content { OneContent (shared counts books lengths codewords multiplicands floors residues plans mappings modes) }
 {
     if !setup_buffers::have_room(
         limits,

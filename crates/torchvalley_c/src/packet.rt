@@ -1,7 +1,7 @@
 // The audio packet, exported.
 ghost use Rattle.std.specs.Prelude.{◌≡◌};
 ghost use Rattle.limits.specs.Standard.{standard};
-ghost use Rattle.setup.specs.Handed.{handed};
+ghost use Rattle.setup.specs.Handed.{shared};
 ghost use Rattle.audio.specs.Call.{audio_call, room_of, left_of};
 ghost use Rattle.audio.specs.Claims.{AudioClaims};
 
@@ -30,9 +30,9 @@ pub extern "C" fn torchvalley_audio(
     words: &mut [u32],
 ) -> AudioAnswer
     ensures words_after { left_of result tally.new curves.new words.new
-        ≡ audio_call standard identity (handed counts books lengths codewords multiplicands floors residues plans mappings modes)
+        ≡ audio_call standard identity (shared counts books lengths codewords multiplicands floors residues plans mappings modes)
         tally.old packet.now (room_of curves.old words.old) }
-    ensures audio_claims { AudioClaims standard identity (handed counts books lengths codewords multiplicands floors residues plans mappings modes)
+    ensures audio_claims { AudioClaims standard identity (shared counts books lengths codewords multiplicands floors residues plans mappings modes)
         tally.old packet.now (room_of curves.old words.old) }
 {
     torchvalley::packet::torchvalley_audio(
@@ -74,9 +74,9 @@ pub extern "C" fn torchvalley_audio_by_value(
     words: &mut [u32],
 ) -> AudioLeft
     ensures words_after { left_of result.answer result.tally curves.new words.new
-        ≡ audio_call standard identity (handed counts books lengths codewords multiplicands floors residues plans mappings modes)
+        ≡ audio_call standard identity (shared counts books lengths codewords multiplicands floors residues plans mappings modes)
         tally packet.now (room_of curves.old words.old) }
-    ensures audio_claims { AudioClaims standard identity (handed counts books lengths codewords multiplicands floors residues plans mappings modes)
+    ensures audio_claims { AudioClaims standard identity (shared counts books lengths codewords multiplicands floors residues plans mappings modes)
         tally packet.now (room_of curves.old words.old) }
 {
     torchvalley::packet::torchvalley_audio_by_value(

@@ -1,6 +1,6 @@
 // The setup packet and what its tables give, exported.
 ghost use Rattle.std.specs.Prelude.{◌≡◌, ◌+◌, ◌*◌, ◌/◌};
-ghost use Rattle.setup.specs.Handed.{handed, left_in};
+ghost use Rattle.setup.specs.Handed.{handed, shared, left_in};
 ghost use Rattle.setup.specs.SoundTest.{sound_test, Tested};
 ghost use Rattle.setup.specs.Call.{left, setup_call};
 ghost use Rattle.setup.specs.Accepted.{AcceptedSound};
@@ -65,8 +65,8 @@ pub extern "C" fn torchvalley_setup_sound(
     mappings: &[u8],
     modes: &[u8],
 ) -> bool
-    ensures value { result ≡ sound_test standard identity (handed counts books lengths codewords multiplicands floors residues plans mappings modes) }
-    ensures tested { Tested standard identity (handed counts books lengths codewords multiplicands floors residues plans mappings modes) }
+    ensures value { result ≡ sound_test standard identity (shared counts books lengths codewords multiplicands floors residues plans mappings modes) }
+    ensures tested { Tested standard identity (shared counts books lengths codewords multiplicands floors residues plans mappings modes) }
 {
     torchvalley::tables::torchvalley_setup_sound(
         identity,
@@ -103,7 +103,7 @@ pub extern "C" fn torchvalley_codeword(
     bit: u8,
 ) -> CodewordAnswer
     ensures value { result ≡ codeword_answer
-        (codeword_call standard identity (handed counts books lengths codewords multiplicands floors residues plans mappings modes)
+        (codeword_call standard identity (shared counts books lengths codewords multiplicands floors residues plans mappings modes)
         book packet.now (8 * byte + bit)) }
     ensures demand3 { Demand3 standard }
 {

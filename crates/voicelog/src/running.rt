@@ -1,6 +1,6 @@
 // The run: records are taken, their lines are written, more is read, until the input ends. Its status is 0 where the input was read to its end,
 // 1 where standard output failed, 2 where standard input failed, 3 where there are more records than can be counted.
-ghost use Rattle.audio_judge.specs.Inner.Ready.{lent_tables};
+ghost use Rattle.audio_judge.specs.Inner.Ready.{writable_tables};
 ghost use Rattle.voicelog.specs.Inner.Buffers.{Buffers};
 
 use record_progress::start;
@@ -27,7 +27,7 @@ pub fn run(
     input: &mut [u8],
     lines: &mut [u8],
 ) -> u32
-    requires { Buffers (lent_tables counts books lengths codewords multiplicands floors residues plans mappings modes)
+    requires { Buffers (writable_tables counts books lengths codewords multiplicands floors residues plans mappings modes)
         curves.old words.old input.old lines.old }
 {
     let mut at = start();

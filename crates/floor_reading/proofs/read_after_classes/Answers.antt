@@ -1,4 +1,5 @@
 -- `floor_reading::read_after_classes` meets its contract. Assumes nothing.
+use mathlib.Core.List.{[]}
 use native.Mathlib.Omega.{arith}
 use Rattle.floor_reading.proofs.RowLaws.{after_few, after_laws, after_refused, after_written}
 use Rattle.floor_reading.proofs.read_after_classes.Goals as goal

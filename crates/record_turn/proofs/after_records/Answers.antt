@@ -3,7 +3,7 @@ use native.Mathlib.Omega.{arith}
 use mathlib.Core.Path.{sym}
 use lib.Seq.{length-take-le}
 use Rattle.record_turn.proofs.TurnLaws.{reads_order, stopped_turned, going_turned, turned_more}
-use mathlib.Core.List.{append-nil}
+use mathlib.Core.List.{append-nil, []}
 use Rattle.record_turn.proofs.after_records.Goals as goal
 
 pub slice_bounds-write_all-end-2 : goal.slice_bounds-write_all-end-2
