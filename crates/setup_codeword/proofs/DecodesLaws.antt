@@ -37,7 +37,7 @@ use Rattle.setup_codeword.proofs.JudgedLaws.{accepted_takes, full_not_lone}
 book_accepted : (limits : Limits) (before : Before) (bs : List Book) (b : ℕ) → ValidBooks limits before bs → b < length bs → verdict (get_or (map (λ x. x.lengths) bs) b []) ≡ Accepted
 unfolding ValidBooks
 book_accepted limits before [] b v h = absurd (omega arith)
-book_accepted limits before (x ∷ bs) zero v h = B.lengths-accepted x v.0.rule7 v.0.rule8
+book_accepted limits before (x ∷ bs) zero v h = B.lengths_accepted x v.0.rule7 v.0.rule8
 book_accepted limits before (x ∷ bs) (suc b) v h = book_accepted limits (and_this before x) bs b v.1 (omega arith)
 
 pub lengths_accepted : (limits : Limits) (c : Setup) (b : ℕ) → ValidBooks limits (record { entries = 0; values = 0 }) c.books → b < length c.books → verdict (lengths_of c b) ≡ Accepted

@@ -111,7 +111,7 @@ module _ {limits : Limits} {channels : ℕ} {t : Tables} (x : Sound limits chann
     mapping_row_lem =
         let few = facts.valid.mapping_count.high in
         let room = facts.room.mappings in
-        Row.mappings-stored x.content.mappings t.mappings facts.written.mappings (omega arith) n h no_mapping
+        Row.mappings_stored x.content.mappings t.mappings facts.written.mappings (omega arith) n h no_mapping
 
     mapping_content : mapping_in t.mappings n ≡ own_mapping
     unfolding decode_setup
@@ -151,18 +151,18 @@ module _ {limits : Limits} {channels : ℕ} {t : Tables} (x : Sound limits chann
         let few = facts.valid.mapping_count.high in
         record {
           few = omega arith;
-          steps = Row.coupling-steps-is mapping_row_lem;
+          steps = Row.coupling_steps_is mapping_row_lem;
           steps_few = v.couplings;
-          magnitude = λ j g. Row.magnitude-is mapping_row_lem j g v.couplings no_coupling;
-          angle = λ j g. Row.angle-is mapping_row_lem j g v.couplings no_coupling;
+          magnitude = λ j g. Row.magnitude_is mapping_row_lem j g v.couplings no_coupling;
+          angle = λ j g. Row.angle_is mapping_row_lem j g v.couplings no_coupling;
           magnitude_set_up = λ j g. ltb-true _ _ (coupling j g).magnitude;
           angle_set_up = λ j g. ltb-true _ _ (coupling j g).angle;
-          submaps = Row.submaps-is mapping_row_lem;
+          submaps = Row.submaps_is mapping_row_lem;
           submaps_few = v.submaps.high;
-          channel_submap = Row.channel-submap-is mapping_row_lem;
+          channel_submap = Row.channel_submap_is mapping_row_lem;
           submap_set_up = channel_submap;
-          floor = λ j g. Row.submap-floor-is mapping_row_lem j g v.submaps.high no_submap;
-          residue = λ j g. Row.submap-residue-is mapping_row_lem j g v.submaps.high no_submap;
+          floor = λ j g. Row.submap_floor_is mapping_row_lem j g v.submaps.high no_submap;
+          residue = λ j g. Row.submap_residue_is mapping_row_lem j g v.submaps.high no_submap;
         }
 
     pub mapping_sound : MappingSound channels t x.content n (get_or x.content.mappings n no_mapping)

@@ -18,7 +18,7 @@ narrow-requires-in-Next c = search after_laws
 
 pub overflow_add-values : goal.overflow_add-values
 overflow_add-values c =
-    omega (arith, after_few _ c.args.partition-count 0 _ _ _ _ [] 0 c.value_count-values.ensures c.read_ends-ends.ensures c.in-Next.is)
+    omega (arith, after_few _ c.args.partition_count 0 _ _ _ _ [] 0 c.value_count-values.ensures c.read_ends-ends.ensures c.in-Next.is)
 
 pub short-requires-in-Next-2 : goal.short-requires-in-Next-2
 short-requires-in-Next-2 c = search after_laws
