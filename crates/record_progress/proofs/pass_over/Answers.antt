@@ -20,9 +20,6 @@ pub overflow_add-result : goal.overflow_add-result
 overflow_add-result c =
     let h = c.if-present-progress.false in let i = c.requires.0.inside in let l = c.well_formed.1.0.0 in omega (arith, h, i, l)
 
-pub shape_of-lines : goal.shape_of-lines
-shape_of-lines c = c.lines-1.given
-
 pub returns : goal.returns
 returns c =
     let h = c.requires.1 in record { taken = λ t. all_taken c.requires.0 c.requires.1 c.if-present-progress.false t c.put_line-end.ensures.out_after c.put_line-end.ensures.value.0; kept_value = (refl, all_within c.requires.0 c.requires.1 c.if-present-progress.false c.put_line-end.ensures.value.1, λ f. omega (arith, h)) }

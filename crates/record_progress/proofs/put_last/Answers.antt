@@ -6,26 +6,17 @@ use Rattle.record_progress.proofs.put_last.Goals as goal
 pub put_torn_end-requires : goal.put_torn_end-requires
 put_torn_end-requires c = let n = c.requires.number in (c.requires.room, omega (arith, n))
 
-pub shape_of-lines-then-progress-gt0 : goal.shape_of-lines-then-progress-gt0
-shape_of-lines-then-progress-gt0 c = c.lines-1.given
-
 pub returns-then-progress-gt0 : goal.returns-then-progress-gt0
 returns-then-progress-gt0 c = last_skipping c.requires c.if-progress-gt0.true c.put_torn_end.ensures
 
 pub put_torn_end-requires-then-progress-input : goal.put_torn_end-requires-then-progress-input
 put_torn_end-requires-then-progress-input c = let n = c.requires.number in (c.requires.room, omega (arith, n))
 
-pub shape_of-lines-then-progress-input : goal.shape_of-lines-then-progress-input
-shape_of-lines-then-progress-input c = c.lines-then-progress-input-1.given
-
 pub returns-then-progress-input : goal.returns-then-progress-input
 returns-then-progress-input c = last_torn c.requires c.if-progress-gt0.false c.if-progress-input.true c.put_torn_end-then-progress-input.ensures
 
 pub put_end-requires : goal.put_end-requires
 put_end-requires c = let r = c.requires.room in omega (arith, r)
-
-pub shape_of-lines : goal.shape_of-lines
-shape_of-lines c = c.lines-2-1.given
 
 pub returns : goal.returns
 returns c =

@@ -10,12 +10,9 @@ put_torn-end-requires c = let p = c.requires.0 in omega (arith, p)
 pub put_end-requires : goal.put_end-requires
 put_end-requires c =
     let a = c.put_torn-end.ensures.value.1 in
-    let b = c.lines-1.given in
+    let b = c.put_torn-end.auto.lines in
     let p = c.requires.0 in
     omega (arith, a, b, p)
-
-pub shape_of-lines : goal.shape_of-lines
-shape_of-lines c = c.lines-2-1.given ∙ c.lines-1.given
 
 pub returns : goal.returns
 returns c =

@@ -21,59 +21,7 @@ take_record-at-requires c = record { kept_tables = c.loop-at.invariant.kept; roo
 
 pub may_go_on-requires : goal.may_go_on-requires
 may_go_on-requires c =
-    let s = c.take_record-at.ensures.kept_tables_2.1.0.ends in let e = c.lines-1.given in omega (arith, s, e)
-
-pub shape_of-counts-then-not-may_go_on : goal.shape_of-counts-then-not-may_go_on
-shape_of-counts-then-not-may_go_on c =
-    c.counts-1.given ∙ c.loop-at.invariant.same.counts
-
-pub shape_of-books-then-not-may_go_on : goal.shape_of-books-then-not-may_go_on
-shape_of-books-then-not-may_go_on c =
-    c.books-1.given ∙ c.loop-at.invariant.same.books
-
-pub shape_of-lengths-then-not-may_go_on : goal.shape_of-lengths-then-not-may_go_on
-shape_of-lengths-then-not-may_go_on c =
-    c.lengths-1.given ∙ c.loop-at.invariant.same.lengths
-
-pub shape_of-codewords-then-not-may_go_on : goal.shape_of-codewords-then-not-may_go_on
-shape_of-codewords-then-not-may_go_on c =
-    c.codewords-1.given ∙ c.loop-at.invariant.same.codewords
-
-pub shape_of-multiplicands-then-not-may_go_on : goal.shape_of-multiplicands-then-not-may_go_on
-shape_of-multiplicands-then-not-may_go_on c =
-    c.multiplicands-1.given ∙ c.loop-at.invariant.same.multiplicands
-
-pub shape_of-floors-then-not-may_go_on : goal.shape_of-floors-then-not-may_go_on
-shape_of-floors-then-not-may_go_on c =
-    c.floors-1.given ∙ c.loop-at.invariant.same.floors
-
-pub shape_of-residues-then-not-may_go_on : goal.shape_of-residues-then-not-may_go_on
-shape_of-residues-then-not-may_go_on c =
-    c.residues-1.given ∙ c.loop-at.invariant.same.residues
-
-pub shape_of-plans-then-not-may_go_on : goal.shape_of-plans-then-not-may_go_on
-shape_of-plans-then-not-may_go_on c =
-    c.plans-1.given ∙ c.loop-at.invariant.same.plans
-
-pub shape_of-mappings-then-not-may_go_on : goal.shape_of-mappings-then-not-may_go_on
-shape_of-mappings-then-not-may_go_on c =
-    c.mappings-1.given ∙ c.loop-at.invariant.same.mappings
-
-pub shape_of-modes-then-not-may_go_on : goal.shape_of-modes-then-not-may_go_on
-shape_of-modes-then-not-may_go_on c =
-    c.modes-1.given ∙ c.loop-at.invariant.same.modes
-
-pub shape_of-curves-then-not-may_go_on : goal.shape_of-curves-then-not-may_go_on
-shape_of-curves-then-not-may_go_on c =
-    c.curves-1.given ∙ c.loop-at.invariant.same.of_curves_is
-
-pub shape_of-words-then-not-may_go_on : goal.shape_of-words-then-not-may_go_on
-shape_of-words-then-not-may_go_on c =
-    c.words-1.given ∙ c.loop-at.invariant.same.of_words
-
-pub shape_of-lines-then-not-may_go_on : goal.shape_of-lines-then-not-may_go_on
-shape_of-lines-then-not-may_go_on c =
-    c.lines-1.given ∙ taken_length c.loop-at.invariant.taken
+    let s = c.take_record-at.ensures.kept_tables_2.1.0.ends in let e = c.take_record-at.auto.lines in omega (arith, s, e)
 
 pub returns-then-not-may_go_on : goal.returns-then-not-may_go_on
 returns-then-not-may_go_on c = (
@@ -96,17 +44,17 @@ loop-at-preserved c =
       room = turn_room c.take_record-at.ensures.kept_tables_2.1.0 (c.may_go_on.ensures (not-false _ (ap not c.if-not-may_go_on.false)));
       same =
           record {
-            counts = c.counts-1.given ∙ c.loop-at.invariant.same.counts;
-            books = c.books-1.given ∙ c.loop-at.invariant.same.books;
-            lengths = c.lengths-1.given ∙ c.loop-at.invariant.same.lengths;
-            codewords = c.codewords-1.given ∙ c.loop-at.invariant.same.codewords;
-            multiplicands = c.multiplicands-1.given ∙ c.loop-at.invariant.same.multiplicands;
-            floors = c.floors-1.given ∙ c.loop-at.invariant.same.floors;
-            residues = c.residues-1.given ∙ c.loop-at.invariant.same.residues;
-            plans = c.plans-1.given ∙ c.loop-at.invariant.same.plans;
-            mappings = c.mappings-1.given ∙ c.loop-at.invariant.same.mappings;
-            modes = c.modes-1.given ∙ c.loop-at.invariant.same.modes;
-            of_curves_is = c.curves-1.given ∙ c.loop-at.invariant.same.of_curves_is;
-            of_words = c.words-1.given ∙ c.loop-at.invariant.same.of_words;
+            counts = c.take_record-at.auto.counts ∙ c.loop-at.invariant.same.counts;
+            books = c.take_record-at.auto.books ∙ c.loop-at.invariant.same.books;
+            lengths = c.take_record-at.auto.lengths ∙ c.loop-at.invariant.same.lengths;
+            codewords = c.take_record-at.auto.codewords ∙ c.loop-at.invariant.same.codewords;
+            multiplicands = c.take_record-at.auto.multiplicands ∙ c.loop-at.invariant.same.multiplicands;
+            floors = c.take_record-at.auto.floors ∙ c.loop-at.invariant.same.floors;
+            residues = c.take_record-at.auto.residues ∙ c.loop-at.invariant.same.residues;
+            plans = c.take_record-at.auto.plans ∙ c.loop-at.invariant.same.plans;
+            mappings = c.take_record-at.auto.mappings ∙ c.loop-at.invariant.same.mappings;
+            modes = c.take_record-at.auto.modes ∙ c.loop-at.invariant.same.modes;
+            of_curves_is = c.take_record-at.auto.curves ∙ c.loop-at.invariant.same.of_curves_is;
+            of_words = c.take_record-at.auto.words ∙ c.loop-at.invariant.same.of_words;
           };
     }

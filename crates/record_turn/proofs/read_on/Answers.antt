@@ -10,20 +10,14 @@ use Rattle.record_turn.proofs.read_on.Goals as goal
 pub make_room-span-requires : goal.make_room-span-requires
 make_room-span-requires c = reads_room c.requires.0 c.requires.1
 
-pub shape_of-input-then-got : goal.shape_of-input-then-got
-shape_of-input-then-got c = c.input-2-1.given ∙ c.input-1.given
-
 pub returns-then-got : goal.returns-then-got
 returns-then-got c = stopped_turned c.stopped.ensures
-
-pub shape_of-input-then-more-gt0 : goal.shape_of-input-then-more-gt0
-shape_of-input-then-more-gt0 c = c.input-2-1.given ∙ c.input-1.given
 
 pub returns-then-more-gt0 : goal.returns-then-more-gt0
 returns-then-more-gt0 c =
     let o = c.make_room-span.ensures.order in
     let m = c.read_more-got.ensures.1 in
-    let i = c.input-2-1.given in
+    let i = c.read_more-got.auto.input in
     let span = c.make_room-span.result in
     let h = c.make_room-span.ensures.room in
     let before-it = c.make_room-span.new.input in
@@ -35,17 +29,11 @@ returns-then-more-gt0 c =
 
 pub slice_bounds-write_last-end-2 : goal.slice_bounds-write_last-end-2
 slice_bounds-write_last-end-2 c =
-    sym (length-take-le c.make_room-span.result.to c.read_more-got.new.input (still_lt c.make_room-span.ensures.room c.input-2-1.given))
+    sym (length-take-le c.make_room-span.result.to c.read_more-got.new.input (still_lt c.make_room-span.ensures.room c.read_more-got.auto.input))
 
 pub write_last-status-requires : goal.write_last-status-requires
 write_last-status-requires c =
-    reads_last c.requires.0 c.read_more-got.new.input c.requires.1 c.requires.2 c.make_room-span.ensures c.read_more-got.ensures.0 c.input-2-1.given c.going-last.ensures
-
-pub shape_of-input : goal.shape_of-input
-shape_of-input c = c.input-2-1.given ∙ c.input-1.given
-
-pub shape_of-lines : goal.shape_of-lines
-shape_of-lines c = c.lines-1.given
+    reads_last c.requires.0 c.read_more-got.new.input c.requires.1 c.requires.2 c.make_room-span.ensures c.read_more-got.ensures.0 c.read_more-got.auto.input c.going-last.ensures
 
 pub returns : goal.returns
 returns c = stopped_turned c.stopped-2.ensures

@@ -8,8 +8,5 @@ returns-then-from-to c = none_left c.requires c.if-from-to.true
 pub returns-then-to-input : goal.returns-then-to-input
 returns-then-to-input c = room_there c.requires c.if-to-input.true
 
-pub shape_of-input : goal.shape_of-input
-shape_of-input c = c.input-1.given
-
 pub returns : goal.returns
 returns c = room_moved c.requires c.if-from-to.false c.if-to-input.false c.move_front.ensures

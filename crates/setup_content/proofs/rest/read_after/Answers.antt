@@ -18,21 +18,6 @@ read_after_books-requires c = (
   cleared_zeros c.clear_after.ensures.4,
 )
 
-pub shape_of-floors : goal.shape_of-floors
-shape_of-floors c = c.floors-2-1.given ∙ c.floors-1.given
-
-pub shape_of-residues : goal.shape_of-residues
-shape_of-residues c = c.residues-2-1.given ∙ c.residues-1.given
-
-pub shape_of-plans : goal.shape_of-plans
-shape_of-plans c = c.plans-2-1.given ∙ c.plans-1.given
-
-pub shape_of-mappings : goal.shape_of-mappings
-shape_of-mappings c = c.mappings-2-1.given ∙ c.mappings-1.given
-
-pub shape_of-modes : goal.shape_of-modes
-shape_of-modes c = c.modes-2-1.given ∙ c.modes-1.given
-
 pub returns : goal.returns
 returns c =
     after_cleared _ _ _ _ c.clear_after.ensures.0 c.clear_after.ensures.1 c.clear_after.ensures.2

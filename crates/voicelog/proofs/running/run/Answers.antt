@@ -31,67 +31,11 @@ take_records-at-requires c = record { kept_tables = c.loop-turn.invariant.kept; 
 pub after_records-turn-requires : goal.after_records-turn-requires
 after_records-turn-requires c =
     record {
-      within = within_long c.take_records-at.ensures.kept_tables_2.1 (sym c.lines-1.given);
+      within = within_long c.take_records-at.ensures.kept_tables_2.1 (sym c.take_records-at.auto.lines);
       inside = c.loop-turn.invariant.inside;
       of_input = c.loop-turn.invariant.of_input ∙ c.requires.of_input;
-      of_lines = c.lines-1.given ∙ c.loop-turn.invariant.of_lines ∙ c.requires.of_lines;
+      of_lines = c.take_records-at.auto.lines ∙ c.loop-turn.invariant.of_lines ∙ c.requires.of_lines;
     }
-
-pub shape_of-counts-then-turn : goal.shape_of-counts-then-turn
-shape_of-counts-then-turn c =
-    c.counts-1.given ∙ c.loop-turn.invariant.same.counts
-
-pub shape_of-books-then-turn : goal.shape_of-books-then-turn
-shape_of-books-then-turn c =
-    c.books-1.given ∙ c.loop-turn.invariant.same.books
-
-pub shape_of-lengths-then-turn : goal.shape_of-lengths-then-turn
-shape_of-lengths-then-turn c =
-    c.lengths-1.given ∙ c.loop-turn.invariant.same.lengths
-
-pub shape_of-codewords-then-turn : goal.shape_of-codewords-then-turn
-shape_of-codewords-then-turn c =
-    c.codewords-1.given ∙ c.loop-turn.invariant.same.codewords
-
-pub shape_of-multiplicands-then-turn : goal.shape_of-multiplicands-then-turn
-shape_of-multiplicands-then-turn c =
-    c.multiplicands-1.given ∙ c.loop-turn.invariant.same.multiplicands
-
-pub shape_of-floors-then-turn : goal.shape_of-floors-then-turn
-shape_of-floors-then-turn c =
-    c.floors-1.given ∙ c.loop-turn.invariant.same.floors
-
-pub shape_of-residues-then-turn : goal.shape_of-residues-then-turn
-shape_of-residues-then-turn c =
-    c.residues-1.given ∙ c.loop-turn.invariant.same.residues
-
-pub shape_of-plans-then-turn : goal.shape_of-plans-then-turn
-shape_of-plans-then-turn c =
-    c.plans-1.given ∙ c.loop-turn.invariant.same.plans
-
-pub shape_of-mappings-then-turn : goal.shape_of-mappings-then-turn
-shape_of-mappings-then-turn c =
-    c.mappings-1.given ∙ c.loop-turn.invariant.same.mappings
-
-pub shape_of-modes-then-turn : goal.shape_of-modes-then-turn
-shape_of-modes-then-turn c =
-    c.modes-1.given ∙ c.loop-turn.invariant.same.modes
-
-pub shape_of-curves-then-turn : goal.shape_of-curves-then-turn
-shape_of-curves-then-turn c =
-    c.curves-1.given ∙ c.loop-turn.invariant.same.of_curves_is
-
-pub shape_of-words-then-turn : goal.shape_of-words-then-turn
-shape_of-words-then-turn c =
-    c.words-1.given ∙ c.loop-turn.invariant.same.of_words
-
-pub shape_of-input-then-turn : goal.shape_of-input-then-turn
-shape_of-input-then-turn c =
-    c.input-1.given ∙ c.loop-turn.invariant.of_input
-
-pub shape_of-lines-then-turn : goal.shape_of-lines-then-turn
-shape_of-lines-then-turn c =
-    c.lines-in-loop-turn-1.given ∙ c.lines-1.given ∙ c.loop-turn.invariant.of_lines
 
 pub overflow_sub-turns : goal.overflow_sub-turns
 overflow_sub-turns c = let h = c.after_records-turn.ensures.more c.if-turn.false in omega (arith, h)
@@ -107,19 +51,19 @@ loop-turn-preserved c =
       inside = c.after_records-turn.ensures.inside c.if-turn.false;
       same =
           record {
-            counts = c.counts-1.given ∙ c.loop-turn.invariant.same.counts;
-            books = c.books-1.given ∙ c.loop-turn.invariant.same.books;
-            lengths = c.lengths-1.given ∙ c.loop-turn.invariant.same.lengths;
-            codewords = c.codewords-1.given ∙ c.loop-turn.invariant.same.codewords;
-            multiplicands = c.multiplicands-1.given ∙ c.loop-turn.invariant.same.multiplicands;
-            floors = c.floors-1.given ∙ c.loop-turn.invariant.same.floors;
-            residues = c.residues-1.given ∙ c.loop-turn.invariant.same.residues;
-            plans = c.plans-1.given ∙ c.loop-turn.invariant.same.plans;
-            mappings = c.mappings-1.given ∙ c.loop-turn.invariant.same.mappings;
-            modes = c.modes-1.given ∙ c.loop-turn.invariant.same.modes;
-            of_curves_is = c.curves-1.given ∙ c.loop-turn.invariant.same.of_curves_is;
-            of_words = c.words-1.given ∙ c.loop-turn.invariant.same.of_words;
+            counts = c.take_records-at.auto.counts ∙ c.loop-turn.invariant.same.counts;
+            books = c.take_records-at.auto.books ∙ c.loop-turn.invariant.same.books;
+            lengths = c.take_records-at.auto.lengths ∙ c.loop-turn.invariant.same.lengths;
+            codewords = c.take_records-at.auto.codewords ∙ c.loop-turn.invariant.same.codewords;
+            multiplicands = c.take_records-at.auto.multiplicands ∙ c.loop-turn.invariant.same.multiplicands;
+            floors = c.take_records-at.auto.floors ∙ c.loop-turn.invariant.same.floors;
+            residues = c.take_records-at.auto.residues ∙ c.loop-turn.invariant.same.residues;
+            plans = c.take_records-at.auto.plans ∙ c.loop-turn.invariant.same.plans;
+            mappings = c.take_records-at.auto.mappings ∙ c.loop-turn.invariant.same.mappings;
+            modes = c.take_records-at.auto.modes ∙ c.loop-turn.invariant.same.modes;
+            of_curves_is = c.take_records-at.auto.curves ∙ c.loop-turn.invariant.same.of_curves_is;
+            of_words = c.take_records-at.auto.words ∙ c.loop-turn.invariant.same.of_words;
           };
-      of_input = c.input-1.given ∙ c.loop-turn.invariant.of_input;
-      of_lines = c.lines-in-loop-turn-1.given ∙ c.lines-1.given ∙ c.loop-turn.invariant.of_lines;
+      of_input = c.after_records-turn.auto.input ∙ c.loop-turn.invariant.of_input;
+      of_lines = c.after_records-turn.auto.lines ∙ c.take_records-at.auto.lines ∙ c.loop-turn.invariant.of_lines;
     }
