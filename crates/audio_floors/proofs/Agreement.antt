@@ -58,8 +58,8 @@ x_list_stored floors n books v l =
 
 pub row_x_list_stored : (floors : List ℕ) (n books : ℕ) (f : Floor) → ValidFloor books f → Stored floors (floor_width * n) (floor_row f) → XListStored floors n
 row_x_list_stored floors n books f v l =
-    let e : floor_in floors n ≡ f = unfold floor_in in decoded.floor-decoded-at (floor_width * n) books f v l in
-    x_list_stored floors n books (rw e v) (rw e (decoded.floor-stored f l))
+    let e : floor_in floors n ≡ f = unfold floor_in in decoded.floor_decoded_at (floor_width * n) books f v l in
+    x_list_stored floors n books (rw e v) (rw e (decoded.floor_stored f l))
 
 -- THE FLAGS of the answer: a floor that is cut, or stands behind one, has the flag 0, as a place past the last channel
 module _ (reads : Request → Reader ℕ) (s : List ℕ) where

@@ -13,12 +13,12 @@ x_count-requires c = c.requires.0.few
 pub slice_bounds-values-end : goal.slice_bounds-values-end
 slice_bounds-values-end c =
     count_within _ _ _ _ _ c.requires.0 c.requires.1 c.read_values-read.ensures.floor_values
-    (c.wide_u16-n.ensures ∙ c.x_count.ensures) c.read_values-read.auto.1.1.1.1.1.1.1.0
+    (c.wide_u16-n.ensures ∙ c.x_count.ensures) c.read_values-read.auto.values
 
 pub slice_bounds-draw_floor-end : goal.slice_bounds-draw_floor-end
 slice_bounds-draw_floor-end c =
     sym
-    (length-take-le _ _ (count_within _ _ _ _ _ c.requires.0 c.requires.1 c.read_values-read.ensures.floor_values (c.wide_u16-n.ensures ∙ c.x_count.ensures) c.read_values-read.auto.1.1.1.1.1.1.1.0))
+    (length-take-le _ _ (count_within _ _ _ _ _ c.requires.0 c.requires.1 c.read_values-read.ensures.floor_values (c.wide_u16-n.ensures ∙ c.x_count.ensures) c.read_values-read.auto.values))
 
 pub draw_floor-requires : goal.draw_floor-requires
 draw_floor-requires c =
