@@ -18,6 +18,5 @@ returns-in-Value c =
     let h = c.read_head.ensures in
     let g = c.in-Value.is in
     let k = head_known _ _ _ _ h g in
-    let b = (c.read_body.ensures.wrote, c.read_body.ensures.entries_bound) in
-    let e = b.1 in
-    record { wrote = book_whole _ _ _ _ _ _ h g b.0; entries_le_entries = (omega arith, e.1) }
+    let e = c.read_body.ensures.entries_bound in
+    record { wrote = book_whole _ _ _ _ _ _ h g c.read_body.ensures.wrote; entries_le_entries = (omega arith, e.1) }

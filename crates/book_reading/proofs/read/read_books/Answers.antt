@@ -17,17 +17,15 @@ pub returns-in_default : goal.returns-in_default
 returns-in_default c =
     let w = c.loop-index.invariant.2 in
     let m = c.loop-index-test.true in
-    let b = (c.read_book-read.ensures.wrote, c.read_book-read.ensures.entries_le_entries) in
-    record { wrote = books_refused _ _ _ _ _ _ _ _ w m b.0 c.in_default.is _; entries_le_entries = b.1 }
+    record { wrote = books_refused _ _ _ _ _ _ _ _ w m c.read_book-read.ensures.wrote c.in_default.is _; entries_le_entries = c.read_book-read.ensures.entries_le_entries }
 
 pub loop-index-preserved : goal.loop-index-preserved
 loop-index-preserved c =
     let k = c.read_book-read.auto in
     let v = c.loop-index.invariant in
     let m = c.loop-index-test.true in
-    let b = (c.read_book-read.ensures.wrote, c.read_book-read.ensures.entries_le_entries) in
     let n = c.in-Next.is in
-    (v.0, v.1, books_next _ _ _ _ _ _ _ _ v.2 m b.0 n (omega arith) (omega arith) (omega arith) (omega arith) b.1.0 b.1.1, n)
+    (v.0, v.1, books_next _ _ _ _ _ _ _ _ v.2 m c.read_book-read.ensures.wrote n (omega arith) (omega arith) (omega arith) (omega arith) c.read_book-read.ensures.entries_le_entries.0 c.read_book-read.ensures.entries_le_entries.1, n)
 
 pub returns : goal.returns
 returns c = record { wrote = books_done _ _ _ _ _ _ _ _ c.loop-index.invariant.2 c.loop-index.invariant.3 c.loop-index-test.false; entries_le_entries = (c.loop-index.invariant.2.entries_within, c.loop-index.invariant.2.values_within) }
