@@ -84,7 +84,7 @@ pub fn step(
 ) -> Stepped
     requires { KeptTables kept (writable_tables counts books lengths codewords multiplicands floors residues plans mappings modes)
         × KeptOutputs kept curves.old words.old }
-    ensures answer_value { (stream_of result.kept (left_in counts books lengths codewords multiplicands floors residues plans mappings modes), result.answer)
+    ensures answer_and_stream { (stream_of result.kept (left_in counts books lengths codewords multiplicands floors residues plans mappings modes), result.answer)
         ≡ record_step (stream_of kept (handed counts books lengths codewords multiplicands floors residues plans mappings modes)) kind body.now }
     ensures kept_tables { KeptTables result.kept (left_in counts books lengths codewords multiplicands floors residues plans mappings modes)
         × KeptOutputs result.kept curves.new words.new }

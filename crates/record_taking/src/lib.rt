@@ -36,7 +36,7 @@ pub fn take_records(
     ensures taken { Taken progress (handed counts books lengths codewords multiplicands floors residues plans mappings modes)
         input.now lines.old
         result (left_in counts books lengths codewords multiplicands floors residues plans mappings modes) lines.new }
-    ensures kept_tables_2 { KeptTables result.kept (left_in counts books lengths codewords multiplicands floors residues plans mappings modes)
+    ensures kept_after { KeptTables result.kept (left_in counts books lengths codewords multiplicands floors residues plans mappings modes)
         × KeptOutputs result.kept curves.new words.new }
     ensures within { Within result input.now lines.old }
 {
@@ -90,7 +90,7 @@ fn take_record(
     ensures taken { Taken progress (handed counts books lengths codewords multiplicands floors residues plans mappings modes)
         input.now lines.old
         result (left_in counts books lengths codewords multiplicands floors residues plans mappings modes) lines.new }
-    ensures kept_tables_2 { KeptTables result.kept (left_in counts books lengths codewords multiplicands floors residues plans mappings modes)
+    ensures kept_after { KeptTables result.kept (left_in counts books lengths codewords multiplicands floors residues plans mappings modes)
         × KeptOutputs result.kept curves.new words.new }
     ensures within { Within result input.now lines.old × Moves progress result }
 {
@@ -149,7 +149,7 @@ fn take_whole(
     ensures taken { Taken progress (handed counts books lengths codewords multiplicands floors residues plans mappings modes)
         input.now lines.old
         result (left_in counts books lengths codewords multiplicands floors residues plans mappings modes) lines.new }
-    ensures kept_tables_2 { KeptTables result.kept (left_in counts books lengths codewords multiplicands floors residues plans mappings modes)
+    ensures kept_after { KeptTables result.kept (left_in counts books lengths codewords multiplicands floors residues plans mappings modes)
         × KeptOutputs result.kept curves.new words.new }
     ensures within { Within result input.now lines.old × Moves progress result }
 {

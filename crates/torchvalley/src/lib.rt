@@ -29,7 +29,7 @@ pub struct IdentityAnswer {
 // Reads an identification packet, under 01's limits. Any bytes may be handed in.
 pub fn torchvalley_identification(packet: &[u8]) -> IdentityAnswer
     ensures value { result ≡ answer_of (identification 8 packet.now) }
-    ensures variant { (result.refusal ≡ 0) ↔ Sound 8 result.identity }
+    ensures sound { (result.refusal ≡ 0) ↔ Sound 8 result.identity }
 {
     match identification::read(packet, Limits::standard()) {
         Identified::Accepted(identity) => IdentityAnswer {

@@ -18,7 +18,7 @@ use torchvalley::IdentityAnswer;
 #[unsafe(no_mangle)]
 pub extern "C" fn torchvalley_identification(packet: &[u8]) -> IdentityAnswer
     ensures value { result ≡ answer_of (identification 8 packet.now) }
-    ensures variant { (result.refusal ≡ 0) ↔ Sound 8 result.identity }
+    ensures sound { (result.refusal ≡ 0) ↔ Sound 8 result.identity }
 {
     torchvalley::torchvalley_identification(packet)
 }

@@ -29,7 +29,7 @@ pub extern "C" fn torchvalley_setup(
     mappings: &mut [u8],
     modes: &mut [u8],
 ) -> u32
-    ensures modes_value { left result (left_in counts books lengths codewords multiplicands floors residues plans mappings modes)
+    ensures answer { left result (left_in counts books lengths codewords multiplicands floors residues plans mappings modes)
         ≡ setup_call standard identity packet.now (handed counts books lengths codewords multiplicands floors residues plans mappings modes) }
     ensures accepted_sound { AcceptedSound standard identity packet.now
         (handed counts books lengths codewords multiplicands floors residues plans mappings modes) }

@@ -32,4 +32,4 @@ returns-in-TooLong c =
     (skips_taken c.requires.1 e h _ (omega arith), (kept_same (ap (λ (p : Progress). p.kept) e) c.requires.0, (skips_within c.requires.1 e h, skips_moves c.requires.1 e h)))
 
 pub returns-in-Whole : goal.returns-in-Whole
-returns-in-Whole c = record { taken = c.take_whole.ensures.taken; kept_tables_2 = c.take_whole.ensures.kept_tables_2; within = c.take_whole.ensures.within }
+returns-in-Whole c = record { taken = c.take_whole.ensures.taken; kept_after = c.take_whole.ensures.kept_after; within = c.take_whole.ensures.within }

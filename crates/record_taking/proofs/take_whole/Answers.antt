@@ -31,7 +31,7 @@ returns c =
     let room = c.requires.1.0 in
     let none = c.requires.1.1 in
     let front = c.requires.1.2 in (
-      whole_taken_lem room none front c.step-stepped.ensures.answer_value c.put_line-end.ensures.out_after c.put_line-end.ensures.value.0,
+      whole_taken_lem room none front c.step-stepped.ensures.answer_and_stream c.put_line-end.ensures.out_after c.put_line-end.ensures.value.0,
       (
         c.step-stepped.ensures.kept_tables,
         (whole_within room none front c.put_line-end.ensures.value.1, λ f. omega arith),

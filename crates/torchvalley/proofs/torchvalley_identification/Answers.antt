@@ -22,7 +22,7 @@ pub no_identity-requires : goal.no_identity-requires
 no_identity-requires c = search door_laws
 
 pub returns-in-Accepted : goal.returns-in-Accepted
-returns-in-Accepted c = let both = and_sound _ _ (search door_laws) in record { value = both.0; variant = both.1 }
+returns-in-Accepted c = let both = and_sound _ _ (search door_laws) in record { value = both.0; sound = both.1 }
 
 pub returns-in-Refused : goal.returns-in-Refused
-returns-in-Refused c = let both = and_sound _ _ (search door_laws) in record { value = both.0; variant = both.1 }
+returns-in-Refused c = let both = and_sound _ _ (search door_laws) in record { value = both.0; sound = both.1 }
