@@ -1,7 +1,7 @@
 // The residues of all submaps of an audio packet, read into the lent list (01, "Audio order" 5).
 #![tactic(auto)]
 
-pub mod power; // a power that is known to fit
+pub mod powers; // a power that is known to fit
 pub mod submap; // the residue of one submap
 
 ghost use Rattle.std.specs.Prelude.{◌≤◌, length};

@@ -11,7 +11,7 @@ ghost use Rattle.residue_pass.specs.Inner.Readable.{residue_by, ResidueReadable}
 ghost use Rattle.audio_channels.specs.Inner.Live.{used_bools};
 ghost use Rattle.audio_residues.specs.Inner.Reading.{ResiduesReadable, submap_run};
 
-use crate::power::power;
+use crate::powers::power;
 use audio_channels::extent::{Extent, submap_extent};
 use codeword_list::{ListRead, Progress};
 use mapping_row::submap_residue;

@@ -3,7 +3,7 @@
 #![tactic(auto)]
 
 pub mod codewords;
-pub mod floor;
+pub mod floors;
 pub mod packet;
 pub mod tables;
 

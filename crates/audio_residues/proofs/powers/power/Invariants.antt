@@ -1,7 +1,7 @@
--- `audio_residues::power::power` meets its contract, by PowerLaws. Assumes nothing.
+-- `audio_residues::powers::power` meets its contract, by PowerLaws. Assumes nothing.
 use Prim.Native.Nat.{◌-◌}
 use Rattle.audio_residues.proofs.PowerLaws.{Product}
-use Rattle.audio_residues.proofs.power.power.Given as goal
+use Rattle.audio_residues.proofs.powers.power.Given as goal
 
 abbrev pub invariant-loop-i : goal.invariant-loop-i
 invariant-loop-i l = Product l.base l.exponent l.total l.i

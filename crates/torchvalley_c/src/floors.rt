@@ -21,7 +21,7 @@ pub extern "C" fn torchvalley_floor_points(
         × Multiplies multiplier y.new }
     ensures figures { Figures }
 {
-    torchvalley::floor::torchvalley_floor_points(x, values, multiplier, y, flags)
+    torchvalley::floors::torchvalley_floor_points(x, values, multiplier, y, flags)
 }
 
 // The curve's first places, as many as `out` has. True where the lists fit each other; otherwise false, and `out` is all zero.
@@ -37,5 +37,5 @@ pub extern "C" fn torchvalley_floor_curve(
         ≡ drawing.curve x.now y.now flags.now multiplier (length out.old))
         × Bytes (curve_at x.now y.now flags.now multiplier) }
 {
-    torchvalley::floor::torchvalley_floor_curve(x, y, flags, multiplier, out)
+    torchvalley::floors::torchvalley_floor_curve(x, y, flags, multiplier, out)
 }

@@ -1,7 +1,7 @@
--- `audio_residues::power::power` meets its contract, by PowerLaws. Assumes nothing.
+-- `audio_residues::powers::power` meets its contract, by PowerLaws. Assumes nothing.
 use Prim.Native.Nat.{◌-◌}
 use Rattle.audio_residues.proofs.PowerLaws.{powers}
-use Rattle.audio_residues.proofs.power.power.Goals as goal
+use Rattle.audio_residues.proofs.powers.power.Goals as goal
 
 pub returns-then-base-lt2 : goal.returns-then-base-lt2
 returns-then-base-lt2 c = search powers
