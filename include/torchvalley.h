@@ -1,6 +1,6 @@
 /* Torchvalley: a reader of Vorbis I packets whose every answer is proved.
  *
- * Link target/staticlib/libtorchvalley.a, which `rt staticlib torchvalley` writes (x86-64 Linux).
+ * Link target/staticlib/libtorchvalley.a, which `.ci/library` builds of the crate torchvalley_c (x86-64 Linux).
  *
  * No call allocates, keeps state, or asks anything of its input: any bytes and any numbers may be handed in. The caller's only duty is
  * that a pointer, which is never null, and the length beside it name memory that may be read and that nobody writes to during the call.

@@ -1,6 +1,7 @@
 /* voicelog: reads records of Vorbis packets from standard input and prints a line for each (README.md, "The tool").
  *
- * All that it does is proved and lies in the crate voicelog; this file lends the memory. None of it is on the stack, which stays below 64 KiB.
+ * All that it does is proved and lies in the crate voicelog, which voicelog_c exports; this file lends the memory. None of it is on the stack,
+ * which stays below 64 KiB.
  */
 #define _POSIX_C_SOURCE 200809L
 
