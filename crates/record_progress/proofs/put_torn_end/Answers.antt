@@ -10,7 +10,7 @@ put_torn-end-requires c = let p = c.requires.0 in omega (arith, p)
 pub put_end-requires : goal.put_end-requires
 put_end-requires c =
     let a = c.put_torn-end.ensures.value.1 in
-    let b = c.put_torn-end.auto.lines in
+    let b = c.put_torn-end.auto.out in
     let p = c.requires.0 in
     omega (arith, a, b, p)
 

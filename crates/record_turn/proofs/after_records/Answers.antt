@@ -9,8 +9,8 @@ use Rattle.record_turn.proofs.after_records.Goals as goal
 pub slice_bounds-write_all-end-2 : goal.slice_bounds-write_all-end-2
 slice_bounds-write_all-end-2 c = sym (length-take-le c.args.progress.lines_end c.args.lines.now c.requires.within.ends)
 
-pub returns-then-not-write_all : goal.returns-then-not-write_all
-returns-then-not-write_all c = stopped_turned c.stopped.ensures
+pub returns-then-is_err : goal.returns-then-is_err
+returns-then-is_err c = stopped_turned c.stopped.ensures
 
 pub returns-then-turns-eq0 : goal.returns-then-turns-eq0
 returns-then-turns-eq0 c = stopped_turned c.stopped-then-turns-eq0.ensures
