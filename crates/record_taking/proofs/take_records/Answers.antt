@@ -11,8 +11,8 @@ pub loop-at-init : goal.loop-at-init
 loop-at-init c =
     record {
       taken = taken_none _ _ _ _;
-      kept = c.requires.0;
-      room = c.requires.1;
+      kept = c.requires.kept_tables;
+      room = c.requires.room;
       same = record { counts = refl; books = refl; lengths = refl; codewords = refl; multiplicands = refl; floors = refl; residues = refl; plans = refl; mappings = refl; modes = refl; of_curves_is = refl; of_words = refl };
     }
 
@@ -21,27 +21,26 @@ take_record-at-requires c = record { kept_tables = c.loop-at.invariant.kept; roo
 
 pub may_go_on-requires : goal.may_go_on-requires
 may_go_on-requires c =
-    let s = c.take_record-at.ensures.kept_after.1.0.ends in let e = c.take_record-at.auto.lines in omega (arith, s, e)
+    let s = c.take_record-at.ensures.within.0.ends in let e = c.take_record-at.auto.lines in omega (arith, s, e)
 
 pub returns-then-not-may_go_on : goal.returns-then-not-may_go_on
-returns-then-not-may_go_on c = (
-  taken_then c.loop-at.invariant.taken c.take_record-at.ensures.taken,
-  (
-    c.take_record-at.ensures.kept_after.0,
-    within_long c.take_record-at.ensures.kept_after.1.0 (taken_length c.loop-at.invariant.taken),
-  ),
-)
+returns-then-not-may_go_on c =
+    record {
+      taken = taken_then c.loop-at.invariant.taken c.take_record-at.ensures.taken;
+      kept_after = c.take_record-at.ensures.kept_after;
+      within = within_long c.take_record-at.ensures.within.0 (taken_length c.loop-at.invariant.taken);
+    }
 
 pub loop-at-smaller : goal.loop-at-smaller
 loop-at-smaller c =
-    turn_less c.loop-at.at c.take_record-at.ensures.kept_after.1.0 c.take_record-at.ensures.kept_after.1.1 (c.may_go_on.ensures (not-false _ (ap not c.if-not-may_go_on.false)))
+    turn_less c.loop-at.at c.take_record-at.ensures.within.0 c.take_record-at.ensures.within.1 (c.may_go_on.ensures (not-false _ (ap not c.if-not-may_go_on.false)))
 
 pub loop-at-preserved : goal.loop-at-preserved
 loop-at-preserved c =
     record {
       taken = taken_then c.loop-at.invariant.taken c.take_record-at.ensures.taken;
-      kept = c.take_record-at.ensures.kept_after.0;
-      room = turn_room c.take_record-at.ensures.kept_after.1.0 (c.may_go_on.ensures (not-false _ (ap not c.if-not-may_go_on.false)));
+      kept = c.take_record-at.ensures.kept_after;
+      room = turn_room c.take_record-at.ensures.within.0 (c.may_go_on.ensures (not-false _ (ap not c.if-not-may_go_on.false)));
       same =
           record {
             counts = c.take_record-at.auto.counts ∙ c.loop-at.invariant.same.counts;

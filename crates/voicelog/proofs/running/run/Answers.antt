@@ -31,7 +31,7 @@ take_records-at-requires c = record { kept_tables = c.loop-turn.invariant.kept; 
 pub after_records-turn-requires : goal.after_records-turn-requires
 after_records-turn-requires c =
     record {
-      within = within_long c.take_records-at.ensures.kept_after.1 (sym c.take_records-at.auto.lines);
+      within = within_long c.take_records-at.ensures.within (sym c.take_records-at.auto.lines);
       inside = c.loop-turn.invariant.inside;
       of_input = c.loop-turn.invariant.of_input ∙ c.requires.of_input;
       of_lines = c.take_records-at.auto.lines ∙ c.loop-turn.invariant.of_lines ∙ c.requires.of_lines;
@@ -46,7 +46,7 @@ loop-turn-smaller c = let h = c.after_records-turn.ensures.more c.if-turn.false 
 pub loop-turn-preserved : goal.loop-turn-preserved
 loop-turn-preserved c =
     record {
-      kept = kept_same c.after_records-turn.ensures.same c.take_records-at.ensures.kept_after.0;
+      kept = kept_same c.after_records-turn.ensures.same c.take_records-at.ensures.kept_after;
       room = c.after_records-turn.ensures.room c.if-turn.false;
       inside = c.after_records-turn.ensures.inside c.if-turn.false;
       same =
