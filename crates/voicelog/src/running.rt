@@ -34,7 +34,7 @@ pub fn run(
     let mut to: usize = 0;
     // Each turn takes a record or reads a byte.
     let mut turns: u64 = 18446744073709551615;
-    loop {
+    'taking: loop {
         at = take_records(
             at,
             &input[..to],
