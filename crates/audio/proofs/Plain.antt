@@ -1,4 +1,4 @@
--- FLOORS OF TYPE 1 REFUSE NOTHING, nor does the body of a packet: what the program reads of it (specs/inner/Plain.antt) is the packet. Assumes nothing.
+-- FLOORS OF TYPE 1 REFUSE NOTHING, nor does the body of a packet: what the program reads of it (specs/Inner/Plain.antt) is the packet. Assumes nothing.
 use Prim.Native.Nat.{ℕ}
 use mathlib.Core.List.{List, ◌++◌}
 use mathlib.Core.Option.{Option, none, some}

@@ -1,5 +1,5 @@
 -- A whole run, whatever pieces its input comes in: records are taken, bytes are read, and at the end the last lines are put. `skip`, `x` and `n` are how far the
--- program has come (specs/inner/Progress.antt), `s` the bytes that it has read and not taken, `come` those that are still to come, `out` all that it puts.
+-- program has come (specs/Inner/Progress.antt), `s` the bytes that it has read and not taken, `come` those that are still to come, `out` all that it puts.
 use Rattle.std.specs.Prelude.{ℕ, List, [], ◌++◌, ◌≡◌}
 use Rattle.record_step.specs.Step.{Stream}
 use Rattle.record_progress.specs.Inner.Progress.{lines_left}
