@@ -4,7 +4,7 @@ use native.Mathlib.Nat.{lt_of_lt_of_le, mod-eq_of_lt, mod-one, add_comm, one-mul
 use native.Mathlib.Numerals.{one-add}
 use native.Mathlib.Omega.{arith}
 use mathlib.Core.List.{List}
-use mathlib.Core.Path.{◌≡◌, refl, ap, sym, ◌∙◌}
+use mathlib.Core.Path.{◌≡◌, ap, sym, ◌∙◌}
 use lib.Dec.{lit<}
 use lib.Bits.{bit_and, and_mask}
 use lib.ListN.{get_or}

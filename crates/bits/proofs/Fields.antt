@@ -1,5 +1,5 @@
 -- Laws of reading a field: whole or cut and never both, its value, where it ends, two reads in a row. Assumes nothing.
-use Prim.Native.Nat.{ℕ, zero, suc, ◌+◌, ◌-◌, ◌*◌, ◌/◌, ◌%◌, ◌^◌, ◌≤◌, ◌<◌}
+use Prim.Native.Nat.{ℕ, ◌+◌, ◌*◌, ◌^◌, ◌≤◌, ◌<◌}
 use native.Mathlib.Omega.{arith}
 use mathlib.Core.List.{List}
 use mathlib.Core.Path.{◌≡◌, refl, ap, sym, ◌∙◌}
@@ -7,7 +7,7 @@ use mathlib.Core.Bool.{Bool, true, false}
 use lib.ListN.{length}
 use lib.Dec.{leb}
 use borrow.Author.Tests.{le-leb, lt-leb, leb-true, leb-false}
-use Rattle.reading.specs.Outcome.{Refusal, refusal, Outcome, ok, bad, need}
+use Rattle.reading.specs.Outcome.{Refusal, refusal, ok, bad, need}
 use Rattle.bits.specs.Field.{value_at, field}
 use Rattle.bits.proofs.Values.{value_lt, value_add}
 

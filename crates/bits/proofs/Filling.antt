@@ -1,5 +1,6 @@
 -- A loop that fills a lent part with numbers as they are read: what is done stands at its front, and with what is left to read it is the whole.
 -- Assumes nothing.
+use Rattle.std.specs.Prelude.{Ok, Err}
 use Prim.Native.Nat.{ℕ, zero, suc, ◌+◌, ◌-◌, ◌≤◌, ◌<◌}
 use native.Mathlib.Nat.{sub-zero}
 use native.Mathlib.Numerals.{add-one}
@@ -11,8 +12,7 @@ use lib.Seq.{sets, sets-eq, take-suc-set, take_all, take_at, length-take-le}
 use Rattle.reading.specs.Outcome.{Outcome, ok, bad, then}
 use Rattle.reading.specs.Reader.{Reader, many}
 use Rattle.bits.specs.declared.Cursor.{Cursor}
-use Rattle.bits.specs.declared.Refusal.{Refusal}
-use Rattle.bits.specs.declared.Step.TheVariants.{Next, Refused}
+use Rattle.bits.specs.declared.refusal.Refusal.{Refusal}
 use Rattle.bits.specs.Inner.Cursors.{position, refusal_of, Wrote}
 use Rattle.bits.proofs.Steps.{wrote_refused, wrote_next}
 
@@ -67,7 +67,7 @@ module _ (r : Reader ℕ) (s : List ℕ) (k : ℕ) (entry : List ℕ) where
     pub rest : after (take i part) (many r (length entry - i) s (position c)) ≡ many r (length entry) s k
 
   module _ {c : Cursor} {part : List ℕ} {i : ℕ} (w : Filling c part i) where
-    pub filling_done : length entry ≤ i → Wrote (many r (length entry) s k) (Next c) part
+    pub filling_done : length entry ≤ i → Wrote (many r (length entry) s k) (Ok c) part
     filling_done h =
         let e = w.long in
         wrote_next
@@ -76,7 +76,7 @@ module _ (r : Reader ℕ) (s : List ℕ) (k : ℕ) (entry : List ℕ) where
         ∙ ap (λ (l : List ℕ). ok (l, position c)) (take_all i part (omega arith)))
 
     module _ (h : i < length entry) where
-      pub filling_refused : {z : Refusal} → r s (position c) ≡ bad (refusal_of z) → (u : List ℕ) → Wrote (many r (length entry) s k) (Refused z) u
+      pub filling_refused : {z : Refusal} → r s (position c) ≡ bad (refusal_of z) → (u : List ℕ) → Wrote (many r (length entry) s k) (Err z) u
       filling_refused e u = wrote_refused u (sym w.rest ∙ after_bad (take i part) (many_refused r s (length entry - i) (omega arith) e))
 
       pub filling_next : {v : ℕ} {c' : Cursor} → r s (position c) ≡ ok (v, position c') → Filling c' (set part i v) (i + 1)

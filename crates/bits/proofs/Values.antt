@@ -3,7 +3,7 @@ use Prim.Native.Nat.{ℕ, zero, suc, ◌+◌, ◌-◌, ◌*◌, ◌/◌, ◌%◌
 use native.Mathlib.Nat.{mul-le-mul_right, pow-suc, add-zero, zero-mul, add-mul, mul_assoc, mul_comm, add-suc, add_assoc, add_comm}
 use native.Mathlib.Omega.{arith}
 use mathlib.Core.List.{List}
-use mathlib.Core.Path.{◌≡◌, refl, ap, sym, ◌∙◌}
+use mathlib.Core.Path.{◌≡◌, ap, ◌∙◌}
 use lib.Pow.{pow-add, high, low}
 use Rattle.bits.specs.Field.{bit_at, value_at}
 

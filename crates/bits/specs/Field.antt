@@ -1,6 +1,6 @@
 -- The bits of a packet, and the fields that are read from it (000, section 2; 01, "Bits and books").
 use Rattle.std.specs.Prelude.{ℕ, zero, suc, ◌+◌, ◌*◌, ◌/◌, ◌%◌, ◌^◌, List, length, get_or, leb}
-use Rattle.reading.specs.Outcome.{refusal, Outcome, ok, need}
+use Rattle.reading.specs.Outcome.{refusal, ok, need}
 use Rattle.reading.specs.Reader.{Reader}
 
 -- bit k of a packet is bit (k mod 8) of byte (k div 8), the lowest bit of a byte first (000, 2.1.4)

@@ -4,13 +4,14 @@
 
 pub mod ilog;
 pub mod kind;
+pub mod refusal;
 
 ghost use Rattle.std.specs.Prelude.{◌≡◌, ◌+◌, ◌*◌, ◌%◌, ◌^◌, ◌≤◌, length};
 ghost use Rattle.bits.specs.Field.{value_at, field};
 ghost use Rattle.bits.specs.Inner.Cursors.{position, outcome};
 ghost use Rattle.bits.specs.Signed.{signed};
 
-use reading::widths::wide_u8;
+use refusal::{Reason, Refusal};
 
 // A position in a packet: bit `bit` of byte `byte`. A slice may have 2^63 - 1 bytes, so a count of bits would not fit 64 bits;
 // byte and bit apart always do. Any two numbers are a position: bit may pass 7.
@@ -18,30 +19,6 @@ use reading::widths::wide_u8;
 pub struct Cursor {
     pub byte: usize,
     pub bit: u8,
-}
-
-// Why a packet is sent back: 01's number, and where the judged field begins.
-#[derive(Clone, Copy)]
-pub struct Refusal {
-    pub number: u8,
-    pub place: Cursor,
-}
-
-// What reading a field finds.
-#[derive(Clone, Copy)]
-pub enum Field {
-    // Its value, and the position after it.
-    Value(u32, Cursor),
-    // Refusal 1: a needed bit lies past the end.
-    Refused(Refusal),
-}
-
-// What reading comes to where the values go elsewhere: into lent buffers, or beside it in a struct.
-#[derive(Clone, Copy)]
-pub enum Step {
-    // The position to go on from.
-    Next(Cursor),
-    Refused(Refusal),
 }
 
 impl Cursor {
@@ -53,49 +30,40 @@ impl Cursor {
     }
 
     // The field of `width` bits at the cursor.
-    pub fn field(self, packet: &[u8], width: usize) -> Field
+    pub fn field(self, packet: &[u8], width: usize) -> Result<(u32, Cursor), Refusal>
         requires { width ≤ 32 }
         ensures { outcome result ≡ field width packet.now (position self) }
     {
         let byte = self.byte;
-        let bit = wide_u8(self.bit);
+        let bit = self.bit as usize;
         if packet.len() < byte {
-            return Field::Refused(Refusal {
-                number: 1,
+            return Err(Refusal {
+                reason: Reason::Cut,
                 place: self,
             });
         }
         let end = bit + width;
         if packet.len() - byte < (end + 7) / 8 {
-            return Field::Refused(Refusal {
-                number: 1,
+            return Err(Refusal {
+                reason: Reason::Cut,
                 place: self,
             });
         }
         let offset = bit % 8;
         let bytes = whole_bytes(packet, byte + bit / 8, (offset + width + 7) / 8);
-        Field::Value(
-            low_bits(bytes >> offset, width),
-            Cursor {
-                byte: byte + end / 8,
-                bit: (end % 8) as u8,
-            },
-        )
+        let next = Cursor {
+            byte: byte + end / 8,
+            bit: (end % 8) as u8,
+        };
+        Ok((low_bits(bytes >> offset, width), next))
     }
 
     // The bit at the cursor: the field of one bit.
-    pub fn bit(self, packet: &[u8]) -> Field
+    pub fn bit(self, packet: &[u8]) -> Result<(u32, Cursor), Refusal>
         ensures { outcome result ≡ field 1 packet.now (position self) }
     {
         self.field(packet, 1)
     }
-}
-
-// The number of a refusal alone, for callers that 01 gives no place.
-pub fn number_of(refusal: Refusal) -> u32
-    ensures { result ≡ refusal.number }
-{
-    refusal.number as u32
 }
 
 // The number that `count` bytes from `first` on make, the first of them lowest.
@@ -104,10 +72,8 @@ fn whole_bytes(packet: &[u8], first: usize, count: usize) -> u64
     ensures { result ≡ value_at packet.now (8 * first) (8 * count) }
 {
     let mut number: u64 = 0;
-    let mut i: usize = 0;
-    while i < count {
-        number = number + ((packet[first + i] as u64) << (8 * i));
-        i = i + 1;
+    for i in 0..count {
+        number += (packet[first + i] as u64) << (8 * i);
     }
     number
 }

@@ -5,54 +5,39 @@ ghost use Rattle.std.specs.Prelude.{◌≡◌};
 ghost use Rattle.bits.specs.Inner.Cursors.{position, outcome, stepped};
 ghost use Rattle.header.specs.Header.{common_header, framing};
 
+use bits::Cursor;
 use bits::kind::PacketKind;
-use bits::{Cursor, Field, Refusal, Step};
+use bits::refusal::{Reason, Refusal};
 
 // The type byte and the six bytes "vorbis", each judged as soon as it is read.
-pub fn common_header(packet: &[u8], kind: PacketKind) -> Step
+pub fn common_header(packet: &[u8], kind: PacketKind) -> Result<Cursor, Refusal>
     ensures { stepped result ≡ common_header kind.number packet.now }
 {
     let expected = [kind.number, 0x76, 0x6F, 0x72, 0x62, 0x69, 0x73];
     let mut at = Cursor::start();
-    let mut i: usize = 0;
-    while i < 7 {
-        match at.field(packet, 8) {
-            Field::Refused(z) => return Step::Refused(z),
-            Field::Value(byte, next) => {
-                if byte != wide(expected[i]) {
-                    return Step::Refused(Refusal {
-                        number: 2,
-                        place: at,
-                    });
-                }
-                at = next;
-            }
+    for i in 0..7 {
+        let (byte, next) = at.field(packet, 8)?;
+        if byte != expected[i] as u32 {
+            return Err(Refusal {
+                reason: Reason::Header,
+                place: at,
+            });
         }
-        i = i + 1;
+        at = next;
     }
-    Step::Next(at)
-}
-
-fn wide(x: u8) -> u32
-    ensures { result ≡ x }
-{
-    x as u32
+    Ok(at)
 }
 
 // The framing bit, which must be set.
-pub fn framing(packet: &[u8], from: Cursor) -> Field
+pub fn framing(packet: &[u8], from: Cursor) -> Result<(u32, Cursor), Refusal>
     ensures { outcome result ≡ framing packet.now (position from) }
 {
-    match from.bit(packet) {
-        Field::Refused(z) => Field::Refused(z),
-        Field::Value(flag, next) => {
-            if flag == 0 {
-                return Field::Refused(Refusal {
-                    number: 5,
-                    place: from,
-                });
-            }
-            Field::Value(flag, next)
-        }
+    let (flag, next) = from.bit(packet)?;
+    if flag == 0 {
+        return Err(Refusal {
+            reason: Reason::Framing,
+            place: from,
+        });
     }
+    Ok((flag, next))
 }

@@ -1,11 +1,10 @@
 -- What is known of everything that a reader accepts holds of each item of a list that it reads. Assumes nothing.
 use Prim.Native.Nat.{ℕ, zero, suc}
-use native.Mathlib.Omega.{arith}
 use mathlib.Core.Bool.{Bool, true}
 use mathlib.Core.List.{List, [], ◌∷◌}
-use mathlib.Core.Path.{◌≡◌, refl, sym, ap, subst, ◌∙◌}
+use mathlib.Core.Path.{◌≡◌, refl, subst}
 use lib.ListN.{length}
-use Rattle.reading.specs.Outcome.{Outcome, ok, then}
+use Rattle.reading.specs.Outcome.{ok, then}
 use Rattle.reading.specs.Reader.{Reader, many}
 use Rattle.reading.specs.Lists.{all}
 use Rattle.reading.specs.Encoding.{Each}

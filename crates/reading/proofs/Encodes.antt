@@ -4,16 +4,13 @@ use Prim.Native.Nat.{ℕ, zero, suc, ◌+◌, ◌-◌, ◌*◌, ◌≤◌, ◌<�
 use native.Mathlib.Nat.{sub-zero, mul-zero, mul-suc, add_comm, mul-le-mul_left}
 use native.Mathlib.Numerals.{add-one}
 use native.Mathlib.Omega.{arith}
-use borrow.Author.Rules.{rules}
-use borrow.Author.Tests.{eqb-true, eq-eqb, not-true, not-false}
+use borrow.Author.Tests.{not-true, not-false}
 use mathlib.Core.Bool.{Bool, true, false, not}
 use mathlib.Core.List.{List, [], ◌∷◌, ◌++◌}
 use mathlib.Core.Logic.{◌↔◌}
 use mathlib.Core.Path.{◌≡◌, refl, sym, ap, subst, ◌∙◌}
-use lib.Bits.{bit_or, or_zero_l, or_add_and, and_le_l, and_le_r}
-use lib.Dec.{eqb}
-use lib.ListN.{length, get_or, take, drop, replicate, length-append, length-drop, take-append-drop, drop_of_length-le, get_or-append}
-use lib.Seq.{drop-cons, take_at, drop_at, drop-drop, get_or-append-add}
+use lib.ListN.{length, get_or, take, drop, replicate, length-append, length-drop, take-append-drop, get_or-append}
+use lib.Seq.{take_at, drop_at, drop-drop, get_or-append-add}
 use Rattle.reading.specs.Lists.{rows}
 use Rattle.reading.specs.Pad.{pad}
 use Rattle.reading.specs.Encoding.{Zeros, Each, RowOf, Encodes}
@@ -41,48 +38,6 @@ refuted {b} f n = not_said f (not-true b n)
 
 pub shown : {b : Bool} {P : Type 0} → (b ≡ true) ↔ P → not b ≡ false → P
 shown {b} f n = f.0 (not-false b n)
-
--- a bitwise or is zero exactly where both sides are
-or_none : {a b : ℕ} → bit_or a b ≡ 0 → (a ≡ 0) × (b ≡ 0)
-or_none {a} {b} e = (omega (arith, or_add_and a b, and_le_r a b), omega (arith, or_add_and a b, and_le_l a b))
-
-or_both : {a b : ℕ} → a ≡ 0 → b ≡ 0 → bit_or a b ≡ 0
-or_both {a} {b} e f = rw (e, f, or_zero_l)
-
--- a loop that joins numbers by a bitwise or: those from `from` to i are zeros where `any` is, and all depends on the others
-pub record Zeroing (cells : List ℕ) (from i any : ℕ) : Type 0 where
-  pub left : Zeros (drop from cells) ↔ ((any ≡ 0) × Zeros (drop i cells))
-
-pub zeros_start : (cells : List ℕ) (from : ℕ) → Zeroing cells from from 0
-zeros_start cells from = record { left = ((λ e. (refl, e)), (λ e. e.1)) }
-
-module _ (cells : List ℕ) (from i any : ℕ) (z : Zeroing cells from i any) where
-  pub zeros_next : i < length cells → Zeroing cells from (i + 1) (bit_or any (get_or cells i 0))
-  zeros_next h =
-      let d : drop i cells ≡ get_or cells i 0 ∷ drop (i + 1) cells = rw (drop-cons cells i 0 h, add-one) in
-      record {
-        left = (
-          (λ a. let s = z.left.0 a in let q = subst Zeros d s.1 in (or_both s.0 (first q), rest q)),
-          (λ b. let n = or_none b.0 in z.left.1 (n.0, subst Zeros (sym d) (whole n.1 b.1))),
-        );
-      }
-    where
-      first : {x : ℕ} {l : List ℕ} → Zeros (x ∷ l) → x ≡ 0
-      first {x} {l} q = cc
-
-      rest : {x : ℕ} {l : List ℕ} → Zeros (x ∷ l) → Zeros l
-      rest {x} {l} q = cc
-
-      whole : {x : ℕ} {l : List ℕ} → x ≡ 0 → Zeros l → Zeros (x ∷ l)
-      whole {x} {l} e q = cc
-
-  pub zeros_end : length cells ≤ i → (eqb any 0 ≡ true) ↔ Zeros (drop from cells)
-  zeros_end h = (
-    (λ e. z.left.1 (eqb-true any 0 e, rw (drop_of_length-le cells h) refl)),
-    (λ a. eq-eqb any 0 (z.left.0 a).0),
-  )
-
-pub ruleset zeroing = (rules, zeros_start, zeros_next, zeros_end)
 
 module _ {A : Type 0} (row : A → List ℕ) (Valid : A → Type 0) where
   -- no item: zeros alone

@@ -7,6 +7,7 @@ pub mod Basics
 pub mod BufferLaws
 pub mod Tabulate
 pub mod Tables
+pub mod Zeroing
 pub mod Encodes
 pub mod Accepted
 pub mod PairRows

@@ -1,17 +1,18 @@
 -- Laws of filling a buffer row by row. Assumes nothing.
-use Prim.Native.Nat.{ℕ, zero, suc, ◌+◌, ◌-◌, ◌≤◌, ◌<◌}
-use native.Mathlib.Nat.{add-zero, add-suc, zero-add}
-use native.Mathlib.Numerals.{add-one}
+use Prim.Native.Nat.{ℕ, zero, suc, ◌+◌, ◌-◌, ◌≤◌, min}
+use native.Mathlib.Nat.{add-zero, min_comm}
 use native.Mathlib.Omega.{arith}
-use borrow.Author.Rules.{rules}
 use mathlib.Core.List.{List, [], ◌∷◌, ◌++◌, append-nil, append_assoc}
 use mathlib.Core.Path.{◌≡◌, refl, sym, ap, ◌∙◌}
-use lib.ListN.{length, get_or, set, drop, replicate, length-append, length-set, drop_of_length-le}
-use lib.Seq.{sets, set_out, drop-cons}
+use lib.ListN.{length, set, take, drop, replicate, length-append, length-set}
+use lib.Seq.{sets, set_out}
+use borrow.Rule.Slice.PartMut.{put_mid}
+use Rattle.std.proofs.lemmas.List.{length-take-le, take_min, drop-drop}
+use Rattle.std.proofs.lemmas.List.Edits.{sets-eq}
 use Rattle.reading.specs.Pad.{pad}
 use Rattle.reading.specs.Reader.{puts}
 use Rattle.reading.specs.Lists.{rows}
-use Rattle.reading.specs.Inner.Table.{Table, table, put_row}
+use Rattle.reading.specs.Inner.Table.{table, put_row}
 use Rattle.reading.proofs.Pads.{pad-set, pad_nil}
 
 -- one run of stores and then another
@@ -41,34 +42,28 @@ module _ {A : Type 0} (row : A → List ℕ) where
       puts-rows items (sets l i (row a)) (i + length (row a))
       ∙ (λ j. table (sym (sets_append (row a) (rows row items) l i) j) (e j))
 
--- a run of stores that begins past the end stores nothing
-pub sets_out : (vs l : List ℕ) (i : ℕ) → length l ≤ i → sets l i vs ≡ l
-sets_out [] l i h = refl
-sets_out (v ∷ vs) l i h = rw (set_out l i v h) (sets_out vs l (suc i) (omega arith))
+module _ {A : Type 0} where
+  -- a run of stores that begins past the end stores nothing
+  pub sets_out : (vs l : List A) (i : ℕ) → length l ≤ i → sets l i vs ≡ l
+  sets_out [] l i h = refl
+  sets_out (v ∷ vs) l i h = rw (set_out l i v h) (sets_out vs l (suc i) (omega arith))
 
--- the loop that writes a run: what is left of it, written into the buffer as it is, is the whole
-pub record Writing (entry : List ℕ) (at : ℕ) (vs now : List ℕ) (i : ℕ) : Type 0 where
-  pub within : i ≤ length vs
-  pub long : length now ≡ length entry
-  pub rest : sets now (at + i) (drop i vs) ≡ sets entry at vs
+  -- of a run that is longer than the places left, the first ones are stored
+  pub sets_fitting : (vs l : List A) (i n : ℕ) → length l ≤ i + n → sets l i (take n vs) ≡ sets l i vs
+  sets_fitting [] l i zero h = refl
+  sets_fitting [] l i (suc n) h = refl
+  sets_fitting (v ∷ vs) l i zero h = sym (sets_out (v ∷ vs) l i (omega arith))
+  sets_fitting (v ∷ vs) l i (suc n) h = let e = length-set l i v in sets_fitting vs (set l i v) (suc i) n (omega arith)
 
-pub write_start : (entry : List ℕ) (at : ℕ) (vs : List ℕ) → Writing entry at vs entry 0
-write_start entry at vs = record { within = omega arith; long = refl; rest = rw add-zero }
+  -- the part of a buffer from `at` on as it is after n values were copied into it
+  pub copied : (entry values now : List A) (at n k : ℕ) → at ≤ length entry → n ≡ min (length values) (length entry - at) → k ≡ n → now ≡ take n values
+      → put_mid at k entry now ≡ sets entry at values
+  copied entry values now at n k h m e c =
+      let short : now ≡ take (length entry - at) values = c ∙ ap (λ (j : ℕ). take j values) (m ∙ min_comm (length values) (length entry - at)) ∙ take_min (length entry - at) values in
+      let long : length now ≡ k = rw (c, e) (length-take-le n values (omega arith)) in
+      let whole : sets entry at now ≡ sets entry at values = rw short (sets_fitting values entry at (length entry - at) (omega arith)) in
+      let behind : drop k (drop at entry) ≡ drop (at + length now) entry = rw long (drop-drop k at entry) in
+      ap (λ (l : List A). take at entry ++ (now ++ l)) behind ∙ sym (append_assoc (take at entry) now _) ∙ sym (sets-eq now entry at (omega arith)) ∙ whole
 
-pub write_turn : (entry : List ℕ) (at : ℕ) (vs now : List ℕ) (i : ℕ) (now' : List ℕ) → i < length vs → Writing entry at vs now i
-    → now' ≡ set now (at + i) (get_or vs i 0) → Writing entry at vs now' (i + 1)
-write_turn entry at vs now i now' h w e =
-    let a : at + (i + 1) ≡ suc (at + i) = omega arith in
-    record {
-      within = omega arith;
-      long = rw e (simp length-set w.long);
-      rest = rw (e, a, add-one) (ap (sets now (at + i)) (sym (drop-cons vs i 0 h)) ∙ w.rest);
-    }
-
-pub write_end : (entry : List ℕ) (at : ℕ) (vs now : List ℕ) (i : ℕ) → length vs ≤ i → Writing entry at vs now i → now ≡ sets entry at vs
-write_end entry at vs now i h w = sym (ap (sets now (at + i)) (drop_of_length-le vs h)) ∙ w.rest
-
-pub sets_past : (l : List ℕ) (i : ℕ) (vs : List ℕ) → length l ≤ i → l ≡ sets l i vs
-sets_past l i vs h = sym (sets_out vs l i h)
-
-pub ruleset writing = (rules, sets_past, write_start, write_turn, write_end)
+  pub sets_past : (l : List A) (i : ℕ) (vs : List A) → length l ≤ i → l ≡ sets l i vs
+  sets_past l i vs h = sym (sets_out vs l i h)

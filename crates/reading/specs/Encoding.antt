@@ -4,9 +4,13 @@ use Rattle.std.specs.Prelude.{ℕ, ◌≤◌, List, [], ◌∷◌, ◌≡◌, le
 use Rattle.reading.specs.Lists.{rows}
 use Rattle.reading.specs.Pad.{pad}
 
+-- nothing but this value
+abbrev pub AllAre : {A : Type 0} → A → List A → Type 0
+AllAre value cells = cells ≡ replicate (length cells) value
+
 -- nothing but zeros
 abbrev pub Zeros : List ℕ → Type 0
-Zeros cells = cells ≡ replicate (length cells) 0
+Zeros = AllAre 0
 
 module _ {A : Type 0} where
   -- each item is valid

@@ -7,3 +7,4 @@ pub mod Lists
 pub mod Encoding
 pub mod Counted
 pub mod Inner
+pub mod Numbers

@@ -1,7 +1,6 @@
 // What every reader of content shares. The definitions are in specs/, their laws in proofs/.
 #![tactic(auto)]
 
-pub mod buffers; // total functions on lent buffers: clear, put, get
+pub mod buffers; // total functions on lent buffers: clear, put, get, write
+pub mod number; // the numbers that buffers hold
 pub mod zeros; // whether a buffer holds zeros alone from a place on
-pub mod widths; // numbers in other types
-pub mod lower; // the lower of two numbers

@@ -1,40 +1,18 @@
-// Whether a lent buffer holds zeros alone from a place on. All numbers are joined by a bitwise or, which is tested once: a loop without a way out
-// takes many numbers a step.
+// Whether a lent buffer holds zeros alone from a place on. All numbers are joined, which is tested once: a loop without a way out takes many numbers a step.
 ghost use Rattle.std.specs.Prelude.{true, ◌↔◌, ◌≡◌, drop};
-ghost use Rattle.reading.specs.Encoding.{Zeros};
+ghost use Rattle.reading.specs.Encoding.{AllAre};
 
-pub fn zeros_u8(buffer: &[u8], from: usize) -> bool
-    ensures { (result ≡ true) ↔ Zeros (drop from buffer.now) }
-{
-    let mut any: u8 = 0;
-    let mut i = from;
-    while i < buffer.len() {
-        any = any | buffer[i];
-        i = i + 1;
-    }
-    any == 0
-}
+use crate::number::Number;
 
-pub fn zeros_u16(buffer: &[u16], from: usize) -> bool
-    ensures { (result ≡ true) ↔ Zeros (drop from buffer.now) }
+pub fn zeros<T: Number>(buffer: &[T], from: usize) -> bool
+    ensures { (result ≡ true) ↔ AllAre T.ZERO (drop from buffer.now) }
 {
-    let mut any: u16 = 0;
-    let mut i = from;
-    while i < buffer.len() {
-        any = any | buffer[i];
-        i = i + 1;
+    if buffer.len() <= from {
+        return true;
     }
-    any == 0
-}
-
-pub fn zeros_u32(buffer: &[u32], from: usize) -> bool
-    ensures { (result ≡ true) ↔ Zeros (drop from buffer.now) }
-{
-    let mut any: u32 = 0;
-    let mut i = from;
-    while i < buffer.len() {
-        any = any | buffer[i];
-        i = i + 1;
+    let mut any = T::ZERO;
+    for number in &buffer[from..] {
+        any = any.join(*number);
     }
-    any == 0
+    any.is_zero()
 }
