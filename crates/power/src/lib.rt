@@ -23,21 +23,11 @@ fn grows_within(base: u32, exponent: u32, bound: u32) -> bool
 {
     let most = bound as u64;
     let mut power: u64 = 1;
-    let mut done: u32 = 0;
-    while done < exponent {
+    for done in 0..exponent {
         if most < power {
             return false;
         }
-        power = times(power, base);
-        done += 1;
+        power *= base as u64;
     }
     power <= most
-}
-
-// The product of two numbers of 32 bits.
-fn times(power: u64, base: u32) -> u64
-    requires { power < 4294967296 }
-    ensures { result ≡ power * base }
-{
-    power * base as u64
 }

