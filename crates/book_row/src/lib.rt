@@ -8,15 +8,13 @@ ghost use Rattle.std.specs.Prelude.{◌≡◌, ◌<◌};
 ghost use Rattle.book.specs.Layout.{book_width, number_at, dimensions_at, entries_at, first_entry_at, lookup_at, lone_at};
 
 use book::WIDTH;
-use reading::widths::wide_u32;
 
 // Number `column` of a book's row.
 fn number(books: &[u32], book: u32, column: usize) -> u32
     requires { column < book_width }
     ensures { result ≡ number_at books.now book column }
 {
-    let place = WIDTH * wide_u32(book) + column;
-    reading::buffers::get_u32(books, place)
+    reading::buffers::get(books, WIDTH * book as usize + column)
 }
 
 pub fn dimensions(books: &[u32], book: u32) -> u32

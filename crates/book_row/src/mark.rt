@@ -3,16 +3,13 @@
 ghost use Rattle.std.specs.Prelude.{◌≡◌, true, ◌+◌, ◌<◌, ◌≤◌, length, take, drop};
 ghost use Rattle.codeword_assignment.specs.Book.{used, is_lone, first_used, lone_mark};
 
-use reading::widths::wide_u32;
-
 // The mark of a book whose `count` lengths lie from `first` on.
 pub fn lone_mark_at(lengths: &[u8], first: u32, count: u32) -> u32
     requires { first + count ≤ length lengths.now }
     ensures { result ≡ lone_mark (take count (drop first lengths.now)) }
 {
-    let start = wide_u32(first);
-    let end = start + wide_u32(count);
-    lone_mark(&lengths[start..end])
+    let start = first as usize;
+    lone_mark(&lengths[start..start + count as usize])
 }
 
 // The number of the sole used entry of length 1 plus one, or 0 where there is none.
@@ -31,12 +28,5 @@ fn first_used(lengths: &[u8]) -> usize
     requires { is_lone (used lengths.now) ≡ true }
     ensures { (result ≡ first_used lengths.now) × (result < length lengths.now) }
 {
-    let mut entry: usize = 0;
-    while entry < lengths.len() {
-        if lengths[entry] != 0 {
-            return entry;
-        }
-        entry = entry + 1;
-    }
-    entry
+    lengths.iter().position(|length| *length != 0).unwrap()
 }

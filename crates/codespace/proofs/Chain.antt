@@ -1,19 +1,17 @@
 -- The blocks and the free strings: walking up from the smallest block, the free strings are the blocks' and no others.
 -- Assumes nothing.
-use mathlib.Core.Bool.{Bool, true, false, not}
+use mathlib.Core.Bool.{Bool}
 use mathlib.Core.List.{List, [], ◌∷◌}
 use mathlib.Core.Option.{Option, none, some}
-use mathlib.Core.Path.{◌≡◌, refl, sym, ap, ◌∙◌}
-use mathlib.Core.Logic.{◌⊎◌, inl, inr, ⊎_elim}
-use Prim.Native.Nat.{ℕ, zero, suc, ◌+◌, ◌-◌, ◌*◌, ◌/◌, ◌^◌, ◌≤◌, ◌<◌}
-use native.Mathlib.Nat.{add-zero, add-suc, suc-add, pow-succ'}
+use mathlib.Core.Path.{◌≡◌, refl, ◌∙◌}
+use Prim.Native.Nat.{ℕ, zero, suc, ◌+◌, ◌*◌, ◌^◌, ◌≤◌, ◌<◌}
+use native.Mathlib.Nat.{add-zero, pow-succ'}
 use lib.Pow.{pow_pos, pow_mono}
 use native.Mathlib.Omega.{arith}
-use lib.Dec.{eqb}
 use borrow.Author.Tests.{lt-ltb, le-ltb}
 use Rattle.reading.specs.Least.{count}
 use Rattle.codespace.specs.Inner.Blocks.{vacant, Block, smallest, halve, block_above, keep}
-use Rattle.reading.proofs.Count.{Gap, Full, count_gap, count_full, count_mono, gap_cat, no_gap}
+use Rattle.reading.proofs.Count.{Gap, Full, count_gap, count_full, gap_cat, no_gap}
 
 -- a is a multiple of p
 abbrev pub Mult : ℕ → ℕ → Type 0

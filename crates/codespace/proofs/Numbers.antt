@@ -3,8 +3,8 @@ use mathlib.Core.List.{List, [], ◌∷◌, map, map-append}
 use mathlib.Core.Logic.{⊎_elim}
 use mathlib.Core.Option.{Option, none, some}
 use mathlib.Core.Path.{◌≡◌, refl, sym, ap, ◌∙◌}
-use Prim.Native.Nat.{ℕ, zero, suc, ◌-◌, ◌^◌, ◌≤◌, ◌<◌}
-use native.Mathlib.Nat.{le_of_suc-le-suc, sub_self}
+use Prim.Native.Nat.{ℕ, ◌+◌, ◌^◌, ◌≤◌, ◌<◌}
+use native.Mathlib.Numerals.{add-one}
 use native.Mathlib.Omega.{arith}
 use lib.Dec.{leb}
 use lib.ListN.{length, get_or, set, take, replicate, length-map, length-set, length-replicate}
@@ -67,22 +67,18 @@ full_is bs g n e =
 numbers_length : (ls : List ℕ) → length (map number (answers [] ls)) ≡ length ls
 numbers_length ls = length-map (answers [] ls) number ∙ answers-length ls []
 
--- where a turn begins, with so many lengths left, and the places as they were before the first turn: the others are entered, their answers stand in
--- front, and zeros behind them
-pub record Entering (lengths numbers₀ numbers blocks : List ℕ) (left : ℕ) : Type 0 where
-  pub within : left ≤ length lengths
+-- where a turn begins, with the places as they were before the first turn: the lengths before i are entered, their answers stand in front, and zeros
+-- behind them
+pub record Entering (lengths numbers₀ numbers blocks : List ℕ) (i : ℕ) : Type 0 where
+  pub within : i ≤ length lengths
   pub room : length lengths ≤ length numbers
   pub long : length numbers ≡ length numbers₀
-  pub stored : numbers ≡ pad (length numbers₀) (map number (answers [] (take (length lengths - left) lengths)))
-  pub reached : Reached (take (length lengths - left) lengths) blocks
+  pub stored : numbers ≡ pad (length numbers₀) (map number (answers [] (take i lengths)))
+  pub reached : Reached (take i lengths) blocks
 
-pub entering_turn : (ls out₀ out bs : List ℕ) (left v : ℕ) (bs' : List ℕ) → 0 < left → Entering ls out₀ out bs left
-    → Entered bs (get_or ls (length ls - left) 0) v bs' → Entering ls out₀ (set out (length ls - left) v) bs' (left - 1)
-entering_turn ls out₀ out bs left v bs' h w t =
-    let m = w.within in
-    let i = length ls - left in
-    let l : i < length ls = omega arith in
-    let next : length ls - (left - 1) ≡ suc i = omega arith in
+pub entering_turn : (ls out₀ out bs : List ℕ) (i v : ℕ) (bs' : List ℕ) → i < length ls → Entering ls out₀ out bs i
+    → Entered bs (get_or ls i 0) v bs' → Entering ls out₀ (set out i v) bs' (i + 1)
+entering_turn ls out₀ out bs i v bs' h w t =
     let o = answer (after [] (take i ls)) (get_or ls i 0) in
     let done = map number (answers [] (take i ls)) in
     let n : i ≡ length done = sym (numbers_length (take i ls) ∙ length-take-le i ls (omega arith)) in
@@ -91,9 +87,9 @@ entering_turn ls out₀ out bs left v bs' h w t =
       room = simp length-set w.room;
       long = simp length-set w.long;
       stored =
-          rw (w.stored, t.ledger (take i ls) w.reached, next, take-suc ls i 0 l, answers_snoc (take i ls) [] (get_or ls i 0), map-append number (answers [] (take i ls)) (o ∷ []))
+          rw (w.stored, t.ledger (take i ls) w.reached, add-one, take-suc ls i 0 h, answers_snoc (take i ls) [] (get_or ls i 0), map-append number (answers [] (take i ls)) (o ∷ []))
           (pad-set (length out₀) done i (number o) n);
-      reached = rw (next, take-suc ls i 0 l) (t.reached (take i ls) w.reached);
+      reached = rw (add-one, take-suc ls i 0 h) (t.reached (take i ls) w.reached);
     }
 
 -- cleared places, and each way out
@@ -101,38 +97,40 @@ module _ (ls : List ℕ) (places : ℕ) (out₀ : List ℕ) (cleared : out₀ �
   all_places : length out₀ ≡ places
   all_places = ap length cleared ∙ length-replicate places 0
 
-  pub entering_start : (bs : List ℕ) → length ls ≤ length out₀ → Reached [] bs → Entering ls out₀ out₀ bs (length ls)
+  pub entering_start : (bs : List ℕ) → length ls ≤ length out₀ → Reached [] bs → Entering ls out₀ out₀ bs 0
   entering_start bs l r =
       record {
         within = omega arith;
         room = l;
         long = refl;
-        stored = rw sub_self (unfold answers in cleared ∙ sym (pad_nil places) ∙ ap (λ (n : ℕ). pad n []) (sym all_places));
-        reached = rw sub_self r;
+        stored = unfold answers in cleared ∙ sym (pad_nil places) ∙ ap (λ (n : ℕ). pad n []) (sym all_places);
+        reached = r;
       }
 
-  abbrev Balances : ℕ → List ℕ → Type 0
-  Balances r out = r ≡ 0 → Balanced ls (map outcome (take (length ls) out))
-
-  pub entered_short : length out₀ < length ls → ((17, out₀) ≡ entered_all ls places) × Balances 17 out₀
+  pub entered_short : length out₀ < length ls → (17, out₀) ≡ entered_all ls places
   unfolding entered_all
   entered_short l =
-      let n = all_places in (
-        rw (lt-ltb places (length ls) (omega arith), pad_nil places, cleared),
-        λ z. absurd (omega arith),
-      )
+      let n = all_places in
+      rw (lt-ltb places (length ls) (omega arith), pad_nil places, cleared)
 
-  pub entered_all_lem : (out bs : List ℕ) (left : ℕ) → left ≤ 0 → Entering ls out₀ out bs left → ((0, out) ≡ entered_all ls places) × Balances 0 out
-  unfolding entered_all
-  entered_all_lem out bs left h w =
-      let all = map number (answers [] ls) in
-      let m = all_places in
-      let n = numbers_length ls in
-      let k = w.room in
-      let l = w.long in
-      let e : out ≡ pad places all
-      = w.stored ∙ rw (all_places, take_all (length ls - left) ls (omega arith)) in
-      let t : take (length ls) out ≡ all = rw (e, ← n) (pad_front places all (omega arith)) in (
-        rw (le-ltb places (length ls) (omega arith), e),
-        λ z. rw (t, outcomes ls []) (balanced ls),
-      )
+  module _ (out bs : List ℕ) (i : ℕ) (h : length ls ≤ i) (w : Entering ls out₀ out bs i) where
+    all_stored : out ≡ pad places (map number (answers [] ls))
+    all_stored = w.stored ∙ rw (all_places, take_all i ls (omega arith))
+
+    pub all_entered : (0, out) ≡ entered_all ls places
+    unfolding entered_all
+    all_entered =
+        let m = all_places in
+        let k = w.room in
+        let l = w.long in
+        rw (le-ltb places (length ls) (omega arith), all_stored)
+
+    pub all_balanced : Balanced ls (map outcome (take (length ls) out))
+    all_balanced =
+        let all = map number (answers [] ls) in
+        let m = all_places in
+        let n = numbers_length ls in
+        let k = w.room in
+        let l = w.long in
+        let t : take (length ls) out ≡ all = rw (all_stored, ← n) (pad_front places all (omega arith)) in
+        rw (t, outcomes ls []) (balanced ls)

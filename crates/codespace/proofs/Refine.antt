@@ -4,19 +4,18 @@ use mathlib.Core.Bool.{Bool, true, false, not, ◌||◌}
 use mathlib.Core.List.{List, [], ◌∷◌}
 use mathlib.Core.Option.{Option, none, some}
 use mathlib.Core.Path.{◌≡◌, refl, sym, ap, ◌∙◌}
-use mathlib.Core.Logic.{◌⊎◌, inl, inr, ⊎_elim}
-use Prim.Native.Nat.{ℕ, zero, suc, ◌+◌, ◌-◌, ◌*◌, ◌/◌, ◌^◌, ◌≤◌, ◌<◌}
-use native.Mathlib.Nat.{add-zero, zero-add, div-eq_of_lt-le, div-mul-le_self, lt-div-mul-add, mul-div_cancel, le_of_mul-le-mul_right, mul-le-mul_right, add-sub_of_le}
+use mathlib.Core.Logic.{⊎_elim}
+use Prim.Native.Nat.{ℕ, suc, ◌+◌, ◌-◌, ◌*◌, ◌/◌, ◌^◌, ◌≤◌, ◌<◌}
+use native.Mathlib.Nat.{zero-add, div-eq_of_lt-le, div-mul-le_self, lt-div-mul-add, mul-div_cancel, le_of_mul-le-mul_right, mul-le-mul_right, add-sub_of_le}
 use native.Mathlib.Omega.{arith}
-use lib.Pow.{pow_pos, pow_mono, pow-add}
-use lib.Dec.{eqb}
+use lib.Pow.{pow_pos, pow-add}
 use borrow.Author.Tests.{eq-eqb, ne_eqb, eqb-true}
 use Rattle.reading.specs.Least.{count, lowest}
 use Rattle.reading.proofs.Least.{no_true, every_at, every_all, lowest_is, lowest-none, true_or_false}
 use Rattle.reading.proofs.Count.{Full, count_full, count_mono, count_zero}
-use Rattle.codespace.specs.Ledger.{Codeword, codeword, share, begins, taken, free, free_strings, free_codeword, is_length, IsLength, answer, enlist, after, answers}
+use Rattle.codespace.specs.Ledger.{Codeword, codeword, share, begins, taken, free, free_codeword, is_length, answer, enlist, after, answers}
 use Rattle.codespace.specs.Inner.Blocks.{vacant, Block, block_above, block_for, value_of, rest_of, enter_answer, enter_blocks, run_answers, run_blocks}
-use Rattle.codespace.proofs.Lengths.{is_length_lem, length_is}
+use Rattle.codespace.proofs.Lengths.{length_is}
 use Rattle.codespace.proofs.Chain.{Chain, Less, Taken, Provided, block_above_ok}
 
 -- a string begins with the codeword of value v exactly if it is one of the p strings from v * p on

@@ -3,18 +3,18 @@
 use mathlib.Core.Bool.{Bool, true, false, not, ◌||◌}
 use mathlib.Core.List.{List, [], ◌∷◌, ◌++◌}
 use mathlib.Core.Option.{Option, none, some}
-use mathlib.Core.Path.{◌≡◌, refl, sym, ap, ◌∙◌}
-use mathlib.Core.Logic.{◌⊎◌, ⊎_elim, ◌↔◌}
+use mathlib.Core.Path.{◌≡◌, refl, sym, ◌∙◌}
+use mathlib.Core.Logic.{⊎_elim, ◌↔◌}
 use Prim.Native.Nat.{ℕ, zero, suc, ◌+◌, ◌-◌, ◌*◌, ◌^◌, ◌≤◌, ◌<◌}
 use native.Mathlib.Nat.{add-zero, zero-add}
 use native.Mathlib.Omega.{arith}
 use lib.ListN.{replicate}
 use Rattle.reading.specs.Least.{one, count, lowest, Least}
-use Rattle.reading.proofs.Least.{no_true, true_or_false, lowest_ok, IsLowest}
-use Rattle.reading.proofs.Count.{Gap, Full, count_gap, count_full, count_agree, count_zero, count_none, no_gap}
+use Rattle.reading.proofs.Least.{true_or_false, lowest_ok, IsLowest}
+use Rattle.reading.proofs.Count.{Full, count_gap, count_full, count_agree, count_zero, count_none, no_gap}
 use Rattle.codespace.specs.Ledger.{Codeword, codeword, share, begins, taken, free, free_strings, free_codeword, is_length, IsLength, answer, enlist, after, answers}
 use Rattle.codespace.specs.Claims.{accepted, accepted_share, starts, starts_with}
-use Rattle.codespace.specs.Inner.Blocks.{vacant, Block, block_above, block_for, value_of, rest_of, enter_answer, enter_blocks, run_answers, run_blocks, empty_blocks}
+use Rattle.codespace.specs.Inner.Blocks.{vacant, Block, block_above, block_for, value_of, enter_answer, run_answers, run_blocks, empty_blocks}
 use Rattle.codespace.proofs.Lengths.{is_length_lem, length_is}
 use Rattle.codespace.proofs.Chain.{Chain, end, gone, occupied, Next, Provided, block_above_ok}
 use Rattle.codespace.proofs.Refine.{less, begins_then, codeword_full, codeword_count, whole, ends, enter_ok, run_ok}

@@ -2,9 +2,9 @@
 -- It is fed the lengths alone and keeps the list of codewords handed out, at first none. A string is one of the 2 ^ 32 strings of
 -- 32 bits, as a number: the leftmost bit, which is read first, is the most significant.
 -- It counts and searches among all strings. That says what is meant, and is never computed.
-use Rattle.std.specs.Prelude.{Bool, true, false, cond, not, ◌&&◌, ◌||◌, List, [], ◌∷◌, ℕ, ◌+◌, ◌-◌, ◌/◌, ◌^◌, ◌≤◌, eqb, leb}
+use Rattle.std.specs.Prelude.{Bool, false, cond, not, ◌&&◌, ◌||◌, List, [], ◌∷◌, ℕ, ◌-◌, ◌/◌, ◌^◌, ◌≤◌, eqb, leb}
 use Rattle.std.proofs.Math.Option.{Option, none, some}
-use Rattle.reading.specs.Least.{one, count, every, lowest}
+use Rattle.reading.specs.Least.{count, every, lowest}
 
 -- a codeword: how many bits it has, and the bits as a number, the first the most significant
 pub record Codeword : Type 0 where

@@ -2,15 +2,15 @@
 // The free strings of 32 bits are kept as at most one block of each size: blocks[h] is the first of 2^h free strings in a row, or VACANT.
 // A length takes the smallest block that is large enough, from its lower end; the upper halves that are cut off on the way down are the
 // blocks of the sizes between, which were vacant.
-ghost use Rattle.std.specs.Prelude.{◌≡◌, [], map, ◌-◌, ◌<◌, ◌≤◌};
+ghost use Rattle.std.specs.Prelude.{◌≡◌, [], map, ◌-◌, ◌<◌, ◌≤◌, IsOk};
 ghost use lib.ListN.{length, set, take};
 ghost use Rattle.codespace.specs.Claims.{Balanced};
 ghost use Rattle.codespace.specs.Inner.Blocks.{vacant, empty_blocks, enter_answer, Reached};
 ghost use Rattle.codespace.specs.Inner.Steps.{first_occupied, upper_halves};
 ghost use Rattle.codespace.specs.Answers.{outcome, is_none};
-ghost use Rattle.codespace.specs.Entering.{Entered, entered_all};
+ghost use Rattle.codespace.specs.Entering.{Entered, entering, entered_all};
 
-use reading::buffers::clear_u64;
+use reading::buffers::clear;
 
 // No string of 32 bits: one past the last. As an answer, a refusal.
 pub const VACANT: u64 = 4294967296;
@@ -29,14 +29,12 @@ fn smallest_block(blocks: &[u64; 33], height: usize) -> usize
     requires { height ≤ 32 }
     ensures { result ≡ first_occupied (33 - height) height blocks.now }
 {
-    let mut h = height;
-    while h < 33 {
+    for h in height..33 {
         if blocks[h] < VACANT {
             return h;
         }
-        h += 1;
     }
-    h
+    33
 }
 
 // The block of 2^from strings at `first` is gone, but for the upper halves that its first 2^height strings leave.
@@ -45,9 +43,7 @@ fn split_block(blocks: &mut [u64; 33], height: usize, from: usize, first: u64)
     ensures { blocks.new ≡ upper_halves height (from - height) first (set blocks.old from vacant) }
 {
     blocks[from] = VACANT;
-    let mut h = from;
-    while height < h {
-        h -= 1;
+    for h in (height..from).rev() {
         blocks[h] = first + (1 << h);
     }
 }
@@ -58,10 +54,7 @@ pub fn enter(blocks: &mut [u64; 33], length: u8) -> u64
     requires { lib.ListN.length blocks.old ≡ 33 }
     ensures { Entered blocks.old length result blocks.new }
 {
-    if length < 1 {
-        return VACANT;
-    }
-    if 32 < length {
+    if length < 1 || 32 < length {
         return VACANT;
     }
     let height = (32 - length) as usize;
@@ -82,22 +75,23 @@ pub fn is_full(blocks: &[u64; 33]) -> bool
     smallest_block(blocks, 0) >= 33
 }
 
-// Enters a list of lengths one by one, from an empty space (demand 3). 0, and `answers` has each answer as a number, the codeword or VACANT, and
-// zeros behind them; or 17 where there are fewer places than lengths, and all are zero.
-pub fn enter_lengths(lengths: &[u8], answers: &mut [u64]) -> u32
-    ensures answers_after { (result, answers.new) ≡ entered_all lengths.now (length answers.old) }
-    ensures balanced { result ≡ 0 → Balanced lengths.now (map outcome (take (length lengths.now) answers.new)) }
+// The lent list has fewer places than there are lengths: refusal 17.
+#[derive(Clone, Copy, Debug, PartialEq, Eq)]
+pub struct TooShort;
+
+// Enters a list of lengths one by one, from an empty space (demand 3): `answers` has each answer as a number, the codeword or VACANT, and zeros behind
+// them. Where there are fewer places than lengths, all are zero.
+pub fn enter_lengths(lengths: &[u8], answers: &mut [u64]) -> Result<(), TooShort>
+    ensures answers_after { (entering result, answers.new) ≡ entered_all lengths.now (length answers.old) }
+    ensures balanced { IsOk result → Balanced lengths.now (map outcome (take (length lengths.now) answers.new)) }
 {
-    clear_u64(answers);
+    clear(answers);
     if answers.len() < lengths.len() {
-        return 17;
+        return Err(TooShort);
     }
     let mut blocks = empty_space();
-    let mut left = lengths.len();
-    while 0 < left {
-        let next = lengths.len() - left;
-        answers[next] = enter(&mut blocks, lengths[next]);
-        left -= 1;
+    for (i, length) in lengths.iter().enumerate() {
+        answers[i] = enter(&mut blocks, *length);
     }
-    0
+    Ok(())
 }

@@ -1,7 +1,7 @@
 -- The program's space, as a model: the free strings are at most one block of each size. A block of height h is 2 ^ h strings in a row, the
 -- first a multiple of 2 ^ h: those that begin with one codeword of length 32 - h. The list has a place for each height from 0 up, which
 -- holds the block's first string, or `vacant`. (Any number that is no string counts as vacant.)
-use Rattle.std.specs.Prelude.{Bool, true, false, cond, List, [], ◌∷◌, ◌++◌, ◌≡◌, ℕ, zero, suc, ◌+◌, ◌-◌, ◌/◌, ◌^◌, ltb, replicate}
+use Rattle.std.specs.Prelude.{cond, List, [], ◌∷◌, ◌++◌, ◌≡◌, ℕ, zero, suc, ◌+◌, ◌-◌, ◌/◌, ◌^◌, ltb, replicate}
 use Rattle.std.proofs.Math.Option.{Option, none, some}
 use Rattle.codespace.specs.Ledger.{is_length}
 

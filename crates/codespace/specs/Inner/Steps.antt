@@ -1,5 +1,5 @@
 -- What the loops of `smallest_block` and `split_block` compute, by the places of the array.
-use Rattle.std.specs.Prelude.{Bool, true, false, cond, List, ℕ, zero, suc, ◌+◌, ◌^◌, ltb, get_or, set}
+use Rattle.std.specs.Prelude.{cond, List, ℕ, zero, suc, ◌+◌, ◌^◌, ltb, get_or, set}
 use Rattle.codespace.specs.Inner.Blocks.{vacant}
 
 -- the first of the n places from g on that holds a block, or g + n

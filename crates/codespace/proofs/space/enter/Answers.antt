@@ -1,4 +1,5 @@
 -- `codespace::space::enter` meets its contract: what the two loops find and leave is what the model finds and leaves. Assumes nothing.
+use mathlib.Core.Logic.{⊎_elim}
 use mathlib.Core.Path.{sym, ap, ◌∙◌}
 use native.Mathlib.Omega.{arith}
 use Rattle.codespace.specs.Ledger.{IsLength}
@@ -8,10 +9,7 @@ use Rattle.codespace.proofs.Steps.{outside_answer, outside_blocks, refused_answe
 use Rattle.codespace.proofs.space.enter.Goals as goal
 
 pub returns-then-length-lt1 : goal.returns-then-length-lt1
-returns-then-length-lt1 c = entered_so (outside_answer _ _ (λ k. let l = k.low in omega arith)) (outside_blocks _ _ (λ k. let l = k.low in omega arith))
-
-pub returns-then-length-gt32 : goal.returns-then-length-gt32
-returns-then-length-gt32 c = entered_so (outside_answer _ _ (λ k. let h = k.high in omega arith)) (outside_blocks _ _ (λ k. let h = k.high in omega arith))
+returns-then-length-lt1 c = let n : IsLength c.args.length → ⊥ = λ k. let l = k.low in let h = k.high in ⊎_elim (λ a. omega arith) (λ b. omega arith) c.then-length-lt1.either in entered_so (outside_answer _ _ n) (outside_blocks _ _ n)
 
 pub returns-then-from-ge33 : goal.returns-then-from-ge33
 returns-then-from-ge33 c =

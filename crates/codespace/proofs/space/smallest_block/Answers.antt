@@ -1,6 +1,5 @@
 -- `codespace::space::smallest_block` meets its contract: what is left to search finds what the whole search finds. Assumes nothing.
-use Prim.Native.Nat.{◌-◌}
-use mathlib.Core.Path.{sym, ◌∙◌}
+use mathlib.Core.Path.{◌≡◌, sym, ◌∙◌}
 use native.Mathlib.Omega.{arith}
 use Rattle.codespace.proofs.Steps.{occupied_here, occupied_on, occupied_end}
 use Rattle.codespace.proofs.space.smallest_block.Goals as goal
@@ -15,4 +14,5 @@ loop-h-preserved c =
 
 pub returns : goal.returns
 returns c =
-    sym (occupied_end c.args.blocks.now c.loop-h.h c.loop-h-test.false) ∙ c.loop-h.invariant.2
+    let e : c.loop-h.h ≡ 33 = omega arith in
+    sym e ∙ (sym (occupied_end c.args.blocks.now c.loop-h.h c.loop-h-test.false) ∙ c.loop-h.invariant.2)

@@ -6,6 +6,3 @@ use Rattle.codespace.proofs.space.smallest_block.Given as goal
 
 abbrev pub invariant-loop-h : goal.invariant-loop-h
 invariant-loop-h l = (l.height ≤ l.h) × (l.h ≤ 33) × (first_occupied (33 - l.h) l.h l.blocks ≡ first_occupied (33 - l.height) l.height l.blocks)
-
-abbrev pub decreases-loop-h : goal.decreases-loop-h
-decreases-loop-h l = 33 - l.h

@@ -6,6 +6,3 @@ use Rattle.codespace.proofs.space.split_block.Given as goal
 
 abbrev pub invariant-loop-h : goal.invariant-loop-h
 invariant-loop-h l = (l.height ≤ l.h) × (l.h ≤ l.from) × (l.blocks ≡ upper_halves l.h (l.from - l.h) l.first l.initial.blocks)
-
-abbrev pub decreases-loop-h : goal.decreases-loop-h
-decreases-loop-h l = l.h
