@@ -1,15 +1,13 @@
 -- The line rule gives at every place what the running error of 000 section 9.2.7 gives. Assumes nothing.
-use Prim.Native.Nat.{ℕ, zero, suc, ◌+◌, ◌-◌, ◌*◌, ◌/◌, ◌%◌, ◌≤◌, ◌<◌, min}
+use Prim.Native.Nat.{ℕ, zero, suc, ◌+◌, ◌-◌, ◌*◌, ◌/◌, ◌%◌, ◌≤◌, ◌<◌}
 use native.Mathlib.Nat.{mul-suc, mul-zero, zero-div, zero-mod, div-add-mod', mod-lt, add-mul}
 use native.Mathlib.Omega.{arith}
-use mathlib.Core.Bool.{Bool, true, false, cond}
-use mathlib.Core.Logic.{◌⊎◌, ⊎_elim}
+use mathlib.Core.Logic.{⊎_elim}
 use mathlib.Core.Path.{◌≡◌, refl, sym, ap, ◌∙◌}
 use lib.Arith.{digits_div, digits_mod}
-use lib.Dec.{ltb, leb}
 use lib.IntN.{ℤ, pos, negsuc, neg_ℤ, nat_abs, ◌+ℤ◌, ◌-ℤ◌, +ℤ_assoc, +ℤ_idr, neg_ℤ-+ℤ}
-use lib.Signed.{lt_z, quot_z}
-use borrow.Author.Tests.{lt-ltb, le-ltb, le-leb, lt-leb}
+use lib.Signed.{lt_z}
+use borrow.Author.Tests.{le-ltb, le-leb, lt-leb}
 use Rattle.reading.proofs.Least.{lt_or_le}
 use Rattle.floor_line.specs.Line.{offset, line}
 use Rattle.floor_line.specs.Inner.LineHeight.{difference}

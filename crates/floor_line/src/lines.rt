@@ -7,10 +7,7 @@ ghost use Rattle.floor_line.specs.Inner.LineHeight.{line_height};
 fn offset(x0: u32, x1: u32, ady: u32, x: u32) -> u32
     ensures { result ≡ rule.offset x0 x1 ady x }
 {
-    if x1 <= x0 {
-        return 0;
-    }
-    if x <= x0 {
+    if x1 <= x0 || x <= x0 {
         return 0;
     }
     if x1 <= x {
@@ -24,7 +21,8 @@ pub fn line_height(x0: u32, h0: u32, x1: u32, h1: u32, x: u32) -> u32
     ensures { result ≡ line_height x0 h0 x1 h1 x }
 {
     if h1 < h0 {
-        return h0 - offset(x0, x1, h0 - h1, x);
+        h0 - offset(x0, x1, h0 - h1, x)
+    } else {
+        h0 + offset(x0, x1, h1 - h0, x)
     }
-    h0 + offset(x0, x1, h1 - h0, x)
 }

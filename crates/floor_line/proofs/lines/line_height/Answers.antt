@@ -10,7 +10,7 @@ pub returns-then-h1-h0 : goal.returns-then-h1-h0
 returns-then-h1-h0 c = fallen _ _ _ _ _ _ (omega arith) c.offset.ensures
 
 pub overflow_add-result : goal.overflow_add-result
-overflow_add-result c = let m = offset_most _ _ _ _ _ c.offset-2.ensures in omega arith
+overflow_add-result c = let m = offset_most _ _ _ _ _ c.offset-else-h1-h0.ensures in omega arith
 
-pub returns : goal.returns
-returns c = risen _ _ _ _ _ _ (omega arith) c.offset-2.ensures
+pub returns-else-h1-h0 : goal.returns-else-h1-h0
+returns-else-h1-h0 c = risen _ _ _ _ _ _ (omega arith) c.offset-else-h1-h0.ensures

@@ -2,13 +2,15 @@
 use Rattle.reading.proofs.Basics.{product_fits}
 use Rattle.floor_line.proofs.LineLaws.{offset_none, offset_left, offset_whole, offset_part, small_part}
 use native.Mathlib.Omega.{arith}
+use Rattle.floor_line.proofs.lines.offset.Goals.{then-x1-x0-via-then-x1-x0, then-x1-x0-via-else-x1-x0+then-x-x0}
 use Rattle.floor_line.proofs.lines.offset.Goals as goal
 
 pub returns-then-x1-x0 : goal.returns-then-x1-x0
-returns-then-x1-x0 c = offset_none _ _ _ _ (omega arith)
-
-pub returns-then-x-x0 : goal.returns-then-x-x0
-returns-then-x-x0 c = offset_left _ _ _ _ (omega arith)
+returns-then-x1-x0 c =
+    elim c.then-x1-x0.branch [
+      | then-x1-x0-via-then-x1-x0 w ↦ offset_none _ _ _ _ (omega arith)
+      | then-x1-x0-via-else-x1-x0+then-x-x0 w ↦ offset_left _ _ _ _ (omega arith)
+    ]
 
 pub returns-then-x1-x : goal.returns-then-x1-x
 returns-then-x1-x c = offset_whole _ _ _ _ (omega arith) (omega arith)

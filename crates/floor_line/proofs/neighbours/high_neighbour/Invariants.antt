@@ -2,12 +2,9 @@
 use Rattle.floor_line.specs.Neighbours.{takes_high, high_neighbour}
 use Rattle.floor_line.specs.Search.{searched}
 use lib.ListN.{get_or}
-use Prim.Native.Nat.{◌≤◌, ◌<◌, ◌-◌}
+use Prim.Native.Nat.{◌<◌, ◌-◌}
 use mathlib.Core.Path.{◌≡◌}
 use Rattle.floor_line.proofs.neighbours.high_neighbour.Given as goal
 
 abbrev pub invariant-loop-k : goal.invariant-loop-k
-invariant-loop-k l = (l.k ≤ l.i) × (l.best < l.i) × (searched (takes_high l.x (get_or l.x l.i 0)) l.best l.k (l.i - l.k) ≡ high_neighbour l.x l.i)
-
-abbrev pub decreases-loop-k : goal.decreases-loop-k
-decreases-loop-k l = l.i - l.k
+invariant-loop-k l = (l.best < l.i) × (searched (takes_high l.x (get_or l.x l.i 0)) l.best l.k (l.i - l.k) ≡ high_neighbour l.x l.i)

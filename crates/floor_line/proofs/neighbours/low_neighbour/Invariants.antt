@@ -2,12 +2,9 @@
 use Rattle.floor_line.specs.Neighbours.{takes_low, low_neighbour}
 use Rattle.floor_line.specs.Search.{searched}
 use lib.ListN.{get_or}
-use Prim.Native.Nat.{◌≤◌, ◌<◌, ◌-◌}
+use Prim.Native.Nat.{◌<◌, ◌-◌}
 use mathlib.Core.Path.{◌≡◌}
 use Rattle.floor_line.proofs.neighbours.low_neighbour.Given as goal
 
 abbrev pub invariant-loop-j : goal.invariant-loop-j
-invariant-loop-j l = (l.j ≤ l.i) × (l.best < l.i) × (searched (takes_low l.x (get_or l.x l.i 0)) l.best l.j (l.i - l.j) ≡ low_neighbour l.x l.i)
-
-abbrev pub decreases-loop-j : goal.decreases-loop-j
-decreases-loop-j l = l.i - l.j
+invariant-loop-j l = (l.best < l.i) × (searched (takes_low l.x (get_or l.x l.i 0)) l.best l.j (l.i - l.j) ≡ low_neighbour l.x l.i)
