@@ -1,4 +1,3 @@
-pub mod FieldLaws
-pub mod PacketLaws
+pub mod SizeLaws
 pub mod SoundLaws
 pub mod Numbers

@@ -4,9 +4,8 @@ use native.Mathlib.Omega.{arith}
 use mathlib.Core.Bool.{not, ◌&&◌}
 use mathlib.Core.List.{List}
 use lib.Dec.{eqb, leb}
-use Rattle.reading.specs.Outcome.{refusal}
 use Rattle.reading.specs.Reader.{judged, mapped}
-use Rattle.reading.proofs.Outcomes.{Numbered, value, number, then_numbered, judged_numbered, mapped_numbered}
+use Rattle.reading.proofs.Outcomes.{Numbered, value, then_numbered, judged_numbered, mapped_numbered}
 use Rattle.bits.specs.Field.{field}
 use Rattle.bits.proofs.Numbers.{field_numbered}
 use Rattle.header.specs.Header.{opening, common_header, framing}

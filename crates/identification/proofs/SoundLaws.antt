@@ -1,33 +1,27 @@
 -- An accepted identity is sound, and the test of soundness is exact. Assumes nothing.
-use Prim.Native.Nat.{ℕ, zero, suc, ◌+◌, ◌-◌, ◌^◌, ◌≤◌, ◌<◌}
-use native.Mathlib.Numerals.{add-one}
+use Prim.Native.Nat.{ℕ, zero, suc, ◌+◌, ◌-◌, ◌^◌, ◌≤◌}
 use native.Mathlib.Omega.{arith}
-use borrow.Author.Rules.{rules}
-use borrow.Author.Tests.{le-leb, leb-true, leb-false, eq-eqb, ne_eqb, not-true, not-false}
+use borrow.Author.Tests.{le-leb, leb-true, leb-false}
 use mathlib.Core.Bool.{Bool, true, false, not, ◌&&◌}
 use mathlib.Core.List.{List}
 use mathlib.Core.Logic.{◌↔◌}
-use mathlib.Core.Path.{◌≡◌, refl, sym, ap, ◌∙◌, subst}
+use mathlib.Core.Path.{◌≡◌, refl, sym, ap, subst}
 use lib.Dec.{eqb, leb}
-use lib.ListN.{length, get_or, drop, drop_of_length-le}
-use lib.Seq.{drop-cons}
+use lib.IntN.{ℤ}
 use Rattle.reading.specs.Outcome.{Outcome, ok, bad}
 use Rattle.reading.specs.Reader.{judged, mapped}
 use Rattle.reading.proofs.Outcomes.{then_ok, judged-ok, ok_is}
 use Rattle.bits.specs.Field.{field}
 use Rattle.header.specs.Header.{common_header, framing}
 use Rattle.identification.specs.Identification.{stream, bitrates, block_size, block_sizes, identification}
-use Rattle.identification.specs.Inner.Answers.{identified}
 use Rattle.reading.specs.Lists.{listed}
-use Rattle.reading.proofs.Basics.{other_than_zero, tested_above_zero}
+use Rattle.reading.proofs.Basics.{tested_above_zero}
 use Rattle.reading.proofs.Least.{and_split, true_not_false}
-use Rattle.identification.specs.Sound.{allowed_sizes, Sound, is_sound, AcceptedSound}
+use Rattle.identification.specs.Sound.{allowed_sizes, Sound, is_sound}
 use Rattle.identification.specs.declared.Identity.{Identity}
-use Rattle.identification.specs.declared.Identified.{Identified}
-use Rattle.identification.specs.declared.Identified.TheVariants.{Accepted, Refused}
 use Rattle.identification.specs.declared.fields.Stream.{Stream}
 use Rattle.identification.specs.declared.fields.BlockSizes.{BlockSizes}
-use Rattle.identification.proofs.FieldLaws.{small, large}
+use Rattle.identification.proofs.SizeLaws.{small, large}
 
 -- the powers of two from 64 to 8192 are the allowed sizes
 power : (j : ℕ) → j ≤ 7 → listed (2 ^ (6 + j)) allowed_sizes ≡ true
@@ -101,6 +95,28 @@ sizes_fit s k {x} e =
     subst (λ (y : BlockSizes × ℕ). SizesFit y.0) same
     (record { first_size = size_allowed _ _ a.1; second_size = size_allowed _ _ order.0; in_order = leb-true _ _ order.1 })
 
+pub accepted_parts : (most : ℕ) (s : List ℕ) (k n : ℕ) {x : Stream × ℕ} {y : BlockSizes × ℕ} → stream most s k ≡ ok x → block_sizes s n ≡ ok y → (u v w : ℤ)
+    → Sound most (record {
+      channels = x.0.channels;
+      rate = x.0.rate;
+      bitrate_maximum = u;
+      bitrate_nominal = v;
+      bitrate_minimum = w;
+      blocksize0 = y.0.first;
+      blocksize1 = y.0.second;
+    })
+accepted_parts most s k n p q u v w =
+    let f = stream_fits _ _ _ p in
+    let g = sizes_fit _ _ q in
+    record {
+      some_channel = f.some_channel;
+      few_channels = f.few_channels;
+      some_rate = f.some_rate;
+      first_size = g.first_size;
+      second_size = g.second_size;
+      in_order = g.in_order;
+    }
+
 -- AN ACCEPTED IDENTITY IS SOUND
 pub accepted_sound : (most : ℕ) (s : List ℕ) {i : Identity} → identification most s ≡ ok i → Sound most i
 unfolding identification
@@ -110,78 +126,7 @@ accepted_sound most s {i} e =
     let b = then_ok (bitrates s a.0.1) _ a.2 in
     let c = then_ok (block_sizes s b.0.1) _ b.2 in
     let d = then_ok (framing s c.0.1) _ c.2 in
-    let f = stream_fits most s _ a.1 in
-    let g = sizes_fit s _ c.1 in
-    subst (Sound most) (ok_is d.2)
-    (record {
-      some_channel = f.some_channel;
-      few_channels = f.few_channels;
-      some_rate = f.some_rate;
-      first_size = g.first_size;
-      second_size = g.second_size;
-      in_order = g.in_order;
-    })
-
--- as the code asks it, beside the equation
-pub and_sound : (most : ℕ) (s : List ℕ) (r : Identified) → identified r ≡ identification most s → (identified r ≡ identification most s) × AcceptedSound most r
-unfolding identified AcceptedSound
-and_sound most s r e = (e, go r e)
-  where
-    go : (r : Identified) → identified r ≡ identification most s → AcceptedSound most r
-    go (Accepted i) e = accepted_sound most s (sym e)
-    go (Refused z) e = tt
-
--- the list of sizes, walked from place i on
-module _ (n : ℕ) (xs : List ℕ) (i : ℕ) where
-  pub listed_end : length xs ≤ i → listed n (drop i xs) ≡ false
-  unfolding listed
-  listed_end h = rw (drop_of_length-le xs h)
-
-  pub listed_here : i < length xs → n ≡ get_or xs i 0 → listed n (drop i xs) ≡ true
-  unfolding listed
-  listed_here h e = rw (drop-cons xs i 0 h, eq-eqb _ _ e)
-
-  pub listed_later : i < length xs → (n ≡ get_or xs i 0 → ⊥) → listed n (drop (i + 1) xs) ≡ listed n (drop i xs)
-  unfolding listed
-  listed_later h e = rw (drop-cons xs i 0 h, ne_eqb _ _ e, add-one)
-
--- each way out of the test
-module _ (most : ℕ) (i : Identity) where
-  not_sound : (Sound most i → ⊥) → (false ≡ true) ↔ Sound most i
-  not_sound n = (λ e. let z : ◌≡◌ {A = ℕ} 0 1 = cc in absurd (omega arith), λ w. absurd (n w))
-
-  pub no_channel : i.channels ≡ 0 → (false ≡ true) ↔ Sound most i
-  no_channel e = not_sound (λ w. let h = w.some_channel in omega arith)
-
-  pub many_channels : most < i.channels → (false ≡ true) ↔ Sound most i
-  many_channels e = not_sound (λ w. let h = w.few_channels in omega arith)
-
-  pub no_rate : i.rate ≡ 0 → (false ≡ true) ↔ Sound most i
-  no_rate e = not_sound (λ w. let h = w.some_rate in omega arith)
-
-  pub reversed : i.blocksize1 < i.blocksize0 → (false ≡ true) ↔ Sound most i
-  reversed e = not_sound (λ w. let h = w.in_order in omega arith)
-
-  pub first_unlisted : (b : Bool) → b ≡ listed i.blocksize0 allowed_sizes → not b ≡ true → (false ≡ true) ↔ Sound most i
-  first_unlisted b p e = not_sound (λ w. true_not_false _ w.first_size (sym p ∙ not-true b e))
-
-  pub last_tested : (i.channels ≡ 0 → ⊥) → i.channels ≤ most → (i.rate ≡ 0 → ⊥) → i.blocksize0 ≤ i.blocksize1
-      → (b : Bool) → b ≡ listed i.blocksize0 allowed_sizes → not b ≡ false
-      → (r : Bool) → r ≡ listed i.blocksize1 allowed_sizes → (r ≡ true) ↔ Sound most i
-  last_tested c f t o b p e r q = (
-    λ g.
-        record {
-          some_channel = other_than_zero i.channels c;
-          few_channels = f;
-          some_rate = other_than_zero i.rate t;
-          first_size = sym p ∙ not-false b e;
-          second_size = sym q ∙ g;
-          in_order = o;
-        },
-    λ w. q ∙ w.second_size,
-  )
-
-pub ruleset sound_laws = (rules, no_channel, many_channels, no_rate, reversed, first_unlisted, last_tested)
+    subst (Sound most) (ok_is d.2) (accepted_parts most s _ _ a.1 c.1 _ _ _)
 
 -- soundness and its test
 pub sound_test_lem : (most : ℕ) (i : Identity) → (is_sound most i ≡ true) ↔ Sound most i

@@ -1,9 +1,8 @@
 -- When an identity is sound: refusals 4 and 14 would not refuse it (01, "What the reader takes and gives").
-use Rattle.std.specs.Prelude.{ℕ, ◌≤◌, Bool, true, ◌&&◌, List, [], ◌∷◌, ◌≡◌, leb}
+use Rattle.std.specs.Prelude.{ℕ, ◌≤◌, Bool, true, ◌&&◌, List, [], ◌∷◌, ◌≡◌, leb, Result, Ok, Err}
 use Rattle.reading.specs.Lists.{listed}
 use Rattle.identification.specs.declared.Identity.{Identity}
-use Rattle.identification.specs.declared.Identified.{Identified}
-use Rattle.identification.specs.declared.Identified.TheVariants.{Accepted, Refused}
+use Rattle.bits.specs.declared.refusal.Refusal.{Refusal}
 
 -- the block sizes that Vorbis I allows (003, 4.2.2)
 abbrev pub allowed_sizes : List ℕ
@@ -29,6 +28,6 @@ is_sound most i =
     && leb i.blocksize0 i.blocksize1))))
 
 -- an accepted identity is sound
-unfoldable pub AcceptedSound : ℕ → Identified → Type 0
-AcceptedSound most (Accepted i) = Sound most i
-AcceptedSound most (Refused z) = Unit {0}
+unfoldable pub AcceptedSound : ℕ → Result Identity Refusal → Type 0
+AcceptedSound most (Ok i) = Sound most i
+AcceptedSound most (Err z) = Unit {0}

@@ -10,8 +10,7 @@ ghost use Rattle.identification.specs.Inner.Answers.{identified};
 ghost use Rattle.identification.specs.Sound.{AcceptedSound};
 
 use bits::kind::PacketKind;
-use bits::{Field, Refusal, Step};
-use fields::{BitratesRead, BlockSizesRead, StreamRead};
+use bits::refusal::Refusal;
 use limits::Limits;
 
 // What the identification packet says of a stream. Laid out for C, since the front door takes and answers it.
@@ -27,49 +26,27 @@ pub struct Identity {
     pub blocksize1: u32,
 }
 
-#[derive(Clone, Copy)]
-pub enum Identified {
-    Accepted(Identity),
-    Refused(Refusal),
-}
-
 // Reads an identification packet. Bits after the framing bit are ignored.
-pub fn read(packet: &[u8], limits: Limits) -> Identified
+#[tactic(auto, unfolding(crate::specs::Identification::identification, crate::specs::Inner::Answers::identified, crate::specs::Sound::AcceptedSound, bits::specs::Inner::Cursors::outcome, bits::specs::Inner::Cursors::stepped))]
+pub fn read(packet: &[u8], limits: Limits) -> Result<Identity, Refusal>
     ensures result_value { identified result ≡ identification limits.channels packet.now }
     ensures accepted_sound { AcceptedSound limits.channels result }
 {
     let kind = PacketKind {
         number: PacketKind::IDENTIFICATION,
     };
-    match header::common_header(packet, kind) {
-        Step::Refused(z) => Identified::Refused(z),
-        Step::Next(at_stream) => match fields::read_stream(packet, at_stream, limits.channels) {
-            StreamRead::Refused(z) => Identified::Refused(z),
-            StreamRead::Value(stream, at_bitrates) => match fields::read_bitrates(
-                packet,
-                at_bitrates,
-            ) {
-                BitratesRead::Refused(z) => Identified::Refused(z),
-                BitratesRead::Value(bitrates, at_sizes) => match fields::read_block_sizes(
-                    packet, at_sizes,
-                ) {
-                    BlockSizesRead::Refused(z) => Identified::Refused(z),
-                    BlockSizesRead::Value(sizes, at_framing) => match header::framing(
-                        packet, at_framing,
-                    ) {
-                        Field::Refused(z) => Identified::Refused(z),
-                        Field::Value(_, _) => Identified::Accepted(Identity {
-                            channels: stream.channels,
-                            rate: stream.rate,
-                            bitrate_maximum: bitrates.maximum,
-                            bitrate_nominal: bitrates.nominal,
-                            bitrate_minimum: bitrates.minimum,
-                            blocksize0: sizes.first,
-                            blocksize1: sizes.second,
-                        }),
-                    },
-                },
-            },
-        },
-    }
+    let at_stream = header::common_header(packet, kind)?;
+    let (stream, at_bitrates) = fields::read_stream(packet, at_stream, limits.channels)?;
+    let (bitrates, at_sizes) = fields::read_bitrates(packet, at_bitrates)?;
+    let (sizes, at_framing) = fields::read_block_sizes(packet, at_sizes)?;
+    let _ = header::framing(packet, at_framing)?;
+    Ok(Identity {
+        channels: stream.channels,
+        rate: stream.rate,
+        bitrate_maximum: bitrates.maximum,
+        bitrate_nominal: bitrates.nominal,
+        bitrate_minimum: bitrates.minimum,
+        blocksize0: sizes.first,
+        blocksize1: sizes.second,
+    })
 }
