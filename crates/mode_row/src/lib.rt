@@ -5,13 +5,14 @@ ghost use Rattle.std.specs.Prelude.{◌+◌, ◌*◌, ◌<◌, ◌≡◌, get_or
 ghost use Rattle.mode.specs.Layout.{mode_width};
 
 use mode::MODE_WIDTH;
+use reading::buffers::get;
 
 // The block flag of a mode: 0 for a short block, 1 for a long one.
 pub fn blockflag(modes: &[u8], mode: usize) -> u8
     requires { mode < 64 }
     ensures { result ≡ get_or modes.now (mode_width * mode) 0 }
 {
-    reading::buffers::get_u8(modes, MODE_WIDTH * mode)
+    get(modes, MODE_WIDTH * mode)
 }
 
 // The number of a mode's mapping.
@@ -19,5 +20,5 @@ pub fn mapping(modes: &[u8], mode: usize) -> u8
     requires { mode < 64 }
     ensures { result ≡ get_or modes.now (mode_width * mode + 1) 0 }
 {
-    reading::buffers::get_u8(modes, MODE_WIDTH * mode + 1)
+    get(modes, MODE_WIDTH * mode + 1)
 }

@@ -10,10 +10,7 @@ use mode::MODE_WIDTH;
 fn is_mode(blockflag: u8, mapping: u8, mapping_count: u32) -> bool
     ensures { (result ≡ true) ↔ ValidMode mapping_count (mode_of blockflag mapping) }
 {
-    if blockflag > 1 {
-        return false;
-    }
-    (mapping as u32) < mapping_count
+    blockflag <= 1 && (mapping as u32) < mapping_count
 }
 
 // Whether the table is the writing-out of `count` modes where `mapping_count` mappings are set up, zeros behind them.
@@ -24,8 +21,7 @@ pub fn are_modes(modes: &[u8], count: usize, mapping_count: u32) -> bool
     if modes.len() < MODE_WIDTH * count {
         return false;
     }
-    let mut i: usize = 0;
-    while i < count {
+    for i in 0..count {
         if !is_mode(
             modes[MODE_WIDTH * i],
             modes[MODE_WIDTH * i + 1],
@@ -33,7 +29,6 @@ pub fn are_modes(modes: &[u8], count: usize, mapping_count: u32) -> bool
         ) {
             return false;
         }
-        i = i + 1;
     }
-    reading::zeros::zeros_u8(modes, MODE_WIDTH * count)
+    reading::zeros::zeros(modes, MODE_WIDTH * count)
 }

@@ -6,12 +6,9 @@ use Rattle.reading.specs.Inner.Table.{table, put_row}
 use Rattle.bits.specs.Inner.Cursors.{position}
 use Rattle.mode.specs.Reading.{mode}
 use Rattle.mode.specs.Layout.{mode_row}
-use Prim.Native.Nat.{◌-◌, ◌≤◌}
+use Prim.Native.Nat.{◌≤◌}
 use Rattle.mode_reading.proofs.ReadLaws.{Reading}
 use Rattle.mode_reading.proofs.read_modes.Given as goal
 
 abbrev pub invariant-loop-i : goal.invariant-loop-i
 invariant-loop-i l = (l.count ≤ 64) × (length l.modes ≡ length l.initial.modes) × Reading l.mapping_count l.packet l.count (into (put_row mode_row) (many (mode l.mapping_count) l.count l.packet (position l.initial.k)) (table l.initial.modes 0)) l.i l.k l.modes
-
-abbrev pub decreases-loop-i : goal.decreases-loop-i
-decreases-loop-i l = l.count - l.i

@@ -1,5 +1,4 @@
 -- `mode_tables::recognise::are_modes` meets its contract, by RecogniseLaws and reading's PairRows. Assumes nothing.
-use Prim.Native.Nat.{◌-◌}
 use Rattle.mode_tables.proofs.RecogniseLaws.{recognise_laws}
 use Rattle.mode_tables.proofs.recognise.are_modes.Goals as goal
 
