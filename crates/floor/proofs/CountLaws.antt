@@ -15,7 +15,6 @@ use Rattle.reading.proofs.Least.{and_split}
 use Rattle.reading.proofs.Pads.{pad_get}
 use Rattle.floor.specs.Content.{Class, class_count, value_count}
 use Rattle.floor.specs.Layout.{class_row}
-use Rattle.floor.specs.ClassReading.{class}
 use Rattle.floor.specs.Inner.Counts.{classes_to, values_to}
 use Rattle.floor.proofs.ClassDecoded.{class_long}
 

@@ -1,30 +1,18 @@
 // How many classes and X values a floor has, counted along its partitions (004, "header decode", steps 5, 6 and 18 to 22). The reader counts them in its
 // buffers, the recogniser in the table.
-ghost use Rattle.std.specs.Prelude.{◌≡◌, ◌≤◌, max};
+ghost use Rattle.std.specs.Prelude.{◌≡◌, ◌≤◌};
 ghost use Rattle.floor.specs.Inner.Counts.{classes_to, values_to};
 
 use floor::CLASS_WIDTH;
 use reading::buffers;
-use reading::widths::wide_u16;
-
-fn larger(a: usize, b: usize) -> usize
-    ensures { result ≡ max a b }
-{
-    if a < b {
-        return b;
-    }
-    a
-}
 
 // One more than the greatest class that the first `partition_count` partitions name; 0 where there is none.
 pub fn class_count(partitions: &[u16], partition_count: usize) -> usize
     ensures { result ≡ classes_to partitions.now partition_count }
 {
     let mut most: usize = 0;
-    let mut i: usize = 0;
-    while i < partition_count {
-        most = larger(most, wide_u16(buffers::get_u16(partitions, i)) + 1);
-        i = i + 1;
+    for i in 0..partition_count {
+        most = most.max(buffers::get(partitions, i) as usize + 1);
     }
     most
 }
@@ -35,11 +23,9 @@ pub fn value_count(partitions: &[u16], partition_count: usize, classes: &[u16]) 
     ensures { result ≡ values_to classes.now partitions.now partition_count }
 {
     let mut sum: usize = 0;
-    let mut i: usize = 0;
-    while i < partition_count {
-        let class = wide_u16(buffers::get_u16(partitions, i));
-        sum = sum + wide_u16(buffers::get_u16(classes, CLASS_WIDTH * class));
-        i = i + 1;
+    for i in 0..partition_count {
+        let class = buffers::get(partitions, i) as usize;
+        sum += buffers::get(classes, CLASS_WIDTH * class) as usize;
     }
     sum
 }

@@ -14,21 +14,21 @@ pub fn partition_count(floors: &[u16], floor: usize) -> u16
     requires { floor < 64 }
     ensures { result ≡ get_or floors.now (floor_width * floor) 0 }
 {
-    buffers::get_u16(floors, FLOOR_WIDTH * floor)
+    buffers::get(floors, FLOOR_WIDTH * floor)
 }
 
 pub fn partition_class(floors: &[u16], floor: usize, partition: usize) -> u16
     requires { (floor < 64) × (partition < 31) }
     ensures { result ≡ get_or floors.now (floor_width * floor + partitions_place + partition) 0 }
 {
-    buffers::get_u16(floors, FLOOR_WIDTH * floor + PARTITIONS_PLACE + partition)
+    buffers::get(floors, FLOOR_WIDTH * floor + PARTITIONS_PLACE + partition)
 }
 
 pub fn class_dimensions(floors: &[u16], floor: usize, class: usize) -> u16
     requires { (floor < 64) × (class < 16) }
     ensures { result ≡ get_or floors.now (floor_width * floor + classes_place + class_width * class) 0 }
 {
-    buffers::get_u16(
+    buffers::get(
         floors,
         FLOOR_WIDTH * floor + CLASSES_PLACE + CLASS_WIDTH * class,
     )
@@ -38,7 +38,7 @@ pub fn class_subclasses(floors: &[u16], floor: usize, class: usize) -> u16
     requires { (floor < 64) × (class < 16) }
     ensures { result ≡ get_or floors.now (floor_width * floor + classes_place + class_width * class + 1) 0 }
 {
-    buffers::get_u16(
+    buffers::get(
         floors,
         FLOOR_WIDTH * floor + CLASSES_PLACE + CLASS_WIDTH * class + 1,
     )
@@ -49,7 +49,7 @@ pub fn class_master(floors: &[u16], floor: usize, class: usize) -> u16
     requires { (floor < 64) × (class < 16) }
     ensures { result ≡ get_or floors.now (floor_width * floor + classes_place + class_width * class + 2) 0 }
 {
-    buffers::get_u16(
+    buffers::get(
         floors,
         FLOOR_WIDTH * floor + CLASSES_PLACE + CLASS_WIDTH * class + 2,
     )
@@ -60,7 +60,7 @@ pub fn subclass_book(floors: &[u16], floor: usize, class: usize, subclass: usize
     requires { (floor < 64) × (class < 16) × (subclass < 8) }
     ensures { result ≡ get_or floors.now (floor_width * floor + classes_place + class_width * class + 3 + subclass) 0 }
 {
-    buffers::get_u16(
+    buffers::get(
         floors,
         FLOOR_WIDTH * floor + CLASSES_PLACE + CLASS_WIDTH * class + 3 + subclass,
     )
@@ -70,7 +70,7 @@ pub fn multiplier(floors: &[u16], floor: usize) -> u16
     requires { floor < 64 }
     ensures { result ≡ get_or floors.now (floor_width * floor + 2) 0 }
 {
-    buffers::get_u16(floors, FLOOR_WIDTH * floor + 2)
+    buffers::get(floors, FLOOR_WIDTH * floor + 2)
 }
 
 // How many X values the floor has, the two implied ones included. They lie from place 277 * floor + 212 on.
@@ -78,5 +78,5 @@ pub fn x_count(floors: &[u16], floor: usize) -> u16
     requires { floor < 64 }
     ensures { result ≡ get_or floors.now (floor_width * floor + 4) 0 }
 {
-    buffers::get_u16(floors, FLOOR_WIDTH * floor + 4)
+    buffers::get(floors, FLOOR_WIDTH * floor + 4)
 }

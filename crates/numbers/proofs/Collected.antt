@@ -1,4 +1,6 @@
 -- What a loop that filled a padded buffer with rows has left in it. Assumes nothing.
+use Rattle.bits.specs.declared.refusal.Refusal.{Refusal}
+use Rattle.std.specs.Prelude.{Result, Ok}
 use Prim.Native.Nat.{ℕ, ◌+◌}
 use mathlib.Core.List.{List, [], ◌∷◌, ◌++◌}
 use mathlib.Core.Path.{◌≡◌, refl, sym, ap, ◌∙◌}
@@ -13,8 +15,6 @@ use Rattle.reading.proofs.Readers.{mapped_ok}
 use Rattle.reading.proofs.Tables.{puts-rows, sets-pad, sets_append}
 use Rattle.reading.proofs.Accepted.{many_number}
 use Rattle.bits.specs.declared.Cursor.{Cursor}
-use Rattle.bits.specs.declared.Step.{Step}
-use Rattle.bits.specs.declared.Step.TheVariants.{Next}
 use Rattle.bits.specs.Inner.Cursors.{position, Wrote}
 use Rattle.bits.proofs.Steps.{wrote_ok}
 use Rattle.numbers.specs.Inner.Cell.{cell}
@@ -26,7 +26,7 @@ rows_cell [] = refl
 rows_cell (x ∷ l) = ap (λ (t : List ℕ). x ∷ t) (rows_cell l)
 
 -- the outcome of a function's answer may be written in another way
-pub wrote_as : {T : Type 0} {o o' : Outcome (T × ℕ)} {r : Step} {t : T} → o ≡ o' → Wrote o r t → Wrote o' r t
+pub wrote_as : {T : Type 0} {o o' : Outcome (T × ℕ)} {r : Result Cursor Refusal} {t : T} → o ≡ o' → Wrote o r t → Wrote o' r t
 wrote_as e w = rw e at w
 
 -- what was read, and what the buffer holds
@@ -38,9 +38,9 @@ pub record Collected {A : Type 0} (row : A → List ℕ) (o : Outcome (List A ×
 
 module _ {A : Type 0} (row : A → List ℕ) (o : Outcome (List A × ℕ)) (n : ℕ) where
   pub gathered : (entry : List ℕ) (at room : ℕ) (before : List ℕ) → entry ≡ pad room before → at ≡ length before
-      → {st : Step} {l : List ℕ} {q : ℕ} → Wrote (into (put_row row) o (table entry at)) st (table l q)
+      → {st : Result Cursor Refusal} {l : List ℕ} {q : ℕ} → Wrote (into (put_row row) o (table entry at)) st (table l q)
       → ((items : List A) (k : ℕ) → o ≡ ok (items, k) → length items ≡ n)
-      → {c : Cursor} → st ≡ Next c → Collected row o n c room before l
+      → {c : Cursor} → st ≡ Ok c → Collected row o n c room before l
   unfolding into
   gathered entry at room before e a {st} {l} {q} w long {c} t =
       let m = mapped_ok (λ items. puts (put_row row) items (table entry at)) o (wrote_ok w t) in
@@ -54,8 +54,8 @@ module _ {A : Type 0} (row : A → List ℕ) (o : Outcome (List A × ℕ)) (n : 
 
 -- after `many`
 pub collected : {A : Type 0} (row : A → List ℕ) (r : Reader A) (n : ℕ) (s : List ℕ) (k : ℕ) (entry : List ℕ) (at room : ℕ) (before : List ℕ) → entry ≡ pad room before → at ≡ length before
-    → {st : Step} {l : List ℕ} {q : ℕ} → Wrote (into (put_row row) (many r n s k) (table entry at)) st (table l q)
-    → {c : Cursor} → st ≡ Next c → Collected row (many r n s k) n c room before l
+    → {st : Result Cursor Refusal} {l : List ℕ} {q : ℕ} → Wrote (into (put_row row) (many r n s k) (table entry at)) st (table l q)
+    → {c : Cursor} → st ≡ Ok c → Collected row (many r n s k) n c room before l
 collected row r n s k entry at room before e a w t = gathered row (many r n s k) n entry at room before e a w (λ items j g. many_number r s n k g) t
 
 -- one run of stores and then another, as the code asks it

@@ -1,15 +1,13 @@
 -- `numbers::read_number` meets its contract. Assumes nothing.
-use Rattle.numbers.proofs.NumberLaws.{number_laws}
+use Rattle.bits.proofs.Answers.{wrote_back}
+use Rattle.numbers.proofs.NumberLaws.{number_laws, number_cut, number_read}
 use Rattle.numbers.proofs.read_number.Goals as goal
 
-pub narrow-requires : goal.narrow-requires
-narrow-requires c = search number_laws
+pub returns-in_err-v : goal.returns-in_err-v
+returns-in_err-v c = wrote_back c.from_residual.result _ c.from_residual.ensures.1 (number_cut _ _ _ c.field.ensures _ _ c.in_err-v.was)
 
-pub returns-in-Refused : goal.returns-in-Refused
-returns-in-Refused c = search number_laws
+pub overflow_cast-v : goal.overflow_cast-v
+overflow_cast-v c = search number_laws
 
-pub shape_of-numbers : goal.shape_of-numbers
-shape_of-numbers c = search number_laws
-
-pub returns-in-Value : goal.returns-in-Value
-returns-in-Value c = search number_laws
+pub returns : goal.returns
+returns c = number_read _ _ _ c.field.ensures c.in_ok-v.was _ _ _ c.put.ensures

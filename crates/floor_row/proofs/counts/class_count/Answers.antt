@@ -1,5 +1,4 @@
 -- `floor_row::counts::class_count` meets its contract. Assumes nothing.
-use Prim.Native.Nat.{◌-◌}
 use Rattle.floor_row.proofs.CountLaws.{count_laws}
 use Rattle.floor_row.proofs.counts.class_count.Goals as goal
 
@@ -8,6 +7,3 @@ loop-i-init c = search count_laws
 
 pub loop-i-preserved : goal.loop-i-preserved
 loop-i-preserved c = search count_laws
-
-pub returns : goal.returns
-returns c = search count_laws
