@@ -1,9 +1,10 @@
 -- The turns and ends of the functions of src/book.rt. Assumes nothing.
+use Rattle.std.specs.Prelude.{Ok, Err, IsOk, is_err}
 use mathlib.Core.Bool.{Bool, true, false, cond, not, ◌&&◌, or-true}
 use mathlib.Core.List.{List, [], ◌∷◌}
 use mathlib.Core.Option.{Option, none, some}
 use mathlib.Core.Path.{◌≡◌, refl, sym, ap, ◌∙◌}
-use mathlib.Core.Logic.{◌⊎◌, ⊎_elim}
+use mathlib.Core.Logic.{⊎_elim}
 use Prim.Native.Nat.{ℕ, suc, ◌+◌, ◌≤◌, ◌<◌}
 use native.Mathlib.Numerals.{add-one}
 use native.Mathlib.Omega.{arith}
@@ -19,9 +20,8 @@ use Rattle.reading.proofs.Tabulate.{tabulate-length}
 use Rattle.codespace.specs.Ledger.{free_strings, IsLength, answer, after}
 use Rattle.codespace.specs.Inner.Blocks.{vacant, enter_answer, enter_blocks, Reached}
 use Rattle.codespace.specs.Answers.{number, is_none}
-use Rattle.codeword_assignment.specs.Book.{used, is_used, entry_answer, or_zero, is_refused, first_refused, codeword_of, ledger_codewords, free_after, is_lone, verdict, assigned, written, Decodable, NextUsed}
-use Rattle.codeword_assignment.specs.declared.book.Assigned.{Assigned}
-use Rattle.codeword_assignment.specs.declared.book.Assigned.TheVariants.{Accepted, Overspecified, Underspecified, TooShort}
+use Rattle.codeword_assignment.specs.Book.{used, is_used, entry_answer, or_zero, is_refused, first_refused, codeword_of, ledger_codewords, free_after, is_lone, verdict, assigned, written, Decodable, NextUsed, Assigned, Accepted}
+use Rattle.codeword_assignment.specs.declared.book.Unassigned.TheVariants.{Overspecified, Underspecified, TooShort}
 use Rattle.codespace.proofs.Whole.{answer_are, refused_is}
 use Rattle.codespace.proofs.Claimed.{next_reached}
 use Rattle.codespace.proofs.Places.{Small, enter_small}
@@ -83,7 +83,7 @@ module _ (ls bs : List ℕ) (i v : ℕ) (h : i < length ls) (w : Assigning ls bs
         kept = λ u k. ⊎_elim (λ (j : u < i). w.kept u j) (λ (j : u ≡ i). rw j (kept_is l)) (below_suc (rw add-one at k));
       }
 
-  pub overspecified : vacant ≤ v → Overspecified i ≡ verdict ls
+  pub overspecified : vacant ≤ v → Err (Overspecified i) ≡ verdict ls
   unfolding verdict first_refused
   overspecified l = rw (lowest_is (is_refused ls) (length ls) i h (full_is l) w.kept)
 
@@ -118,7 +118,7 @@ module _ (ls bs : List ℕ) (i : ℕ) (h : length ls ≤ i) (w : Assigning ls bs
   unfolding verdict
   lone_accepted r e t = rw (none_refused, sym e ∙ t, or-true)
 
-  pub underspecified : (r q : Bool) → r ≡ is_none (enter_answer bs 32) → r ≡ false → q ≡ is_lone (used ls) → q ≡ false → Underspecified ≡ verdict ls
+  pub underspecified : (r q : Bool) → r ≡ is_none (enter_answer bs 32) → r ≡ false → q ≡ is_lone (used ls) → q ≡ false → Err Underspecified ≡ verdict ls
   unfolding verdict
   underspecified r q e t f s = rw (none_refused, sym full_test ∙ sym e ∙ t, sym f ∙ s)
 
@@ -202,7 +202,7 @@ module _ (ls : List ℕ) (r : ℕ) (n : NextUsed ls 0 r) where
 
 -- `assign_codewords`
 module _ (ls : List ℕ) (places : ℕ) where
-  too_short : places < length ls → TooShort ≡ assigned ls places
+  too_short : places < length ls → Err TooShort ≡ assigned ls places
   unfolding assigned
   too_short l = rw (lt-ltb places (length ls) l)
 
@@ -210,26 +210,27 @@ module _ (ls : List ℕ) (places : ℕ) where
   unfolding assigned
   assigned_is a l e = rw (le-ltb places (length ls) l) e
 
--- a refusal is not accepted
-pub over_accepted : (e : ℕ) → Overspecified e ≡ Accepted → ⊥
-over_accepted e q = let z : ◌≡◌ {A = ℕ} 0 1 = cc in omega arith
+-- an answer that is no refusal accepts
+accepted_is : (a : Assigned) → IsOk a → a ≡ Accepted
+accepted_is (Ok done) k = refl
+accepted_is (Err why) k = let z : ◌≡◌ {A = ℕ} 0 1 = cc in absurd (omega arith)
 
-pub under_accepted : Underspecified ≡ Accepted → ⊥
-under_accepted q = let z : ◌≡◌ {A = ℕ} 0 1 = cc in omega arith
+written_refused : (a : Assigned) (ls : List ℕ) (places : ℕ) → is_err a ≡ true → written a ls places ≡ replicate places 0
+written_refused (Ok done) ls places k = let z : ◌≡◌ {A = ℕ} 0 1 = cc in absurd (omega arith)
+written_refused (Err why) ls places k = refl
 
-pub short_accepted : TooShort ≡ Accepted → ⊥
-short_accepted q = let z : ◌≡◌ {A = ℕ} 0 1 = cc in omega arith
+not_accepted : (a : Assigned) → is_err a ≡ true → IsOk a → ⊥
+not_accepted (Ok done) k q = let z : ◌≡◌ {A = ℕ} 0 1 = cc in absurd (omega arith)
+not_accepted (Err why) k q = let z : ◌≡◌ {A = ℕ} 0 1 = cc in absurd (omega arith)
 
-written_refused : (a : Assigned) (ls : List ℕ) (places : ℕ) → (a ≡ Accepted → ⊥) → written a ls places ≡ replicate places 0
-written_refused Accepted ls places n = absurd (n refl)
-written_refused (Overspecified e) ls places n = refl
-written_refused Underspecified ls places n = refl
-written_refused TooShort ls places n = refl
+no_refusal : (a : Assigned) → is_err a ≡ false → IsOk a
+no_refusal (Ok done) k = refl
+no_refusal (Err why) k = let z : ◌≡◌ {A = ℕ} 0 1 = cc in absurd (omega arith)
 
 -- what `assign_codewords` promises of its answer and of what it leaves
-abbrev pub Promised : List ℕ → ℕ → Assigned → List ℕ → Type 0
-Promised ls places a out =
-    ((a ≡ assigned ls places) × (out ≡ written a ls places)) × (a ≡ Accepted → Decodable ls (take (length ls) out))
+pub record Promised (ls : List ℕ) (places : ℕ) (a : Assigned) (out : List ℕ) : Type 0 where
+  pub value : (a ≡ assigned ls places) × (out ≡ written a ls places)
+  pub decodable : IsOk a → Decodable ls (take (length ls) out)
 
 -- a list that was cleared
 module _ (places : ℕ) (codewords₀ : List ℕ) (cleared : codewords₀ ≡ replicate places 0) where
@@ -240,32 +241,34 @@ module _ (places : ℕ) (codewords₀ : List ℕ) (cleared : codewords₀ ≡ re
   still_cleared = cleared ∙ ap (λ (n : ℕ). replicate n 0) (sym all_places)
 
 module _ (ls : List ℕ) (places : ℕ) (codewords₀ : List ℕ) (cleared : codewords₀ ≡ replicate places 0) where
-  pub promised_short : length codewords₀ < length ls → Promised ls places TooShort codewords₀
+  pub promised_short : length codewords₀ < length ls → Promised ls places (Err TooShort) codewords₀
   promised_short l =
       let n = all_places places codewords₀ cleared in
-      ((too_short ls places (omega arith), cleared), (λ z. absurd (short_accepted z)))
+      record { value = (too_short ls places (omega arith), cleared); decodable = λ z. absurd (not_accepted (Err TooShort) refl z) }
 
   module _ (r : Assigned) (l : length ls ≤ length codewords₀) (e : r ≡ verdict ls) where
     fits : length ls ≤ places
     fits = let n = all_places places codewords₀ cleared in omega arith
 
-    pub promised_accepted : (out : List ℕ) → (r ≡ Accepted → out ≡ pad (length codewords₀) (ledger_codewords ls)) → r ≡ Accepted → Promised ls places r out
+    pub promised_accepted : (out : List ℕ) → (IsOk r → out ≡ pad (length codewords₀) (ledger_codewords ls)) → is_err r ≡ false → Promised ls places r out
     promised_accepted out w q =
-        let o : out ≡ pad places (ledger_codewords ls) = w q ∙ ap (λ (n : ℕ). pad n (ledger_codewords ls)) (all_places places codewords₀ cleared) in
+        let k = no_refusal r q in
+        let o : out ≡ pad places (ledger_codewords ls) = w k ∙ ap (λ (n : ℕ). pad n (ledger_codewords ls)) (all_places places codewords₀ cleared) in
         let n = codewords_length ls in
         let m = fits in
-        let t : take (length ls) out ≡ ledger_codewords ls = rw (o, ← n) (pad_front places (ledger_codewords ls) (omega arith)) in (
-          (assigned_is ls places r fits e, rw q o),
-          (λ z. rw t (accepted_decodable ls (sym e ∙ q))),
-        )
+        let t : take (length ls) out ≡ ledger_codewords ls = rw (o, ← n) (pad_front places (ledger_codewords ls) (omega arith)) in
+        record {
+          value = (assigned_is ls places r fits e, rw (accepted_is r k) o);
+          decodable = λ z. rw t (accepted_decodable ls (sym e ∙ accepted_is r k));
+        }
 
-    pub promised_refused : (a : Assigned) (codewords out : List ℕ) → (r ≡ Accepted → ⊥) → length codewords ≡ length codewords₀ → a ≡ r
-        → out ≡ replicate (length codewords) 0 → Promised ls places a out
-    promised_refused a codewords out m long q w =
-        let x : a ≡ Accepted → ⊥ = λ z. m (sym q ∙ z) in (
-          (
-            assigned_is ls places a fits (q ∙ e),
-            w ∙ ap (λ (k : ℕ). replicate k 0) (long ∙ all_places places codewords₀ cleared) ∙ sym (written_refused a ls places x),
-          ),
-          (λ z. absurd (x z)),
-        )
+    pub promised_refused : (codewords out : List ℕ) → is_err r ≡ true → length codewords ≡ length codewords₀ → out ≡ replicate (length codewords) 0
+        → Promised ls places r out
+    promised_refused codewords out q long w =
+        record {
+          value = (
+            assigned_is ls places r fits e,
+            w ∙ ap (λ (k : ℕ). replicate k 0) (long ∙ all_places places codewords₀ cleared) ∙ sym (written_refused r ls places q),
+          );
+          decodable = λ z. absurd (not_accepted r q z);
+        }

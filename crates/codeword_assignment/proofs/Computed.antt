@@ -1,26 +1,25 @@
 -- A book's codewords, verdict and free strings from the answers to its lengths, each in its place. The ledger's answers cannot be computed; the model's, which
 -- are the same, can: so worked figures are computed by these laws. Assumes nothing.
-use mathlib.Core.Bool.{Bool, true, false, cond, not, ◌&&◌, ◌||◌}
-use mathlib.Core.List.{List, [], ◌∷◌, map}
-use mathlib.Core.Option.{Option, none, some}
+use Rattle.std.specs.Prelude.{Err}
+use mathlib.Core.Bool.{true, false, cond, ◌&&◌, ◌||◌}
+use mathlib.Core.List.{List, [], map}
+use mathlib.Core.Option.{Option, none}
 use mathlib.Core.Path.{◌≡◌, refl, sym, ap, ◌∙◌}
 use mathlib.Core.Logic.{⊎_elim}
-use Prim.Native.Nat.{ℕ, zero, suc, ◌+◌, ◌-◌, ◌≤◌, ◌<◌}
+use Prim.Native.Nat.{ℕ, ◌-◌, ◌<◌}
 use native.Mathlib.Omega.{arith}
 use lib.Dec.{eqb}
-use lib.ListN.{length, get_or, take, length-map, get_or-map}
+use lib.ListN.{length, get_or, length-map, get_or-map}
 use lib.Seq.{ext_get_or}
 use borrow.Author.Tests.{eqb-true}
 use Rattle.reading.specs.Least.{lowest}
-use Rattle.reading.proofs.Least.{lowest_same, and_split, true_or_false}
-use Rattle.codespace.specs.Ledger.{is_length, answer, after, answers, free_strings}
+use Rattle.reading.proofs.Least.{lowest_same, true_or_false}
+use Rattle.codespace.specs.Ledger.{is_length, answer, answers}
 use Rattle.codespace.specs.Claims.{accepted}
-use Rattle.codespace.specs.Inner.Blocks.{smallest, block_above, block_for, enter_answer, enter_blocks, run_answers, empty_blocks}
 use Rattle.codespace.specs.Answers.{is_none}
-use Rattle.codeword_assignment.specs.Book.{used, is_used, entry_answer, or_zero, is_refused, first_refused, codeword_of, ledger_codewords, free_after, is_lone, refused_or, verdict, refusal}
-use Rattle.codeword_assignment.specs.declared.book.Assigned.{Assigned}
-use Rattle.codeword_assignment.specs.declared.book.Assigned.TheVariants.{Accepted, Underspecified}
-use Rattle.codespace.proofs.Whole.{answers_are, balance}
+use Rattle.codeword_assignment.specs.Book.{used, is_used, entry_answer, or_zero, is_refused, first_refused, codeword_of, ledger_codewords, free_after, is_lone, refused_or, verdict, Assigned, Accepted}
+use Rattle.codeword_assignment.specs.declared.book.Unassigned.TheVariants.{Underspecified}
+use Rattle.codespace.proofs.Whole.{balance}
 use Rattle.codespace.proofs.Claimed.{answers_at, answers-length}
 use Rattle.codeword_assignment.proofs.Laws.{after-used, handed_before, codewords_length, codewords_at}
 
@@ -28,7 +27,7 @@ use Rattle.codeword_assignment.proofs.Laws.{after-used, handed_before, codewords
 abbrev pub verdict_by : List ℕ → List (Option ℕ) → Assigned
 verdict_by ls os =
     refused_or (lowest (λ e. is_used ls e && is_none (get_or os e none)) (length ls))
-    (cond (eqb (4294967296 - accepted ls os) 0 || is_lone (used ls)) Accepted Underspecified)
+    (cond (eqb (4294967296 - accepted ls os) 0 || is_lone (used ls)) Accepted (Err Underspecified))
 
 module _ (ls : List ℕ) where
   entry_is : (e : ℕ) → e < length ls → entry_answer ls e ≡ get_or (answers [] ls) e none

@@ -9,7 +9,8 @@
 --   accepted-none-refused   where the verdict is `Accepted`
 --   accepted-decodable all of it for a book with the verdict `Accepted`
 -- Assumes nothing.
-use mathlib.Core.Bool.{Bool, true, false, cond, not, ◌&&◌, ◌||◌}
+use Rattle.std.specs.Prelude.{Err}
+use mathlib.Core.Bool.{Bool, true, false, cond, ◌&&◌, ◌||◌}
 use mathlib.Core.List.{List, [], ◌∷◌, ◌++◌}
 use mathlib.Core.Option.{Option, none, some}
 use mathlib.Core.Path.{◌≡◌, refl, sym, ap, ◌∙◌}
@@ -19,17 +20,16 @@ use native.Mathlib.Nat.{mul-div_cancel}
 use native.Mathlib.Omega.{arith}
 use lib.Dec.{eqb}
 use lib.ListN.{length, get_or, take, drop, get_or-eq_default}
-use lib.Pow.{pow_pos, pow-add, shr-shr}
+use lib.Pow.{pow_pos, shr-shr}
 use lib.Seq.{take-suc, take-length, split_at}
-use borrow.Author.Tests.{eq-eqb, ne_eqb, eqb-true, eqb-false}
-use Rattle.reading.specs.Least.{lowest}
-use Rattle.reading.proofs.Least.{true_or_false, true_not_false, lt_or_le, lowest_fails, below_suc}
+use borrow.Author.Tests.{eq-eqb, ne_eqb, eqb-true}
+use Rattle.reading.proofs.Least.{true_or_false, true_not_false, lt_or_le, lowest_fails}
 use Rattle.reading.proofs.Tabulate.{tabulate-length, tabulate_at}
-use Rattle.codespace.specs.Ledger.{Codeword, codeword, share, begins, taken, free_strings, is_length, IsLength, answer, enlist, after}
+use Rattle.codespace.specs.Ledger.{Codeword, codeword, share, begins, taken, is_length, IsLength, answer, enlist, after}
 use Rattle.codespace.specs.Inner.Blocks.{run_blocks, enter_answer, block_for, block_above, smallest, empty_blocks}
 use Rattle.codespace.specs.Answers.{is_none}
-use Rattle.codeword_assignment.specs.Book.{used, is_used, handed_out_before, entry_answer, or_zero, is_refused, first_refused, codeword_of, ledger_codewords, free_after, is_lone, refused_or, verdict, Begins, PrefixCode, Complete, Decodable}
-use Rattle.codeword_assignment.specs.declared.book.Assigned.TheVariants.{Accepted, Overspecified, Underspecified}
+use Rattle.codeword_assignment.specs.Book.{used, is_used, handed_out_before, entry_answer, or_zero, is_refused, first_refused, codeword_of, ledger_codewords, free_after, is_lone, refused_or, verdict, Begins, PrefixCode, Complete, Decodable, Accepted}
+use Rattle.codeword_assignment.specs.declared.book.Unassigned.TheVariants.{Underspecified}
 use Rattle.codespace.proofs.Whole.{some_says, was_free, all_taken, answer_are}
 use Rattle.codespace.proofs.Claimed.{after_snoc}
 
@@ -296,14 +296,14 @@ decodable ls ok z =
       lone = λ t e h. (lone_length ls t e h, lone_codeword ls t e h ok);
     }
 
-either : (ls : List ℕ) (a b : Bool) → eqb (free_after ls) 0 ≡ a → is_lone (used ls) ≡ b → cond (a || b) Accepted Underspecified ≡ Accepted
+either : (ls : List ℕ) (a b : Bool) → eqb (free_after ls) 0 ≡ a → is_lone (used ls) ≡ b → cond (a || b) Accepted (Err Underspecified) ≡ Accepted
     → (free_after ls ≡ 0) ⊎ (is_lone (used ls) ≡ true)
 either ls true b x y t = inl (eqb-true (free_after ls) 0 x)
 either ls false true x y t = inr y
 either ls false false x y t = let z : ◌≡◌ {A = ℕ} 0 1 = cc in absurd (omega arith)
 
 accepted_by_lem : (ls : List ℕ) (o : Option ℕ) → first_refused ls ≡ o
-    → refused_or o (cond (eqb (free_after ls) 0 || is_lone (used ls)) Accepted Underspecified) ≡ Accepted → Decodable ls (ledger_codewords ls)
+    → refused_or o (cond (eqb (free_after ls) 0 || is_lone (used ls)) Accepted (Err Underspecified)) ≡ Accepted → Decodable ls (ledger_codewords ls)
 accepted_by_lem ls (some i) q t = let z : ◌≡◌ {A = ℕ} 0 1 = cc in absurd (omega arith)
 accepted_by_lem ls none q t = decodable ls q (either ls (eqb (free_after ls) 0) (is_lone (used ls)) refl refl t)
 
@@ -312,7 +312,7 @@ pub accepted_none_refused : (ls : List ℕ) → verdict ls ≡ Accepted → firs
 unfolding verdict
 accepted_none_refused ls accepted = go (first_refused ls) refl accepted
   where
-    go : (o : Option ℕ) → first_refused ls ≡ o → refused_or o (cond (eqb (free_after ls) 0 || is_lone (used ls)) Accepted Underspecified) ≡ Accepted
+    go : (o : Option ℕ) → first_refused ls ≡ o → refused_or o (cond (eqb (free_after ls) 0 || is_lone (used ls)) Accepted (Err Underspecified)) ≡ Accepted
         → first_refused ls ≡ none
     go none p q = p
     go (some e) p q = let z : ◌≡◌ {A = ℕ} 0 1 = cc in absurd (omega arith)

@@ -1,5 +1,5 @@
 -- A sole used entry is the first that is used; and what the mark of a book says. Assumes nothing.
-use Prim.Native.Nat.{ℕ, zero, suc, ◌+◌, ◌-◌, ◌≤◌, ◌<◌}
+use Prim.Native.Nat.{ℕ, suc, ◌+◌, ◌-◌, ◌≤◌, ◌<◌}
 use native.Mathlib.Numerals.{add-one}
 use native.Mathlib.Omega.{arith}
 use mathlib.Core.Bool.{Bool, true, false, cond, not}
@@ -9,7 +9,6 @@ use mathlib.Core.Path.{◌≡◌, refl, sym, ◌∙◌}
 use lib.Dec.{eqb}
 use lib.ListN.{length, get_or}
 use borrow.Author.Tests.{ne_eqb, not-true, not-false}
-use Rattle.reading.specs.Least.{lowest}
 use Rattle.reading.proofs.Least.{lowest_is, below_suc}
 use Rattle.codeword_assignment.specs.Book.{used, is_used, is_lone, first_used, lone_mark}
 

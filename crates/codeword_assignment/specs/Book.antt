@@ -1,14 +1,14 @@
 -- A BOOK'S LENGTHS (01, "Bits and books"; refusals 7 and 8). A book has a list of entry lengths, 0 for an unused entry (002). Those of
 -- its used entries are entered, in entry order, into an empty space of their own. All of it is by the ledger.
-use Rattle.std.specs.Prelude.{Bool, true, false, cond, not, ◌&&◌, ◌||◌, List, [], ◌∷◌, ◌≡◌, ℕ, ◌+◌, ◌-◌, ◌/◌, ◌^◌, ◌≤◌, ◌<◌, eqb, ltb, length, get_or, take, drop, replicate}
+use Rattle.std.specs.Prelude.{Result, Ok, Err, Bool, true, false, cond, not, ◌&&◌, ◌||◌, List, [], ◌∷◌, ◌≡◌, ℕ, ◌+◌, ◌-◌, ◌/◌, ◌^◌, ◌≤◌, ◌<◌, eqb, ltb, length, get_or, take, drop, replicate}
 use Rattle.std.proofs.Math.Option.{Option, none, some}
 use Rattle.reading.specs.Least.{lowest}
 use Rattle.reading.specs.Pad.{pad}
 use Rattle.reading.specs.Tabulate.{tabulate}
 use Rattle.codespace.specs.Ledger.{Codeword, share, free_strings, answer, after}
 use Rattle.codespace.specs.Answers.{is_none}
-use Rattle.codeword_assignment.specs.declared.book.Assigned.{Assigned}
-use Rattle.codeword_assignment.specs.declared.book.Assigned.TheVariants.{Accepted, Overspecified, Underspecified, TooShort}
+use Rattle.codeword_assignment.specs.declared.book.Unassigned.{Unassigned}
+use Rattle.codeword_assignment.specs.declared.book.Unassigned.TheVariants.{Overspecified, Underspecified, TooShort}
 
 -- the lengths of the used entries
 unfoldable pub used : List ℕ → List ℕ
@@ -65,32 +65,37 @@ first_used lengths = or_zero (lowest (is_used lengths) (length lengths))
 unfoldable pub lone_mark : List ℕ → ℕ
 lone_mark lengths = cond (is_lone (used lengths)) (first_used lengths + 1) 0
 
+-- what is said of lengths: they are accepted, or why not
+abbrev pub Assigned : Type 0
+Assigned = Result (Unit {0}) Unassigned
+
+abbrev pub Accepted : Assigned
+Accepted = Ok tt
+
 abbrev pub refused_or : Option ℕ → Assigned → Assigned
-refused_or (some e) a = Overspecified e
+refused_or (some e) a = Err (Overspecified e)
 refused_or none a = a
 
 -- THE VERDICT: refused at the first entry whose share exceeds the free space (7); or with space left over, but not for a sole used entry of
 -- length 1 (8)
 unfoldable pub verdict : List ℕ → Assigned
-verdict lengths = refused_or (first_refused lengths) (cond (eqb (free_after lengths) 0 || is_lone (used lengths)) Accepted Underspecified)
+verdict lengths = refused_or (first_refused lengths) (cond (eqb (free_after lengths) 0 || is_lone (used lengths)) Accepted (Err Underspecified))
 
 -- the same for a lent list of codewords, which has to have a place for each entry
 unfoldable pub assigned : List ℕ → ℕ → Assigned
-assigned lengths places = cond (ltb places (length lengths)) TooShort (verdict lengths)
+assigned lengths places = cond (ltb places (length lengths)) (Err TooShort) (verdict lengths)
 
 -- what all places of the lent list hold: each entry's codeword, and zeros behind them; on any refusal all zeros
 abbrev pub written : Assigned → List ℕ → ℕ → List ℕ
-written Accepted lengths places = pad places (ledger_codewords lengths)
-written (Overspecified e) lengths places = replicate places 0
-written Underspecified lengths places = replicate places 0
-written TooShort lengths places = replicate places 0
+written (Ok done) lengths places = pad places (ledger_codewords lengths)
+written (Err why) lengths places = replicate places 0
 
 -- 01's number of each answer ("When the packet is sent back"), 0 where there is no refusal
 abbrev pub refusal : Assigned → ℕ
-refusal Accepted = 0
-refusal (Overspecified e) = 7
-refusal Underspecified = 8
-refusal TooShort = 17
+refusal (Ok done) = 0
+refusal (Err (Overspecified e)) = 7
+refusal (Err Underspecified) = 8
+refusal (Err TooShort) = 17
 
 -- the string s begins with the codeword of the used entry e
 pub record Begins (lengths codewords : List ℕ) (s e : ℕ) : Type 0 where

@@ -1,7 +1,6 @@
 -- `codeword_assignment::book::hand_out` meets its contract: the entries passed have the ledger's codewords and none of them is refused. Assumes nothing.
-use Prim.Native.Nat.{◌-◌}
 use Rattle.codespace.proofs.Places.{reached_length}
-use Rattle.codeword_assignment.proofs.Assigning.{handing_start, handing_turn, overspecified, all_written, full_accepted, lone_accepted, underspecified, over_accepted, under_accepted}
+use Rattle.codeword_assignment.proofs.Assigning.{handing_start, handing_turn, overspecified, all_written, full_accepted, lone_accepted, underspecified}
 use Rattle.codeword_assignment.proofs.book.hand_out.Goals as goal
 
 pub loop-entry-init : goal.loop-entry-init
@@ -13,7 +12,7 @@ entry_codeword-value-requires c = reached_length _ _ c.loop-entry.invariant.ente
 pub returns-then-value-ge-VACANT : goal.returns-then-value-ge-VACANT
 returns-then-value-ge-VACANT c = (
   overspecified _ _ _ _ c.loop-entry-test.true c.loop-entry.invariant.entered c.entry_codeword-value.ensures.0 c.if-value-ge-VACANT.true,
-  λ q. absurd (over_accepted _ q),
+  λ q. cc,
 )
 
 pub loop-entry-preserved : goal.loop-entry-preserved
@@ -42,5 +41,5 @@ pub returns : goal.returns
 returns c =
     let w = c.loop-entry.invariant in (
       underspecified _ _ _ c.loop-entry-test.false w.entered _ _ c.is_full.ensures c.if-is_full.false c.is_lone.ensures c.if-is_lone.false,
-      λ q. absurd (under_accepted q),
+      λ q. cc,
     )

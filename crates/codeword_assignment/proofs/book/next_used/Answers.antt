@@ -1,5 +1,4 @@
 -- `codeword_assignment::book::next_used` meets its contract: the used entries from `entry` on are those from `from` on. Assumes nothing.
-use Prim.Native.Nat.{◌-◌}
 use native.Mathlib.Omega.{arith}
 use borrow.Author.Rules.{rules}
 use Rattle.codeword_assignment.proofs.Assigning.{passed}
