@@ -9,7 +9,7 @@ use lib.Dec.{ltb, eqb}
 use lib.IntN.{ℤ, pos, negsuc}
 use lib.ListN.{length, get_or, replicate, take}
 use lib.Seq.{length-take-le}
-use borrow.Author.Tests.{lt-ltb, le-ltb, eq-eqb, ne_eqb, ltb-true, eqb-true}
+use borrow.Author.Tests.{ne_eqb, ltb-true, eqb-true}
 use Rattle.reading.proofs.Least.{and_split}
 use Rattle.floor_points.specs.FinalY.{range_of, fitting, Left, left, final_ys, clamped, points, Multiplies}
 use Rattle.floor_points.specs.Inner.Heights.{Ready}
@@ -34,32 +34,6 @@ range_4 m e = rw e
 pub range_none : (m : ℕ) → (m ≡ 1 → ⊥) → (m ≡ 2 → ⊥) → (m ≡ 3 → ⊥) → (m ≡ 4 → ⊥) → 0 ≡ range_of m
 unfolding range_of
 range_none m a b c d = rw (ne_eqb m 1 a, ne_eqb m 2 b, ne_eqb m 3 c, ne_eqb m 4 d)
-
--- ---- the test, one law for each way out
-module _ (x m v y f : ℕ) where
-  pub few : x < 2 → false ≡ fitting x m v y f
-  unfolding fitting
-  few h = rw (le-ltb 1 x (omega arith))
-
-  pub many : 1 < x → 65 < x → false ≡ fitting x m v y f
-  unfolding fitting
-  many a h = rw (lt-ltb 1 x a, le-ltb x 66 (omega arith))
-
-  pub no_range : 1 < x → x < 66 → range_of m ≡ 0 → false ≡ fitting x m v y f
-  unfolding fitting
-  no_range a b h = rw (lt-ltb 1 x a, lt-ltb x 66 b, h)
-
-  pub other_values : 1 < x → x < 66 → 0 < range_of m → (v ≡ x → ⊥) → false ≡ fitting x m v y f
-  unfolding fitting
-  other_values a b c h = rw (lt-ltb 1 x a, lt-ltb x 66 b, lt-ltb 0 (range_of m) c, ne_eqb v x h)
-
-  pub other_y : 1 < x → x < 66 → 0 < range_of m → v ≡ x → (y ≡ x → ⊥) → false ≡ fitting x m v y f
-  unfolding fitting
-  other_y a b c d h = rw (lt-ltb 1 x a, lt-ltb x 66 b, lt-ltb 0 (range_of m) c, eq-eqb v x d, ne_eqb y x h)
-
-  pub other_flags : 1 < x → x < 66 → 0 < range_of m → v ≡ x → y ≡ x → eqb f x ≡ fitting x m v y f
-  unfolding fitting
-  other_flags a b c d e = rw (lt-ltb 1 x a, lt-ltb x 66 b, lt-ltb 0 (range_of m) c, eq-eqb v x d, eq-eqb y x e)
 
 -- what holds where the test does
 pub record Fit (x m v y f : ℕ) : Type 0 where

@@ -6,7 +6,6 @@ use mathlib.Core.List.{List, [], ◌∷◌, map}
 use mathlib.Core.Path.{◌≡◌, refl, sym, ap, ◌∙◌}
 use lib.IntN.{ℤ, pos}
 use lib.ListN.{length, get_or, set, replicate}
-use Rattle.floor_line.specs.Line.{line}
 use Rattle.floor_points.specs.FinalY.{Points, predicted, unwrapped, flagged, step, steps, begun, points, clamped}
 use Rattle.floor_line.specs.Inner.LineHeight.{line_height}
 use Rattle.floor_line.specs.Neighbours.{low_neighbour, high_neighbour}
@@ -42,11 +41,6 @@ pub filled_bounded : (vals out : List ℕ) (i : ℕ) → Filling height_of vals 
 filled_bounded vals out i w h f = rw (fill_end height_of vals out i w h) (begun_bounded vals f)
 
 -- ---- one step
--- the point on the line from the X that were read out of the list
-pub point_made : (xs : List ℕ) (low high i h0 h1 w0 w1 w p : ℕ) → w0 ≡ get_or xs low 0 → w1 ≡ get_or xs high 0 → w ≡ get_or xs i 0 → p ≡ line_height w0 h0 w1 h1 w
-    → p ≡ line_height (get_or xs low 0) h0 (get_or xs high 0) h1 (get_or xs i 0)
-point_made xs low high i h0 h1 w0 w1 w p e0 e1 e q = rw (← e0, ← e1, ← e) q
-
 module _ (range : ℕ) (xs vals hs fs fs' : List ℕ) (i low high p r : ℕ) where
   pub step_made : low ≡ low_neighbour xs i → high ≡ high_neighbour xs i → low < length hs → high < length hs
       → p ≡ line_height (get_or xs low 0) (get_or hs low 0) (get_or xs high 0) (get_or hs high 0) (get_or xs i 0)

@@ -1,15 +1,15 @@
 -- Laws of the step from a predicted Y value and a value read to the Y value (004, steps 10 to 28) and of clamping, for heights counted from
 -- -65,536: one law for each way out of the definition. Assumes nothing.
-use Prim.Native.Nat.{ℕ, zero, suc, ◌+◌, ◌-◌, ◌*◌, ◌/◌, ◌%◌, ◌≤◌, ◌<◌, min}
+use Prim.Native.Nat.{ℕ, ◌+◌, ◌-◌, ◌*◌, ◌/◌, ◌%◌, ◌≤◌, ◌<◌, min}
 use native.Mathlib.Nat.{eq-or-lt_of_le}
 use native.Mathlib.Omega.{arith}
-use mathlib.Core.Bool.{Bool, true, false}
+use mathlib.Core.Bool.{false}
 use mathlib.Core.List.{List}
 use mathlib.Core.Logic.{⊎_elim}
-use mathlib.Core.Path.{◌≡◌, refl, sym, ap, ◌∙◌}
-use lib.Dec.{ltb, leb, eqb}
+use mathlib.Core.Path.{◌≡◌, sym, ap, ◌∙◌}
+use lib.Dec.{ltb, leb}
 use lib.ListN.{set}
-use lib.IntN.{ℤ, pos, negsuc, ◌+ℤ◌, ◌-ℤ◌, ◌*ℤ◌, -ℤ-+ℤ_cancel}
+use lib.IntN.{ℤ, pos, ◌+ℤ◌, ◌-ℤ◌, -ℤ-+ℤ_cancel}
 use lib.Signed.{lt_z, le_z}
 use borrow.Author.Tests.{lt-ltb, le-ltb, le-leb, lt-leb, eq-eqb, ne_eqb}
 use Rattle.reading.proofs.Least.{lt_or_le}
@@ -110,18 +110,11 @@ module _ (range p : ℕ) where
     unwrap_near_high r n h f l e = rw e (near n (fills_high h ∙ lt-leb (2 * range + 131072) (val + 2 * p) f) l)
 
 -- ---- clamping
-module _ (range h : ℕ) where
-  pub clamp_below : h < 65536 → 0 ≡ clamped range (y_of h)
-  unfolding clamped
-  clamp_below l = rw (below h 65536 l)
-
-  pub clamp_within : 65536 ≤ h → h - 65536 < range → h - 65536 ≡ clamped range (y_of h)
-  unfolding clamped
-  clamp_within l r = rw (above h 65536 l) (omega arith)
-
-  pub clamp_past : 65536 ≤ h → range ≤ h - 65536 → range - 1 ≡ clamped range (y_of h)
-  unfolding clamped
-  clamp_past l r = rw (above h 65536 l) (omega arith)
+-- m is the height less 65,536, not below 0, and r the lesser of that and the last value of the range
+pub clamp_made : (range h m r : ℕ) → m ≡ h - 65536 → r ≡ min m (range - 1) → r ≡ clamped range (y_of h)
+unfolding clamped
+clamp_made range h m r e q =
+    ⊎_elim (λ (l : h < 65536). rw (below h 65536 l) (omega arith)) (λ (l : 65536 ≤ h). rw (above h 65536 l) (omega arith)) (lt_or_le h 65536)
 
 -- ---- the flags
 module _ (val low high i : ℕ) (flags : List ℕ) where

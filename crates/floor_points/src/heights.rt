@@ -8,8 +8,7 @@ ghost use Rattle.floor_points.specs.Inner.Heights.{y_of, moved_height, height_of
 
 use floor_line::lines::line_height;
 use floor_line::order::{link_first_two, neighbours_of};
-use reading::buffers::clear_u8;
-use reading::widths::u32_from_u16;
+use reading::buffers::clear;
 
 // A height moved by half a value: down where the value is odd, up where it is even (004, steps 24 to 26).
 fn moved(height: u32, value: u32) -> u32
@@ -17,9 +16,10 @@ fn moved(height: u32, value: u32) -> u32
     ensures { (result ≡ moved_height height value) × (result ≤ height + value / 2) }
 {
     if value % 2 == 1 {
-        return height - (value + 1) / 2;
+        height - (value + 1) / 2
+    } else {
+        height + value / 2
     }
-    height + value / 2
 }
 
 // The height that a predicted one and the value read give (004, steps 10 to 28). Highroom is greater than lowroom where twice the height is below
@@ -49,13 +49,7 @@ fn clamp(range: u32, height: u32) -> u8
     requires { (0 < range) × (range ≤ 256) }
     ensures { result ≡ clamped range (y_of height) }
 {
-    if height < 65536 {
-        return 0;
-    }
-    if height - 65536 < range {
-        return (height - 65536) as u8;
-    }
-    (range - 1) as u8
+    height.saturating_sub(65536).min(range - 1) as u8
 }
 
 // A value that is not zero flags its point and both neighbours; at a zero its own flag is unset (004, steps 16 to 19 and 27).
@@ -65,11 +59,11 @@ fn flag(value: u16, low: usize, high: usize, i: usize, flags: &mut [u8])
 {
     if value == 0 {
         flags[i] = 0;
-        return;
+    } else {
+        flags[low] = 1;
+        flags[high] = 1;
+        flags[i] = 1;
     }
-    flags[low] = 1;
-    flags[high] = 1;
-    flags[i] = 1;
 }
 
 // Each value as it was read; the first two are final (004, steps 4 and 5).
@@ -77,10 +71,8 @@ fn begin_heights(values: &[u16], heights: &mut [u32])
     requires { length heights.old ≡ length values.now }
     ensures { (heights.new ≡ map height_of values.now) × Bounded heights.new }
 {
-    let mut i: usize = 0;
-    while i < values.len() {
-        heights[i] = 65536 + u32_from_u16(values[i]);
-        i = i + 1;
+    for (i, value) in values.iter().enumerate() {
+        heights[i] = 65536 + *value as u32;
     }
 }
 
@@ -89,7 +81,7 @@ fn begin_flags(flags: &mut [u8])
     requires { 2 ≤ length flags.old }
     ensures { flags.new ≡ set (set (replicate (length flags.old) 0) 0 1) 1 1 }
 {
-    clear_u8(flags);
+    clear(flags);
     flags[0] = 1;
     flags[1] = 1;
 }
@@ -101,11 +93,11 @@ fn predict(x: &[u16], heights: &[u32], low: usize, high: usize, i: usize) -> u32
         (get_or heights.now high 0) (x_at x.now i)) × (result < 131072) }
 {
     line_height(
-        u32_from_u16(x[low]),
+        x[low] as u32,
         heights[low],
-        u32_from_u16(x[high]),
+        x[high] as u32,
         heights[high],
-        u32_from_u16(x[i]),
+        x[i] as u32,
     )
 }
 
@@ -147,11 +139,9 @@ fn steps(
         (points_of heights.old flags.old) }
 {
     link_first_two(x, after);
-    let mut i: usize = 2;
-    while i < x.len() {
+    for i in 2..x.len() {
         let low = neighbours_of(x, i, after);
         place(x, values, range, low, after[i], i, heights, flags);
-        i = i + 1;
     }
 }
 
@@ -160,10 +150,8 @@ fn clamp_all(range: u32, heights: &[u32], y: &mut [u8])
     requires { (length y.old ≡ length heights.now) × (0 < range) × (range ≤ 256) }
     ensures { y.new ≡ map (clamped_height range) heights.now }
 {
-    let mut k: usize = 0;
-    while k < heights.len() {
-        y[k] = clamp(range, heights[k]);
-        k = k + 1;
+    for (k, height) in heights.iter().enumerate() {
+        y[k] = clamp(range, *height);
     }
 }
 

@@ -3,4 +3,4 @@ use Rattle.floor_points.proofs.FitLaws.{refused}
 use Rattle.floor_points.proofs.refuse.Goals as goal
 
 pub returns : goal.returns
-returns c = refused c.clear_u8.ensures c.clear_u8-2.ensures
+returns c = refused c.clear.ensures c.clear-2.ensures

@@ -6,4 +6,4 @@ use lib.ListN.{set}
 use Rattle.floor_points.proofs.heights.begin_flags.Goals as goal
 
 pub returns : goal.returns
-returns c = ap (λ (l : List ℕ). set (set l 0 1) 1 1) c.clear_u8.ensures
+returns c = ap (λ (l : List ℕ). set (set l 0 1) 1 1) c.clear.ensures

@@ -1,7 +1,6 @@
 -- `floor_points::heights::begin_heights` meets its contract. The loop fills the heights from the values, which are below 65,536. Assumes nothing.
-use Prim.Native.Nat.{ℕ, ◌+◌, ◌-◌}
 use native.Mathlib.Omega.{arith}
-use mathlib.Core.Path.{ap}
+use mathlib.Core.Path.{refl}
 use Rattle.floor_points.proofs.Filling.{fill_begin, fill_turn, fill_end}
 use Rattle.floor_points.proofs.Stepping.{filled_bounded}
 use Rattle.floor_points.proofs.heights.begin_heights.Goals as goal
@@ -13,7 +12,7 @@ pub overflow_add-heights : goal.overflow_add-heights
 overflow_add-heights c = omega (arith, c.type_inv.values c.loop-i.i)
 
 pub loop-i-preserved : goal.loop-i-preserved
-loop-i-preserved c = fill_turn _ _ _ _ _ c.loop-i.invariant (omega arith) (ap (λ (v : ℕ). 65536 + v) c.u32_from_u16.ensures)
+loop-i-preserved c = fill_turn _ _ _ _ _ c.loop-i.invariant (omega arith) refl
 
 pub shape_of-heights : goal.shape_of-heights
 shape_of-heights c = omega arith

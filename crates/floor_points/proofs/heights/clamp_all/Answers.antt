@@ -1,5 +1,4 @@
 -- `floor_points::heights::clamp_all` meets its contract. The loop fills the final Y values from the heights. Assumes nothing.
-use Prim.Native.Nat.{◌-◌}
 use native.Mathlib.Omega.{arith}
 use Rattle.floor_points.proofs.Filling.{fill_begin, fill_turn, fill_end}
 use Rattle.floor_points.proofs.heights.clamp_all.Goals as goal

@@ -6,5 +6,5 @@ use Rattle.floor_points.proofs.heights.moved.Goals as goal
 pub returns-then-value-eq1 : goal.returns-then-value-eq1
 returns-then-value-eq1 c = (moved_down _ _ (omega arith), omega arith)
 
-pub returns : goal.returns
-returns c = (moved_up _ _ (omega arith), omega arith)
+pub returns-else-value-eq1 : goal.returns-else-value-eq1
+returns-else-value-eq1 c = (moved_up _ _ (omega arith), omega arith)

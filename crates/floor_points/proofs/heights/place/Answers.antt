@@ -1,5 +1,4 @@
 -- `floor_points::heights::place` meets its contract. The parts make one step of the definition, and the height stored stays below 131,072. Assumes nothing.
-use Prim.Native.Nat.{◌-◌}
 use native.Mathlib.Omega.{arith}
 use Rattle.floor_points.proofs.Stepping.{step_made, set_bounded}
 use Rattle.floor_points.proofs.heights.place.Goals as goal

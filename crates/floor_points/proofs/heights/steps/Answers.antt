@@ -1,6 +1,5 @@
 -- `floor_points::heights::steps` meets its contract. The loop keeps what the steps that are left give (`Progress`), and the order of the places done. Assumes
 -- nothing.
-use Prim.Native.Nat.{◌-◌}
 use native.Mathlib.Omega.{arith}
 use Rattle.floor_line.proofs.OrderLaws.{kept_linked}
 use Rattle.floor_points.proofs.Stepping.{progress_begin, progress_turn, progress_end}
