@@ -8,7 +8,8 @@ use Rattle.reading.specs.Outcome.{ok}
 use Rattle.reading.proofs.Outcomes.{then_ok, same_ok}
 use Rattle.limits.specs.declared.Limits.{Limits}
 use Rattle.book.specs.Content.{Book}
-use Rattle.book.specs.HeadReading.{Before, Head, head}
+use Rattle.book.specs.HeadReading.{Before, head}
+use Rattle.book.specs.declared.Head.{Head}
 use Rattle.book.proofs.HeadAccepted.{HeadKnown, head_ok}
 use Rattle.book.specs.Inner.LengthsParts.{entries}
 use Rattle.book.proofs.LengthsAccepted.{EntriesKnown, entries_known}

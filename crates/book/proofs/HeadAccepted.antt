@@ -13,7 +13,8 @@ use Rattle.reading.proofs.Basics.{tested_above_zero}
 use Rattle.bits.specs.Field.{field}
 use Rattle.bits.proofs.Fields.{field-ok}
 use Rattle.limits.specs.declared.Limits.{Limits}
-use Rattle.book.specs.HeadReading.{Before, Head, head}
+use Rattle.book.specs.HeadReading.{Before, head}
+use Rattle.book.specs.declared.Head.{Head}
 
 pub record HeadKnown (l : Limits) (before : Before) (h : Head) : Type 0 where
   pub dimensions_low : 1 ≤ h.dimensions

@@ -17,8 +17,7 @@ use Rattle.reading.proofs.Readers.{mapped_ok}
 use Rattle.bits.specs.Field.{field}
 use Rattle.bits.specs.Ilog.{ilog}
 use Rattle.bits.proofs.Fields.{field-ok}
-use Rattle.codeword_assignment.specs.Book.{used, first_refused, free_after, is_lone, verdict}
-use Rattle.codeword_assignment.specs.declared.book.Assigned.TheVariants.{Accepted}
+use Rattle.codeword_assignment.specs.Book.{Accepted, used, first_refused, free_after, is_lone, verdict}
 use Rattle.rules.specs.Rules.{meets7, meets8}
 use Rattle.book.specs.LengthsReading.{entry_length, runs, lengths, entered}
 use Rattle.book.specs.Inner.LengthsParts.{entries}

@@ -1,3 +1,4 @@
+pub mod Answered
 pub mod Verdict
 pub mod RuleLaws
 pub mod HeadAccepted

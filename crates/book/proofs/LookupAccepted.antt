@@ -1,6 +1,6 @@
 -- A LOOKUP THAT WAS READ meets every rule: its type, its numbers, how many multiplicands it has and how wide they are. By the way out that was taken.
 -- Assumes nothing.
-use Prim.Native.Nat.{ℕ, ◌+◌, ◌^◌, ◌≤◌, ◌-◌, ◌<◌}
+use Prim.Native.Nat.{ℕ, ◌+◌, ◌^◌, ◌≤◌, ◌<◌}
 use native.Mathlib.Omega.{arith}
 use borrow.Author.Tests.{leb-true, lt-ltb, eqb-false}
 use mathlib.Core.Bool.{Bool, true, false, cond}
@@ -16,7 +16,8 @@ use Rattle.reading.proofs.Accepted.{many_number, many-all}
 use Rattle.bits.specs.Field.{field}
 use Rattle.bits.proofs.Fields.{field-ok}
 use Rattle.book.specs.LookupReading.{Lookup, no_lookup, value_count, values, lookup}
-use Rattle.book.specs.Inner.LookupParts.{Parameters, parameters}
+use Rattle.book.specs.Inner.LookupParts.{parameters}
+use Rattle.book.specs.declared.Parameters.{Parameters}
 
 abbrev pub with_values : ℕ → Parameters → List ℕ → Lookup
 with_values type p list =

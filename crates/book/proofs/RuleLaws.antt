@@ -8,8 +8,7 @@ use lib.Dec.{eqb}
 use lib.ListN.{length}
 use Rattle.reading.proofs.Basics.{tested_above_zero}
 use Rattle.limits.specs.declared.Limits.{Limits}
-use Rattle.codeword_assignment.specs.Book.{verdict}
-use Rattle.codeword_assignment.specs.declared.book.Assigned.TheVariants.{Accepted}
+use Rattle.codeword_assignment.specs.Book.{Accepted, verdict}
 use Rattle.book.specs.Content.{Book}
 use Rattle.book.proofs.Verdict.{accepted_meets, meets_accepted}
 use Rattle.book.specs.Rules.{Rule6, Rule7, Rule8, Book14}

@@ -5,6 +5,7 @@ use Rattle.reading.specs.Reader.{Reader, judged}
 use Rattle.bits.specs.Field.{field}
 use Rattle.limits.specs.declared.Limits.{Limits}
 use Rattle.rules.specs.Rules as Rule
+use Rattle.book.specs.declared.Head.{Head}
 
 -- how many entries and multiplicands the books before have
 pub record Before : Type 0 where
@@ -15,10 +16,6 @@ abbrev pub totals : ℕ → ℕ → Before
 totals entries values = record { entries = entries; values = values }
 
 -- the fields before the lengths: pattern and dimensions (6), entries (6 where 0; 14 above the limit for a book, or with those before above the limit in all)
-pub record Head : Type 0 where
-  pub dimensions : ℕ
-  pub entries : ℕ
-
 unfoldable pub head : Limits → Before → Reader Head
 head limits before s k =
     then (judged (λ v. Rule.meets6 (Rule.pattern v)) 6 (field 24) s k) (λ pattern.

@@ -5,3 +5,4 @@ pub mod Parts
 pub mod Layout
 pub mod Valid
 pub mod BookBuffers
+pub mod Answers

@@ -1,5 +1,5 @@
 -- The four tables of a list of books: what each holds from its front on, zeros behind; and the books that tables hold. docs/TABLES.md draws them.
-use Rattle.std.specs.Prelude.{ℕ, zero, suc, ◌+◌, List, [], ◌∷◌, ◌++◌, get_or, take, drop}
+use Rattle.std.specs.Prelude.{ℕ, zero, suc, List, [], ◌∷◌, ◌++◌, get_or, take, drop}
 use Rattle.reading.specs.Lists.{rows}
 use Rattle.codeword_assignment.specs.Book.{ledger_codewords}
 use Rattle.book.specs.Content.{Book}

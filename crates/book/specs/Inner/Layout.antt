@@ -5,7 +5,8 @@ use Rattle.std.proofs.lemmas.List.Edits.{sets}
 use Rattle.codeword_assignment.specs.Book.{ledger_codewords}
 use Rattle.book.specs.Content.{Book}
 use Rattle.book.specs.Layout.{book_width, book_row}
-use Rattle.book.specs.HeadReading.{Before, Head}
+use Rattle.book.specs.HeadReading.{Before}
+use Rattle.book.specs.declared.Head.{Head}
 use Rattle.book.specs.LookupReading.{Lookup}
 use Rattle.book.specs.Inner.LookupParts.{lookup_numbers}
 use Rattle.book.specs.Reading.{and_this}

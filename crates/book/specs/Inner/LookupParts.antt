@@ -5,14 +5,9 @@ use Rattle.reading.specs.Outcome.{ok, then}
 use Rattle.reading.specs.Reader.{Reader}
 use Rattle.bits.specs.Field.{field}
 use Rattle.book.specs.LookupReading.{Lookup}
+use Rattle.book.specs.declared.Parameters.{Parameters}
 
 -- the four numbers of a lookup that has multiplicands
-pub record Parameters : Type 0 where
-  pub minimum : ℕ
-  pub delta : ℕ
-  pub width : ℕ
-  pub sequence : ℕ
-
 unfoldable pub parameters : Reader Parameters
 parameters s k =
     then (field 32 s k) (λ minimum.

@@ -4,7 +4,7 @@ use Rattle.reading.specs.Outcome.{ok, then}
 use Rattle.reading.specs.Reader.{Reader}
 use Rattle.limits.specs.declared.Limits.{Limits}
 use Rattle.book.specs.Content.{Book}
-use Rattle.book.specs.HeadReading.{Head}
+use Rattle.book.specs.declared.Head.{Head}
 use Rattle.book.specs.Inner.LengthsParts.{entries}
 use Rattle.book.specs.LookupReading.{Lookup, lookup}
 use Rattle.book.specs.Reading.{books}
