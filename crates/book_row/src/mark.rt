@@ -28,5 +28,10 @@ fn first_used(lengths: &[u8]) -> usize
     requires { is_lone (used lengths.now) ≡ true }
     ensures { (result ≡ first_used lengths.now) × (result < length lengths.now) }
 {
-    lengths.iter().position(|length| *length != 0).unwrap()
+    for (entry, length) in lengths.iter().enumerate() {
+        if *length != 0 {
+            return entry;
+        }
+    }
+    unreachable!()
 }
