@@ -1,18 +1,18 @@
--- Laws of reading numbers of one width, and of the numbers of a run, as the code asks them. Assumes nothing.
+-- Laws of reading numbers of one width, of the numbers of a run, and of a power of two, as the code asks them. Assumes nothing.
 use Rattle.std.specs.Prelude.{Result, Ok, Err}
 use Rattle.std.specs.List.{list_any}
 use Rattle.std.proofs.lemmas.Bool.Decides.{nat_tests}
-use Prim.Native.Nat.{ℕ, ◌+◌, ◌-◌, ◌≤◌, ◌<◌}
-use native.Mathlib.Nat.{lt_of_lt_of_le}
+use Prim.Native.Nat.{ℕ, ◌+◌, ◌-◌, ◌*◌, ◌^◌, ◌%◌, ◌≤◌, ◌<◌}
+use native.Mathlib.Nat.{lt_of_lt_of_le, one-mul}
 use native.Mathlib.Numerals.{add-one}
 use native.Mathlib.Omega.{arith}
 use borrow.Author.Rules.{rules}
 use mathlib.Core.Bool.{Bool, true, false, not, ◌&&◌}
 use mathlib.Core.List.{List, [], ◌∷◌}
-use mathlib.Core.Path.{◌≡◌, refl, sym}
+use mathlib.Core.Path.{◌≡◌, refl, sym, ◌∙◌}
 use lib.ListN.{length, get_or, set, take, drop, drop_of_length-le, length-take, length-drop}
 use lib.Dec.{eqb}
-use lib.Pow.{pow_mono}
+use lib.Pow.{pow_mono, shl_exact}
 use lib.Seq.{slice, drop-cons, take_all}
 use Rattle.reading.specs.Reader.{mapped, into1}
 use Rattle.reading.specs.Inner.Table.{table, put_row}
@@ -75,3 +75,7 @@ module _ (l : List ℕ) (i : ℕ) where
 
     pub distinct_later : b ≡ false → distinct (drop (i + 1) l) ≡ distinct (drop i l)
     distinct_later e = sym (rw e at distinct_step)
+
+-- 1 << e in w bits, as the machine computes it
+pub one_shifted : (w e : ℕ) → e < w → (1 * 2 ^ e) % 2 ^ w ≡ 2 ^ e
+one_shifted w e h = shl_exact {a = 1} 1 e w (omega arith) (omega arith) ∙ one-mul (2 ^ e)
