@@ -13,5 +13,5 @@ returns-then-length-ne0 c = (sym (first_is _ c.requires _ c.loop-entry.invariant
 pub loop-entry-preserved : goal.loop-entry-preserved
 loop-entry-preserved c = used_passed _ _ c.loop-entry.invariant c.if-length-ne0.false
 
-pub unreachable-requires : goal.prove-unreachable-requires
+pub unreachable-requires : goal.unreachable-requires
 unreachable-requires c = lone_there _ c.requires _ c.loop-entry.invariant (omega arith)

@@ -1,8 +1,7 @@
 -- `book_row::mark::first_used` meets its contract, by the laws of a sole used entry. Assumes nothing.
-use Prim.Native.Nat.{ℕ, ◌≤◌, ◌<◌, ◌-◌}
+use Prim.Native.Nat.{ℕ, ◌<◌}
 use mathlib.Core.Bool.{false}
 use mathlib.Core.Path.{◌≡◌}
-use lib.ListN.{length}
 use Rattle.codeword_assignment.specs.Book.{is_used}
 use Rattle.book_row.proofs.mark.first_used.Given as goal
 
