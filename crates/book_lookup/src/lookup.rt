@@ -1,32 +1,20 @@
 // A codebook's lookup: its type, its four numbers, its multiplicands (002; 01, refusals 6 and 14).
-ghost use Rattle.std.specs.Prelude.{◌≡◌, [], ◌∷◌, ◌+◌, ◌≤◌, length};
+ghost use Rattle.std.specs.Prelude.{◌≡◌, ◌+◌, ◌≤◌, length, IfOk};
 ghost use Rattle.reading.specs.Reader.{mapped, many};
 ghost use Rattle.bits.specs.Field.{field};
-ghost use Rattle.bits.specs.Inner.Cursors.{position, Wrote};
+ghost use Rattle.bits.specs.Inner.Cursors.{position, outcome, Wrote};
 ghost use Rattle.book.specs.LookupReading.{value_count, values, lookup};
 ghost use Rattle.book.specs.Inner.LookupParts.{parameters, stored};
-ghost use Rattle.book_lookup.specs.Inner.Answers.{parameters_read, numbers_of};
+ghost use Rattle.book.specs.Inner.Answers.{answered};
+ghost use Rattle.book_lookup.specs.Inner.Answers.{numbers_of};
 
-use bits::{Cursor, Field, Refusal, Step};
+use bits::Cursor;
+use bits::refusal::{Reason, Refusal};
+use book::Parameters;
 
+// The numbers of a lookup, all 0 where there is none; the multiplicands lie in their table.
 #[derive(Clone, Copy)]
-pub struct Parameters {
-    pub minimum: u32,
-    pub delta: u32,
-    pub width: u32,
-    pub sequence: u32,
-}
-
-#[derive(Clone, Copy)]
-pub enum ParametersRead {
-    Value(Parameters, Cursor),
-    Refused(Refusal),
-}
-
-// The numbers of a lookup, all 0 where there is none or it is refused; the multiplicands lie in their table.
-#[derive(Clone, Copy)]
-pub struct LookupRead {
-    pub step: Step,
+pub struct Lookup {
     pub lookup: u32,
     pub minimum: u32,
     pub delta: u32,
@@ -36,32 +24,22 @@ pub struct LookupRead {
 }
 
 // The least value, the step, the bits of a multiplicand, and whether values run on from the last.
-fn read_parameters(packet: &[u8], from: Cursor) -> ParametersRead
-    ensures { parameters_read result ≡ parameters packet.now (position from) }
+fn read_parameters(packet: &[u8], from: Cursor) -> Result<(Parameters, Cursor), Refusal>
+    ensures { outcome result ≡ parameters packet.now (position from) }
 {
-    match from.field(packet, 32) {
-        Field::Refused(z) => ParametersRead::Refused(z),
-        Field::Value(minimum, at_delta) => match at_delta.field(packet, 32) {
-            Field::Refused(z) => ParametersRead::Refused(z),
-            Field::Value(delta, at_width) => match at_width.field(packet, 4) {
-                Field::Refused(z) => ParametersRead::Refused(z),
-                Field::Value(bits, at_sequence) => match at_sequence.field(packet, 1) {
-                    Field::Refused(z) => ParametersRead::Refused(z),
-                    Field::Value(sequence, next) => {
-                        ParametersRead::Value(
-                            Parameters {
-                                minimum,
-                                delta,
-                                width: bits + 1,
-                                sequence,
-                            },
-                            next,
-                        )
-                    }
-                },
-            },
+    let (minimum, at_delta) = from.field(packet, 32)?;
+    let (delta, at_width) = at_delta.field(packet, 32)?;
+    let (bits, at_sequence) = at_width.field(packet, 4)?;
+    let (sequence, next) = at_sequence.field(packet, 1)?;
+    Ok((
+        Parameters {
+            minimum,
+            delta,
+            width: bits + 1,
+            sequence,
         },
-    }
+        next,
+    ))
 }
 
 // How many multiplicands a lookup of type 1 or 2 has.
@@ -75,38 +53,22 @@ pub fn value_count(lookup: u32, entries: u32, dimensions: u32) -> u64
 }
 
 // A multiplicand for each place of the lent part.
-fn read_multiplicands(packet: &[u8], from: Cursor, width: usize, part: &mut [u16]) -> Step
+fn read_multiplicands(
+    packet: &[u8],
+    from: Cursor,
+    width: usize,
+    part: &mut [u16],
+) -> Result<Cursor, Refusal>
     requires { width ≤ 16 }
     ensures { Wrote (many (field width) (length part.old) packet.now (position from)) result part.new }
 {
     let mut at = from;
-    let mut i = 0;
-    while i < part.len() {
-        match at.field(packet, width) {
-            Field::Refused(z) => return Step::Refused(z),
-            Field::Value(multiplicand, next) => {
-                part[i] = multiplicand as u16;
-                at = next;
-                i += 1;
-            }
-        }
+    for place in part.iter_mut() {
+        let (multiplicand, next) = at.field(packet, width)?;
+        *place = multiplicand as u16;
+        at = next;
     }
-    Step::Next(at)
-}
-
-// No lookup, or a refused one.
-fn without(step: Step) -> LookupRead
-    ensures { (result.step ≡ step) × (numbers_of result ≡ 0 ∷ 0 ∷ 0 ∷ 0 ∷ 0 ∷ 0 ∷ []) × (result.count ≡ 0) }
-{
-    LookupRead {
-        step,
-        lookup: 0,
-        minimum: 0,
-        delta: 0,
-        width: 0,
-        sequence: 0,
-        count: 0,
-    }
+    Ok(at)
 }
 
 // What follows a type that is not 0: `multiplicand_count` multiplicands go from place `first` of their table on, and `most` is the limit for all.
@@ -119,34 +81,35 @@ fn read_values(
     first: u32,
     most: u32,
     multiplicands: &mut [u16],
-) -> LookupRead
+) -> Result<(Lookup, Cursor), Refusal>
     requires { (first ≤ most) × (most ≤ length multiplicands.old) }
-    ensures wrote { Wrote (mapped (stored multiplicands.old first)
-        (values (position place) lookup multiplicand_count most first packet.now (position from))) result.step
-        (numbers_of result, multiplicands.new) }
-    ensures count_bound { first + result.count ≤ most }
+    ensures wrote { answered (λ l. (numbers_of l, multiplicands.new)) result
+        ≡ mapped (stored multiplicands.old first)
+        (values (position place) lookup multiplicand_count most first packet.now (position from)) }
+    ensures count_bound { IfOk result (λ x. first + x.0.count ≤ most) }
 {
-    match read_parameters(packet, from) {
-        ParametersRead::Refused(z) => without(Step::Refused(z)),
-        ParametersRead::Value(p, next) => {
-            if ((most - first) as u64) < multiplicand_count {
-                return without(Step::Refused(Refusal { number: 14, place }));
-            }
-            let start = first as usize;
-            let end = start + multiplicand_count as usize;
-            let width = p.width as usize;
-            let step = read_multiplicands(packet, next, width, &mut multiplicands[start..end]);
-            LookupRead {
-                step,
-                lookup,
-                minimum: p.minimum,
-                delta: p.delta,
-                width: p.width,
-                sequence: p.sequence,
-                count: multiplicand_count as u32,
-            }
-        }
+    let (p, at_values) = read_parameters(packet, from)?;
+    if ((most - first) as u64) < multiplicand_count {
+        return Err(Refusal {
+            reason: Reason::Limit,
+            place,
+        });
     }
+    let start = first as usize;
+    let end = start + multiplicand_count as usize;
+    let part = &mut multiplicands[start..end];
+    let next = read_multiplicands(packet, at_values, p.width as usize, part)?;
+    Ok((
+        Lookup {
+            lookup,
+            minimum: p.minimum,
+            delta: p.delta,
+            width: p.width,
+            sequence: p.sequence,
+            count: multiplicand_count as u32,
+        },
+        next,
+    ))
 }
 
 // The lookup of a book of so many entries and dimensions. `place` is the book's first bit.
@@ -159,36 +122,40 @@ pub fn read_lookup(
     first: u32,
     most: u32,
     multiplicands: &mut [u16],
-) -> LookupRead
+) -> Result<(Lookup, Cursor), Refusal>
     requires { (first ≤ most) × (most ≤ length multiplicands.old) }
-    ensures wrote { Wrote (mapped (stored multiplicands.old first)
-        (lookup (position place) entries dimensions most first packet.now (position from))) result.step
-        (numbers_of result, multiplicands.new) }
-    ensures count_bound { first + result.count ≤ most }
+    ensures wrote { answered (λ l. (numbers_of l, multiplicands.new)) result
+        ≡ mapped (stored multiplicands.old first)
+        (lookup (position place) entries dimensions most first packet.now (position from)) }
+    ensures count_bound { IfOk result (λ x. first + x.0.count ≤ most) }
 {
-    match from.field(packet, 4) {
-        Field::Refused(z) => without(Step::Refused(z)),
-        Field::Value(lookup, next) => {
-            if 2 < lookup {
-                return without(Step::Refused(Refusal {
-                    number: 6,
-                    place: from,
-                }));
-            }
-            if lookup == 0 {
-                return without(Step::Next(next));
-            }
-            let multiplicand_count = value_count(lookup, entries, dimensions);
-            read_values(
-                packet,
-                next,
-                place,
-                lookup,
-                multiplicand_count,
-                first,
-                most,
-                multiplicands,
-            )
-        }
+    let (lookup, next) = from.field(packet, 4)?;
+    if 2 < lookup {
+        return Err(Refusal {
+            reason: Reason::Codebook,
+            place: from,
+        });
     }
+    if lookup == 0 {
+        let none = Lookup {
+            lookup: 0,
+            minimum: 0,
+            delta: 0,
+            width: 0,
+            sequence: 0,
+            count: 0,
+        };
+        return Ok((none, next));
+    }
+    let multiplicand_count = value_count(lookup, entries, dimensions);
+    read_values(
+        packet,
+        next,
+        place,
+        lookup,
+        multiplicand_count,
+        first,
+        most,
+        multiplicands,
+    )
 }

@@ -1,5 +1,4 @@
 -- `book_lookup::root::lookup1_values` meets its contract, by RootLaws. Assumes nothing.
-use Prim.Native.Nat.{◌-◌}
 use Rattle.book_lookup.proofs.RootLaws.{halving}
 use Rattle.book_lookup.proofs.root.lookup1_values.Goals as goal
 
