@@ -6,13 +6,13 @@ ghost use Rattle.std.specs.Prelude.{◌+◌, ◌-◌, ◌*◌, ◌<◌, ◌≡�
 ghost use Rattle.mapping.specs.Layout.{mapping_width, couplings_place, multiplex_place, submaps_place};
 
 use mapping::{COUPLINGS_PLACE, MAPPING_WIDTH, MULTIPLEX_PLACE, SUBMAPS_PLACE};
-use reading::buffers::get_u8;
+use reading::buffers::get;
 
 // The number of coupling steps, which takes two places.
 pub fn two_places(low: u8, high: u8) -> usize
     ensures { (result ≡ low + 256 * high) × (low < 256) }
 {
-    (low as usize) + 256 * (high as usize)
+    low as usize + 256 * high as usize
 }
 
 // How many coupling steps a mapping has, 0 to 256.
@@ -21,8 +21,8 @@ pub fn coupling_steps(mappings: &[u8], mapping: usize) -> usize
     ensures { result ≡ get_or mappings.now (mapping_width * mapping) 0 + 256 * get_or mappings.now (mapping_width * mapping + 1) 0 }
 {
     two_places(
-        get_u8(mappings, MAPPING_WIDTH * mapping),
-        get_u8(mappings, MAPPING_WIDTH * mapping + 1),
+        get(mappings, MAPPING_WIDTH * mapping),
+        get(mappings, MAPPING_WIDTH * mapping + 1),
     )
 }
 
@@ -31,7 +31,7 @@ pub fn magnitude(mappings: &[u8], mapping: usize, step: usize) -> u8
     requires { (mapping < 64) × (step < 256) }
     ensures { result ≡ get_or mappings.now (mapping_width * mapping + (couplings_place + 2 * step)) 0 }
 {
-    get_u8(
+    get(
         mappings,
         MAPPING_WIDTH * mapping + (COUPLINGS_PLACE + 2 * step),
     )
@@ -42,7 +42,7 @@ pub fn angle(mappings: &[u8], mapping: usize, step: usize) -> u8
     requires { (mapping < 64) × (step < 256) }
     ensures { result ≡ get_or mappings.now (mapping_width * mapping + (couplings_place + 2 * step + 1)) 0 }
 {
-    get_u8(
+    get(
         mappings,
         MAPPING_WIDTH * mapping + (COUPLINGS_PLACE + 2 * step + 1),
     )
@@ -53,7 +53,7 @@ pub fn submaps(mappings: &[u8], mapping: usize) -> u8
     requires { mapping < 64 }
     ensures { result ≡ get_or mappings.now (mapping_width * mapping + 2) 0 }
 {
-    get_u8(mappings, MAPPING_WIDTH * mapping + 2)
+    get(mappings, MAPPING_WIDTH * mapping + 2)
 }
 
 // A channel's submap; 0 where there is but one.
@@ -61,14 +61,11 @@ pub fn channel_submap(mappings: &[u8], mapping: usize, channel: usize) -> u8
     requires { (mapping < 64) × (channel < 256) }
     ensures { result ≡ get_or mappings.now (mapping_width * mapping + (multiplex_place + channel)) 0 - 1 }
 {
-    let number = get_u8(
+    get(
         mappings,
         MAPPING_WIDTH * mapping + (MULTIPLEX_PLACE + channel),
-    );
-    if number == 0 {
-        return 0;
-    }
-    number - 1
+    )
+    .saturating_sub(1)
 }
 
 // The number of a submap's floor.
@@ -76,7 +73,7 @@ pub fn submap_floor(mappings: &[u8], mapping: usize, submap: usize) -> u8
     requires { (mapping < 64) × (submap < 16) }
     ensures { result ≡ get_or mappings.now (mapping_width * mapping + (submaps_place + 2 * submap)) 0 }
 {
-    get_u8(
+    get(
         mappings,
         MAPPING_WIDTH * mapping + (SUBMAPS_PLACE + 2 * submap),
     )
@@ -87,7 +84,7 @@ pub fn submap_residue(mappings: &[u8], mapping: usize, submap: usize) -> u8
     requires { (mapping < 64) × (submap < 16) }
     ensures { result ≡ get_or mappings.now (mapping_width * mapping + (submaps_place + 2 * submap + 1)) 0 }
 {
-    get_u8(
+    get(
         mappings,
         MAPPING_WIDTH * mapping + (SUBMAPS_PLACE + 2 * submap + 1),
     )
