@@ -1,30 +1,29 @@
 -- What reading a codeword promises (specs/Claims.antt), and reading from a packet that is cut. Assumes nothing.
+use Rattle.bits.specs.declared.refusal.Refusal.{Refusal}
+use Rattle.std.specs.Prelude.{Result}
 use Prim.Native.Nat.{ℕ, zero, suc, ◌+◌, ◌-◌, ◌*◌, ◌/◌, ◌^◌, ◌≤◌, ◌<◌}
 use native.Mathlib.Omega.{arith}
-use mathlib.Core.Bool.{Bool, true, false, cond, ◌&&◌}
+use mathlib.Core.Bool.{Bool, true, false, cond}
 use mathlib.Core.List.{List, []}
 use mathlib.Core.Logic.{◌⊎◌, inl, inr, ⊎_elim}
 use mathlib.Core.Option.{Option, none, some}
 use mathlib.Core.Path.{◌≡◌, refl, ap, sym, ◌∙◌}
-use lib.Dec.{eqb, ltb}
+use lib.Dec.{ltb}
 use lib.ListN.{length, get_or, take, length-take}
-use lib.Pow.{shr-shr}
 use borrow.Author.Tests.{lt-ltb, le-ltb, ltb-true, eqb-true, eqb-false, not-true}
 use Rattle.reading.specs.Outcome.{refusal, Outcome, ok, bad, need}
 use Rattle.reading.specs.Reader.{mapped}
-use Rattle.reading.specs.Least.{lowest, Least}
-use Rattle.reading.proofs.Least.{lowest-some, lowest_ok, IsLowest, and_split, lt_or_le, true_or_false, no_true}
+use Rattle.reading.specs.Least.{lowest}
+use Rattle.reading.proofs.Least.{lowest-some, lowest_ok, IsLowest, and_split, lt_or_le}
 use Rattle.bits.specs.Field.{field}
 use Rattle.bits.proofs.Fields.{field_whole, field_cut, field-ok}
 use Rattle.bits.proofs.Cuts.{field_cut_packet}
-use Rattle.codeword_assignment.specs.Book.{used, is_used, is_lone, first_used, lone_mark, or_zero, ledger_codewords, verdict, Begins, PrefixCode, Decodable}
-use Rattle.codespace.specs.Ledger.{share}
-use Rattle.codeword_assignment.specs.declared.book.Assigned.TheVariants.{Accepted}
+use Rattle.codeword_assignment.specs.Book.{used, is_used, is_lone, first_used, lone_mark, or_zero, ledger_codewords, verdict, Begins, Decodable}
+use Rattle.codeword_assignment.specs.Book.{Accepted}
 use Rattle.codeword_assignment.proofs.Laws.{accepted_decodable, used_length, accepted_none_refused}
 use Rattle.codeword.specs.Codeword.{bits_at, is_codeword, entry_of, or_go_on, matching, lone_bits, codeword}
 use Rattle.bits.specs.Inner.Cursors.{position, outcome}
 use Rattle.bits.specs.declared.Cursor.{Cursor}
-use Rattle.bits.specs.declared.Field.{Field}
 use Rattle.codeword.specs.Inner.Book.{Codebook}
 use Rattle.codeword.specs.Inner.Claims.{Settled}
 use Rattle.codeword.proofs.Bits.{bits_lt, bits_begin, bits_cut}
@@ -194,7 +193,7 @@ settled ls accepted =
     }
 
 -- as the code asks it: the equation, and the promise beside it
-module _ (ls ws : List ℕ) {m : ℕ} (book : Codebook ls ws × (m ≡ lone_mark ls)) (s : List ℕ) (k : Cursor) (r : Field) where
+module _ (ls ws : List ℕ) {m : ℕ} (book : Codebook ls ws × (m ≡ lone_mark ls)) (s : List ℕ) (k : Cursor) (r : Result (ℕ × Cursor) Refusal) where
   pub by_lone : (m ≡ 0 → ⊥) → outcome r ≡ mapped (λ _. m - 1) (field lone_bits s (position k)) → (outcome r ≡ codeword ls s (position k)) × Settled ls
   unfolding codeword
   by_lone n p =

@@ -1,5 +1,7 @@
 -- The laws of the search as the code asks them: where a bit is taken next, and where entries are searched. Assumes nothing.
-use Prim.Native.Nat.{ℕ, zero, suc, ◌+◌, ◌-◌, ◌*◌, ◌/◌, ◌%◌, ◌^◌, ◌≤◌, ◌<◌}
+use Rattle.bits.specs.declared.refusal.Refusal.{Refusal}
+use Rattle.std.specs.Prelude.{Ok, Err}
+use Prim.Native.Nat.{ℕ, ◌+◌, ◌-◌, ◌*◌, ◌/◌, ◌%◌, ◌^◌, ◌≤◌, ◌<◌}
 use native.Mathlib.Numerals.{add-one}
 use native.Mathlib.Omega.{arith}
 use borrow.Author.Rules.{rules}
@@ -9,12 +11,10 @@ use mathlib.Core.Path.{◌≡◌, refl, ap, sym, ◌∙◌}
 use mir.Syntax.{w32}
 use mir.Val.{Fits}
 use lib.ListN.{length, get_or}
-use Rattle.reading.specs.Outcome.{refusal, Outcome, ok, bad}
+use Rattle.reading.specs.Outcome.{refusal, bad}
 use Rattle.bits.specs.Field.{bit_at}
 use Rattle.bits.specs.Inner.Cursors.{position, refusal_of, outcome}
 use Rattle.bits.specs.declared.Cursor.{Cursor}
-use Rattle.bits.specs.declared.Field.{Field}
-use Rattle.bits.specs.declared.Field.TheVariants.{Value}
 use Rattle.reading.proofs.Least.{lt_or_le}
 use Rattle.codeword_assignment.specs.Book.{ledger_codewords, PrefixCode}
 use Rattle.codeword_assignment.proofs.Laws.{accepted_decodable, used_length, codewords_length, accepted_none_refused}
@@ -55,8 +55,10 @@ module _ (ls ws s : List ℕ) (k : Cursor) (count : ℕ) where
 -- a bit is taken from the next bits
 module _ (ls ws s : List ℕ) (k : Cursor) (next : Window) (b : NextBits s (position k) next.count next.bits) (word n e : ℕ)
     (t : Taking ls ws s (position k) next.count word n e) where
-  pub no_bit_left : n ≡ next.count → (r : Field) → outcome r ≡ bad (refusal 1 (position k)) → outcome r ≡ matching ls 0 32 s (position k)
-  no_bit_left h r c =
+  pub no_bit_left : n ≡ next.count → (z : Refusal) → refusal_of z ≡ refusal 1 (position k) → outcome (Err z) ≡ matching ls 0 32 s (position k)
+  unfolding outcome
+  no_bit_left h z q =
+      let c = ap bad q in
       let f = b.few in
       ⊎_elim
       (λ (l : next.count < 32). let m = b.all l in c ∙ sym (turn_cut ls s (position k) n (omega arith)) ∙ t.rest)
@@ -110,8 +112,10 @@ module _ (ls ws : List ℕ) (book : Codebook ls ws) (s : List ℕ) (k : Cursor) 
   before : n - 1 + 1 ≡ n
   before = let l = t.some in omega arith
 
-  pub all_passed : e ≡ length ls → (r : Field) → outcome r ≡ bad (refusal 1 (position k)) → outcome r ≡ matching ls 0 32 s (position k)
-  all_passed h r c =
+  pub all_passed : e ≡ length ls → (z : Refusal) → refusal_of z ≡ refusal 1 (position k) → outcome (Err z) ≡ matching ls 0 32 s (position k)
+  unfolding outcome
+  all_passed h z q =
+      let c = ap bad q in
       let l = t.some in
       let m = t.few in
       let p = t.there in
@@ -187,7 +191,7 @@ module _ (ls ws : List ℕ) (book : Codebook ls ws) (s : List ℕ) (k : Cursor) 
         begun : Starts ls (ledger_codewords ls) (n - 1 + 1) (bits_at s (position k) (n - 1 + 1)) e
         begun = rw before (starts_coded p)
 
-        pub word_found : n ≡ len → (c : Cursor) → position c ≡ position k + n → outcome (Value e c) ≡ matching ls 0 32 s (position k)
+        pub word_found : n ≡ len → (c : Cursor) → position c ≡ position k + n → outcome (Ok (e, c)) ≡ matching ls 0 32 s (position k)
         unfolding outcome
         word_found m c r =
             let a = t.some in

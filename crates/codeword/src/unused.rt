@@ -2,18 +2,14 @@
 ghost use Rattle.std.specs.Prelude.{◌≡◌, ◌+◌, ◌≤◌, length};
 ghost use Rattle.codeword.specs.Inner.Window.{Zeros};
 
-use super::window::long;
-
 // Four lengths that are there as a number: 0 where all four entries are unused. The count is constant, so that they become one load.
 fn four_lengths(lengths: &[u8], at: usize) -> u64
     requires { at + 4 ≤ length lengths.now }
     ensures { result ≡ 0 → Zeros lengths.now at (at + 4) }
 {
     let mut number: u64 = 0;
-    let mut i: usize = 0;
-    while i < 4 {
-        number = number + (long(lengths[at + i]) << (8 * i));
-        i = i + 1;
+    for i in 0..4 {
+        number += (lengths[at + i] as u64) << (8 * i);
     }
     number
 }
@@ -28,7 +24,7 @@ pub fn past_unused(lengths: &[u8], from: usize) -> usize
         if four_lengths(lengths, at) != 0 {
             return at;
         }
-        at = at + 4;
+        at += 4;
     }
     at
 }

@@ -5,7 +5,6 @@ ghost use Rattle.bits.specs.Inner.Cursors.{position};
 ghost use Rattle.codeword.specs.Inner.Window.{NextBits};
 
 use bits::Cursor;
-use reading::widths::wide_u8;
 
 // The next bits of a packet: bit i of `bits` is the i-th from the position on, for i below `count`, which is 32 or as many as there are.
 #[derive(Clone, Copy)]
@@ -21,7 +20,7 @@ pub fn window_at(packet: &[u8], from: Cursor) -> Window
     if packet.len() <= from.byte {
         return Window { bits: 0, count: 0 };
     }
-    let bit = wide_u8(from.bit);
+    let bit = from.bit as usize;
     let at = from.byte + bit / 8;
     if packet.len() <= at {
         return Window { bits: 0, count: 0 };
@@ -30,7 +29,7 @@ pub fn window_at(packet: &[u8], from: Cursor) -> Window
     if left < 8 {
         return Window {
             bits: last_bytes(packet, at, left) >> (bit % 8),
-            count: at_most_32(8 * left - bit % 8),
+            count: (8 * left - bit % 8).min(32),
         };
     }
     Window {
@@ -45,10 +44,8 @@ fn eight_bytes(packet: &[u8], at: usize) -> u64
     ensures { result ≡ value_at packet.now (8 * at) 64 }
 {
     let mut number: u64 = 0;
-    let mut i: usize = 0;
-    while i < 8 {
-        number = number + (long(packet[at + i]) << (8 * i));
-        i = i + 1;
+    for i in 0..8 {
+        number += (packet[at + i] as u64) << (8 * i);
     }
     number
 }
@@ -59,24 +56,8 @@ fn last_bytes(packet: &[u8], at: usize, left: usize) -> u64
     ensures { result ≡ value_at packet.now (8 * at) (8 * left) }
 {
     let mut number: u64 = 0;
-    let mut i: usize = 0;
-    while i < left {
-        number = number + (long(packet[at + i]) << (8 * i));
-        i = i + 1;
+    for i in 0..left {
+        number += (packet[at + i] as u64) << (8 * i);
     }
     number
-}
-
-// A byte as a number of 64 bits.
-pub fn long(x: u8) -> u64
-    ensures { (result ≡ x) × (result < 256) }
-{
-    x as u64
-}
-
-// The lower of a number and 32.
-fn at_most_32(n: usize) -> usize
-    ensures { (result ≤ 32) × (result ≤ n) × (result < 32 → result ≡ n) }
-{
-    if n < 32 { n } else { 32 }
 }

@@ -1,6 +1,6 @@
 -- `codeword::match_codeword` meets its contract, by LoopLaws. Assumes nothing.
-use Prim.Native.Nat.{◌-◌}
 use native.Mathlib.Omega.{arith}
+use mathlib.Core.Path.{refl}
 use Rattle.codeword.proofs.LoopLaws.{taken_one, length_within, loop_laws}
 use Rattle.codeword.proofs.match_codeword.Goals as goal
 
@@ -23,16 +23,10 @@ entry-init c =
 pub bounds-codewords-entry : goal.bounds-codewords-entry
 bounds-codewords-entry c = search loop_laws
 
-pub overflow_cast-length : goal.overflow_cast-length
-overflow_cast-length c =
-    let book = c.requires.0 in
-    let h = length_within _ _ book _ _ _ _ _ _ c.entry.invariant c.if-entry-lengths.false _ c.wide_u8-length.ensures c.if-taken-length.true in
-    omega arith
-
 pub overflow_shr-codewords : goal.overflow_shr-codewords
 overflow_shr-codewords c =
     let book = c.requires.0 in
-    let h = length_within _ _ book _ _ _ _ _ _ c.entry.invariant c.if-entry-lengths.false _ c.wide_u8-length.ensures c.if-taken-length.true in
+    let h = length_within _ _ book _ _ _ _ _ _ c.entry.invariant c.if-entry-lengths.false _ refl c.if-taken-length.true in
     omega arith
 
 pub after-requires : goal.after-requires

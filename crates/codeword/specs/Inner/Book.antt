@@ -1,7 +1,7 @@
 -- The codebook that a codeword is read with: lengths that were accepted, and the ledger's codewords.
 use Rattle.std.specs.Prelude.{List, ◌≡◌, ℕ, ◌^◌, ◌≤◌, length}
 use Rattle.codeword_assignment.specs.Book.{ledger_codewords, verdict}
-use Rattle.codeword_assignment.specs.declared.book.Assigned.TheVariants.{Accepted}
+use Rattle.codeword_assignment.specs.Book.{Accepted}
 
 pub record Codebook (lengths codewords : List ℕ) : Type 0 where
   -- the number of entries is a field of 24 bits (002)

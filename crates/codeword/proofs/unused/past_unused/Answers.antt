@@ -1,5 +1,4 @@
 -- `codeword::unused::past_unused` meets its contract: the entries passed so far are unused. Assumes nothing.
-use Prim.Native.Nat.{◌-◌}
 use native.Mathlib.Omega.{arith}
 use Rattle.codeword.proofs.Windows.{zeros_four}
 use Rattle.codeword.proofs.unused.past_unused.Goals as goal
