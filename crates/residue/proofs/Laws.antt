@@ -18,7 +18,7 @@ use Rattle.reading.proofs.Readers.{Long, many_long, each_long}
 use Rattle.reading.proofs.Accepted.{many_each}
 use Rattle.reading.proofs.Pads.{length-pad}
 use Rattle.residue.specs.Content.{Residue}
-use Rattle.residue.specs.Reading.{Books, cascade, passes, plan_book, plan_row, head_from, head, residue_from, residue, residue_fits, with_plan}
+use Rattle.residue.specs.Reading.{Books, cascade, passes, plan_book, plan_row, head, residue_from, residue, residue_fits, with_plan}
 use Rattle.residue.specs.Layout.{head_row, plan_table, plan_width}
 use Rattle.residue.specs.Carried.{Rows8}
 use Rattle.residue.specs.Inner.Valid.{ValidResidue, AcceptedValid}

@@ -1,13 +1,12 @@
 // Rule 13, judged against the table of books (01, "When the packet is sent back"). How many books are set up has no part in it.
-ghost use Rattle.std.specs.Prelude.{◌≡◌, ◌-◌, ◌≤◌, take, drop};
+ghost use Rattle.std.specs.Prelude.{◌≡◌};
 ghost use Rattle.reading.specs.Lists.{all, rows};
 ghost use Rattle.residue.specs.Reading.{place_fits};
 ghost use Rattle.residue.specs.Inner.FromTable.{books_of};
 ghost use Rattle.residue.specs.Inner.Heads.{head_of};
-ghost use Rattle.residue.specs.Inner.Plans.{Grid, head_fits};
+ghost use Rattle.residue.specs.Inner.Plans.{head_fits};
 
 use crate::head::Head;
-use reading::widths::u32_from_u16;
 
 // Begin is not above end, and the class words of the class book are enough.
 pub fn head_fits(head: Head, books: &[u32]) -> bool
@@ -28,47 +27,22 @@ pub fn place_fits(place: u32, size: u32, books: &[u32]) -> bool
     if place == 0 {
         return true;
     }
-    let lookup = book_row::lookup(books, place - 1);
-    if lookup == 0 {
-        return false;
-    }
-    let dimensions = book_row::dimensions(books, place - 1);
-    if dimensions == 0 {
-        return size == 0;
-    }
-    size % dimensions == 0
+    let book = place - 1;
+    book_row::lookup(books, book) != 0 && size.is_multiple_of(book_row::dimensions(books, book))
 }
 
-// The places from `from` up to `to`; past the table's end there is none.
-pub fn places_fit(places: &[u16], from: usize, to: usize, size: u32, books: &[u32]) -> bool
-    ensures { result ≡ all (place_fits (books_of 0 books.now) size) (take (to - from) (drop from places.now)) }
+// All places do.
+pub fn places_fit(places: &[u16], size: u32, books: &[u32]) -> bool
+    ensures { result ≡ all (place_fits (books_of 0 books.now) size) places.now }
 {
-    let mut i = from;
-    while i < to {
-        if places.len() <= i {
-            return true;
-        }
-        let place = u32_from_u16(places[i]);
-        if !place_fits(place, size, books) {
-            return false;
-        }
-        i = i + 1;
-    }
-    true
+    places
+        .iter()
+        .all(|&place| place_fits(place as u32, size, books))
 }
 
-// The rows of the first `classes` classes.
-pub fn plan_fits(plan: [[u16; 8]; 64], classes: usize, size: u32, books: &[u32]) -> bool
-    requires { Grid plan × (classes ≤ 64) }
-    ensures { result ≡ all (place_fits (books_of 0 books.now) size) (rows (λ row. row) (take classes plan)) }
+// All rows of a plan do.
+pub fn plan_fits(plan: &[[u16; 8]], size: u32, books: &[u32]) -> bool
+    ensures { result ≡ all (place_fits (books_of 0 books.now) size) (rows (λ row. row) plan.now) }
 {
-    let mut i: usize = 0;
-    while i < classes {
-        let row = plan[i];
-        if !places_fit(&row, 0, 8, size, books) {
-            return false;
-        }
-        i = i + 1;
-    }
-    true
+    plan.iter().all(|row| places_fit(row, size, books))
 }

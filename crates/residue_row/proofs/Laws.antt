@@ -1,8 +1,6 @@
--- Which number of a residue each place of its rows holds: with `residues_stored`, what the functions of src/lib.rt give; and laws of reading a place as the code
--- asks them. Assumes nothing.
+-- Which number of a residue each place of its rows holds: with `residues_stored`, what the functions of src/lib.rt give. Assumes nothing.
 use Prim.Native.Nat.{ℕ, zero, suc, ◌+◌, ◌*◌, ◌≤◌, ◌<◌}
 use native.Mathlib.Omega.{arith}
-use borrow.Author.Rules.{rules}
 use mathlib.Core.List.{List, [], ◌∷◌}
 use mathlib.Core.Path.{◌≡◌, refl, ◌∙◌}
 use lib.ListN.{length, get_or, get_or-append}
@@ -16,20 +14,7 @@ use Rattle.residue.specs.Layout.{head_width, plan_width, head_row, plan_table}
 use Rattle.residue.specs.Carried.{Rows8}
 use Rattle.residue.specs.Inner.Valid.{ValidResidue}
 use Rattle.residue.specs.Inner.Decode.{head_at}
-use Rattle.residue.specs.Inner.Heads.{head_of}
-use Rattle.residue.specs.declared.head.Head as D
 use Rattle.residue.proofs.Laws.{length-head_row, length-plan_table}
-
--- as the code asks
-pub head_made : (t : List ℕ) (i : ℕ) {a b c d e f : ℕ} → a ≡ get_or t (6 * i + 0) 0 → b ≡ get_or t (6 * i + 1) 0 → c ≡ get_or t (6 * i + 2) 0 → d ≡ get_or t (6 * i + 3) 0
-    → e ≡ get_or t (6 * i + 4) 0 → f ≡ get_or t (6 * i + 5) 0
-    → head_of (record { kind = a; begin = b; end = c; size = d; classifications = e; classbook = f }) ≡ head_at t i
-head_made t i p q r s u v = λ j. record { type = p j; begin = q j; end = r j; size = s j; classifications = u j; classbook = v j }
-
-pub place_made : (t : List ℕ) (a b c : ℕ) {a' b' c' v : ℕ} → a' ≡ a → b' ≡ b → c' ≡ c → v ≡ get_or t (plan_width * a' + (8 * b' + c')) 0 → v ≡ get_or t (plan_width * a + (8 * b + c)) 0
-place_made t a b c p q r e = rw (← p, ← q, ← r) e
-
-pub ruleset row_laws = (rules, head_made, place_made)
 
 -- rows of 8, one after the other
 rows8_at : (plan : List (List ℕ)) → Rows8 plan → (class pass k : ℕ) → class < length plan → pass < 8 → k ≡ 8 * class + pass

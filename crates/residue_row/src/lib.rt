@@ -7,7 +7,7 @@ ghost use Rattle.residue.specs.Inner.Decode.{head_at};
 ghost use Rattle.residue.specs.Inner.Heads.{head_of};
 ghost use Rattle.residue.specs.Layout.{head_width, plan_width};
 
-use reading::widths::wide_u32;
+use reading::buffers::get;
 use residue::head::Head;
 use residue::{HEAD_WIDTH, PLAN_WIDTH};
 
@@ -16,8 +16,7 @@ fn number(residues: &[u32], residue: u32, column: usize) -> u32
     requires { column < 6 }
     ensures { result ≡ get_or residues.now (head_width * residue + column) 0 }
 {
-    let place = HEAD_WIDTH * wide_u32(residue) + column;
-    reading::buffers::get_u32(residues, place)
+    get(residues, HEAD_WIDTH * residue as usize + column)
 }
 
 pub fn kind(residues: &[u32], residue: u32) -> u32
@@ -60,19 +59,13 @@ pub fn classbook(residues: &[u32], residue: u32) -> u32
 pub fn head(residues: &[u32], residue: u32) -> Head
     ensures { head_of result ≡ head_at residues.now residue }
 {
-    let kind = kind(residues, residue);
-    let begin = begin(residues, residue);
-    let end = end(residues, residue);
-    let size = size(residues, residue);
-    let classifications = classifications(residues, residue);
-    let classbook = classbook(residues, residue);
     Head {
-        kind,
-        begin,
-        end,
-        size,
-        classifications,
-        classbook,
+        kind: kind(residues, residue),
+        begin: begin(residues, residue),
+        end: end(residues, residue),
+        size: size(residues, residue),
+        classifications: classifications(residues, residue),
+        classbook: classbook(residues, residue),
     }
 }
 
@@ -80,7 +73,7 @@ pub fn head(residues: &[u32], residue: u32) -> Head
 pub fn plan_place(plans: &[u16], residue: u32, class: u32, pass: u32) -> u16
     ensures { result ≡ get_or plans.now (plan_width * residue + (8 * class + pass)) 0 }
 {
-    let row = PLAN_WIDTH * wide_u32(residue);
-    let place = 8 * wide_u32(class) + wide_u32(pass);
-    reading::buffers::get_u16(plans, row + place)
+    let row = PLAN_WIDTH * residue as usize;
+    let place = 8 * class as usize + pass as usize;
+    get(plans, row + place)
 }
