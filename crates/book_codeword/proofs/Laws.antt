@@ -7,22 +7,13 @@ use lib.ListN.{take, drop}
 use Rattle.codeword_assignment.specs.Book.{lone_mark}
 use Rattle.book.specs.Layout.{entries_at, first_entry_at, lone_at}
 use Rattle.codeword.specs.Inner.Book.{Codebook}
-use Rattle.codeword.specs.Inner.Claims.{Settled}
-use Rattle.codeword.specs.Codeword.{codeword}
-use Rattle.bits.specs.Inner.Cursors.{outcome}
-use Rattle.bits.specs.declared.Field.{Field}
 use Rattle.book_codeword.specs.Inner.Stored.{entries_of, BookStored}
 
--- first and count as the code holds them
-module _ {books lengths codewords : List ℕ} {b : ℕ} (l : BookStored books lengths codewords b) {f f' n n' : ℕ} (e₁ : f' ≡ f) (e₂ : f ≡ first_entry_at books b) (e₃ : n' ≡ n)
-    (e₄ : n ≡ entries_at books b) {m : ℕ} (e₅ : m ≡ lone_at books b) where
-  pub part_is : (cells : List ℕ) → take (f' + n' - f') (drop f' cells) ≡ entries_of books b cells
-  part_is cells = let h : f' + n' - f' ≡ n' = omega arith in rw (h, e₁, e₂, e₃, e₄)
+-- first, count and mark as the code holds them
+module _ {books lengths codewords : List ℕ} {b : ℕ} (l : BookStored books lengths codewords b) {f n m : ℕ} (e₁ : f ≡ first_entry_at books b)
+    (e₂ : n ≡ entries_at books b) (e₃ : m ≡ lone_at books b) where
+  pub part_is : (cells : List ℕ) → take (f + n - f) (drop f cells) ≡ entries_of books b cells
+  part_is cells = let h : f + n - f ≡ n = omega arith in rw (h, e₁, e₂)
 
-  pub asked : Codebook (take (f' + n' - f') (drop f' lengths)) (take (f' + n' - f') (drop f' codewords)) × (m ≡ lone_mark (take (f' + n' - f') (drop f' lengths)))
-  asked = rw (part_is lengths, part_is codewords) (l.book, e₅ ∙ l.lone)
-
-  pub read : (s : List ℕ) (k : ℕ) (r : Field)
-      → (outcome r ≡ codeword (take (f' + n' - f') (drop f' lengths)) s k) × Settled (take (f' + n' - f') (drop f' lengths))
-      → (outcome r ≡ codeword (entries_of books b lengths) s k) × Settled (entries_of books b lengths)
-  read s k r p = rw (part_is lengths) at p
+  pub asked : Codebook (take (f + n - f) (drop f lengths)) (take (f + n - f) (drop f codewords)) × (m ≡ lone_mark (take (f + n - f) (drop f lengths)))
+  asked = rw (part_is lengths, part_is codewords) (l.book, e₃ ∙ l.lone)
