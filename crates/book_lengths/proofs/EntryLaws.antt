@@ -1,7 +1,7 @@
 -- Laws of a book's lengths, read and entered, as the code asks them. Assumes nothing.
+use Rattle.std.specs.Prelude.{Result, Ok, Err}
 use Prim.Native.Nat.{ℕ, ◌+◌, ◌-◌, ◌≤◌}
 use native.Mathlib.Omega.{arith}
-use borrow.Author.Rules.{rules}
 use borrow.Author.Tests.{le-ltb}
 use mathlib.Core.List.{List, ◌++◌}
 use mathlib.Core.Path.{◌≡◌, sym, ap, ◌∙◌}
@@ -11,22 +11,21 @@ use Rattle.reading.specs.Outcome.{Outcome, ok}
 use Rattle.reading.specs.Reader.{mapped}
 use Rattle.reading.proofs.Pads.{pad_whole}
 use Rattle.bits.specs.declared.Cursor.{Cursor}
-use Rattle.bits.specs.declared.Refusal.{Refusal}
-use Rattle.bits.specs.declared.Step.{Step}
-use Rattle.bits.specs.declared.Step.TheVariants.{Next, Refused}
+use Rattle.bits.specs.declared.refusal.Refusal.{Refusal}
+use Rattle.bits.specs.declared.refusal.Reason.{Reason}
+use Rattle.bits.specs.declared.refusal.Reason.TheVariants as R
 use Rattle.bits.specs.Inner.Cursors.{position, Wrote}
 use Rattle.bits.proofs.Steps.{wrote_bad, wrote_ok, wrote_refused, wrote_next}
-use Rattle.codeword_assignment.specs.Book.{verdict, assigned, written, ledger_codewords}
-use Rattle.codeword_assignment.specs.declared.book.Assigned.{Assigned}
-use Rattle.codeword_assignment.specs.declared.book.Assigned.TheVariants.{Accepted, Overspecified, Underspecified, TooShort}
+use Rattle.codeword_assignment.specs.Book.{Assigned, Accepted, verdict, assigned, written, ledger_codewords}
+use Rattle.codeword_assignment.specs.declared.book.Unassigned.TheVariants.{Overspecified, Underspecified, TooShort}
 use Rattle.codeword_assignment.proofs.Laws.{codewords_length}
 use Rattle.book.proofs.Verdict.{accepted_meets, overspecified_breaks7, underspecified_breaks8, verdict_not_short}
 use Rattle.bits.proofs.Parts.{mapped-mapped, wrote_mapped, wrote_as, part_back}
 use Rattle.book.specs.LengthsReading.{lengths, entered}
 use Rattle.book.specs.Inner.LengthsParts.{entries, coded, stored}
 
-abbrev at : ℕ → Cursor → Refusal
-at n c = record { number = n; place = c }
+abbrev at : Reason → Cursor → Refusal
+at r c = record { reason = r; place = c }
 
 verdict_is : (ls : List ℕ) (m : ℕ) (a : Assigned) → a ≡ assigned ls m → length ls ≡ m → verdict ls ≡ a
 unfolding assigned
@@ -37,23 +36,23 @@ abbrev both : ℕ → List ℕ → ℕ → Outcome ((List ℕ × List ℕ) × �
 both place ls next = mapped coded (entered place ls (ok (ls, next)))
 
 module _ (place next : Cursor) (ls : List ℕ) (m : ℕ) {a : Assigned} (p : a ≡ assigned ls m) (long : length ls ≡ m) where
-  pub entered_over : {e : ℕ} → a ≡ Overspecified e → (u : List ℕ × List ℕ) → Wrote (both (position place) ls (position next)) (Refused (at 7 place)) u
+  pub entered_over : {e : ℕ} → a ≡ Err (Overspecified e) → (u : List ℕ × List ℕ) → Wrote (both (position place) ls (position next)) (Err (at R.Overspecified place)) u
   unfolding entered mapped
   entered_over f u = wrote_refused u (rw (overspecified_breaks7 ls (verdict_is ls m a p long ∙ f)))
 
-  pub entered_under : a ≡ Underspecified → (u : List ℕ × List ℕ) → Wrote (both (position place) ls (position next)) (Refused (at 8 place)) u
+  pub entered_under : a ≡ Err Underspecified → (u : List ℕ × List ℕ) → Wrote (both (position place) ls (position next)) (Err (at R.Underspecified place)) u
   unfolding entered mapped
   entered_under f u =
       let b = underspecified_breaks8 ls (verdict_is ls m a p long ∙ f) in
       wrote_refused u (rw (b.0, b.1))
 
-  pub entered_short : a ≡ TooShort → (u : List ℕ × List ℕ) → Wrote (both (position place) ls (position next)) (Refused (at 17 place)) u
+  pub entered_short : a ≡ Err TooShort → (u : List ℕ × List ℕ) → Wrote (both (position place) ls (position next)) (Err (at R.Room place)) u
   entered_short f u = absurd (verdict_not_short ls (verdict_is ls m a p long ∙ f))
 
   codewords_are : {codewords : List ℕ} → a ≡ Accepted → codewords ≡ written a ls m → codewords ≡ ledger_codewords ls
   codewords_are f e = e ∙ ap (λ (x : Assigned). written x ls m) f ∙ pad_whole m (ledger_codewords ls) (codewords_length ls ∙ long)
 
-  pub entered_accepted : {codewords : List ℕ} → a ≡ Accepted → codewords ≡ written a ls m → Wrote (both (position place) ls (position next)) (Next next) (ls, codewords)
+  pub entered_accepted : {codewords : List ℕ} → a ≡ Accepted → codewords ≡ written a ls m → Wrote (both (position place) ls (position next)) (Ok next) (ls, codewords)
   unfolding entered mapped
   entered_accepted {codewords} f e =
       let v = accepted_meets ls (verdict_is ls m a p long ∙ f) in
@@ -61,18 +60,18 @@ module _ (place next : Cursor) (ls : List ℕ) (m : ℕ) {a : Assigned} (p : a �
       wrote_next (rw (v.0, v.1, g))
 
 -- the lengths, read and entered
-module _ (place : Cursor) (n : ℕ) (s : List ℕ) (k : ℕ) {r : Step} {ls : List ℕ} (w : Wrote (lengths (position place) n s k) r ls) where
-  pub entries_refused : {z : Refusal} → r ≡ Refused z → (u : List ℕ × List ℕ) → Wrote (mapped coded (entries (position place) n s k)) (Refused z) u
+module _ (place : Cursor) (n : ℕ) (s : List ℕ) (k : ℕ) {r : Result Cursor Refusal} {ls : List ℕ} (w : Wrote (lengths (position place) n s k) r ls) where
+  pub entries_refused : {z : Refusal} → r ≡ Err z → (u : List ℕ × List ℕ) → Wrote (mapped coded (entries (position place) n s k)) (Err z) u
   unfolding entries mapped
   entries_refused q u = wrote_refused u (rw (wrote_bad w q))
 
-  pub entries_entered : {c : Cursor} → r ≡ Next c → {st : Step} {u : List ℕ × List ℕ} → Wrote (both (position place) ls (position c)) st u
+  pub entries_entered : {c : Cursor} → r ≡ Ok c → {st : Result Cursor Refusal} {u : List ℕ × List ℕ} → Wrote (both (position place) ls (position c)) st u
       → Wrote (mapped coded (entries (position place) n s k)) st u
   unfolding entries
   entries_entered q w₂ = rw (wrote_ok w q) w₂
 
 -- both laid out in the tables that lent the parts
-pub entries-stored : (place n : ℕ) (s : List ℕ) (k first count : ℕ) (lens wds : List ℕ) {r : Step} {ls ws : List ℕ} → Wrote (mapped coded (entries place n s k)) r (ls, ws)
+pub entries-stored : (place n : ℕ) (s : List ℕ) (k first count : ℕ) (lens wds : List ℕ) {r : Result Cursor Refusal} {ls ws : List ℕ} → Wrote (mapped coded (entries place n s k)) r (ls, ws)
     → n ≡ count → length ls ≡ count → length ws ≡ count → first + count ≤ length lens → first + count ≤ length wds
     → Wrote (mapped (stored lens wds first) (entries place count s k)) r
     (take first lens ++ (ls ++ drop (first + count - first) (drop first lens)), take first wds ++ (ws ++ drop (first + count - first) (drop first wds)))
@@ -87,6 +86,3 @@ entries-stored place n s k first count lens wds {r} {ls} {ws} w e el ew fl fw =
     ∙ ap (λ (x : ℕ). mapped (stored lens wds first) (entries place x s k)) e)
     (λ j. (b₁ j, b₂ j))
     (wrote_mapped (λ (x : List ℕ × List ℕ). (sets lens first x.0, sets wds first x.1)) w)
-
-pub ruleset entry_laws =
-    (rules, entered_over, entered_under, entered_short, entered_accepted, entries_refused, entries_entered)

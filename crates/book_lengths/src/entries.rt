@@ -7,20 +7,35 @@ ghost use Rattle.book.specs.LengthsReading.{entered};
 ghost use Rattle.book.specs.Inner.LengthsParts.{entries, coded, stored};
 
 use crate::lengths::read_lengths;
-use bits::{Cursor, Refusal, Step};
-use codeword_assignment::book::{Assigned, assign_codewords};
+use bits::Cursor;
+use bits::refusal::{Reason, Refusal};
+use codeword_assignment::book::{Unassigned, assign_codewords};
 
 // Lengths entered into an empty space of their own. `place` is the book's first bit, `next` the one behind its lengths.
-fn enter_lengths(lengths: &[u8], codewords: &mut [u32], place: Cursor, next: Cursor) -> Step
+fn enter_lengths(
+    lengths: &[u8],
+    codewords: &mut [u32],
+    place: Cursor,
+    next: Cursor,
+) -> Result<Cursor, Refusal>
     requires { length lengths.now ≡ length codewords.old }
     ensures { Wrote (mapped coded (entered (position place) lengths.now (ok (lengths.now, position next)))) result
         (lengths.now, codewords.new) }
 {
     match assign_codewords(lengths, codewords) {
-        Assigned::Accepted => Step::Next(next),
-        Assigned::Overspecified(_) => Step::Refused(Refusal { number: 7, place }),
-        Assigned::Underspecified => Step::Refused(Refusal { number: 8, place }),
-        Assigned::TooShort => Step::Refused(Refusal { number: 17, place }),
+        Ok(()) => Ok(next),
+        Err(Unassigned::Overspecified(_)) => Err(Refusal {
+            reason: Reason::Overspecified,
+            place,
+        }),
+        Err(Unassigned::Underspecified) => Err(Refusal {
+            reason: Reason::Underspecified,
+            place,
+        }),
+        Err(Unassigned::TooShort) => Err(Refusal {
+            reason: Reason::Room,
+            place,
+        }),
     }
 }
 
@@ -31,15 +46,13 @@ pub fn read_entries(
     place: Cursor,
     lengths: &mut [u8],
     codewords: &mut [u32],
-) -> Step
+) -> Result<Cursor, Refusal>
     requires { (length lengths.old < 4294967296) × (length lengths.old ≡ length codewords.old) }
     ensures { Wrote (mapped coded (entries (position place) (length lengths.old) packet.now (position from))) result
         (lengths.new, codewords.new) }
 {
-    match read_lengths(packet, from, place, lengths) {
-        Step::Refused(z) => Step::Refused(z),
-        Step::Next(next) => enter_lengths(lengths, codewords, place, next),
-    }
+    let next = read_lengths(packet, from, place, lengths)?;
+    enter_lengths(lengths, codewords, place, next)
 }
 
 // The entries of a book, `entry_count` of them, from place `first` of the tables of all entries on.
@@ -51,7 +64,7 @@ pub fn read_entries_at(
     entry_count: u32,
     lengths: &mut [u8],
     codewords: &mut [u32],
-) -> Step
+) -> Result<Cursor, Refusal>
     requires { (first + entry_count ≤ length lengths.old) × (first + entry_count ≤ length codewords.old) }
     ensures { Wrote (mapped (stored lengths.old codewords.old first)
         (entries (position place) entry_count packet.now (position from))) result

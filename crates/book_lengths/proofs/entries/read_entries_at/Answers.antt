@@ -5,7 +5,5 @@ use Rattle.book_lengths.proofs.entries.read_entries_at.Goals as goal
 
 pub returns : goal.returns
 returns c =
-    let g = c.read_entries-arg-1.given in
-    let g₂ = c.read_entries-arg-2-1.given in
     let k = c.read_entries.auto in
     entries-stored _ _ _ _ _ _ _ _ c.read_entries.ensures (omega arith) (omega arith) (omega arith) c.requires.0 c.requires.1
