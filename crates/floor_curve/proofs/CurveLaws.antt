@@ -1,5 +1,5 @@
 -- Laws of the curve as it is drawn, from one flagged point to the next. Assumes nothing.
-use Prim.Native.Nat.{ℕ, ◌-◌, ◌≤◌, ◌<◌}
+use Prim.Native.Nat.{ℕ, ◌≤◌, ◌<◌}
 use native.Mathlib.Omega.{arith}
 use mathlib.Core.Bool.{Bool, true, false, cond}
 use mathlib.Core.List.{List}
@@ -8,7 +8,7 @@ use mathlib.Core.Path.{◌≡◌, refl, sym, ◌∙◌}
 use lib.Dec.{ltb, eqb}
 use lib.ListN.{length, get_or, replicate, length-replicate, get_or-replicate}
 use lib.Seq.{ext_get_or}
-use borrow.Author.Tests.{lt-ltb, le-ltb, eq-eqb, ne_eqb, ltb-true, eqb-true}
+use borrow.Author.Tests.{lt-ltb, le-ltb, ltb-true, eqb-true}
 use Rattle.reading.proofs.Least.{lt_or_le, and_split}
 use Rattle.floor_line.proofs.LineLaws.{height_le}
 use Rattle.floor_curve.specs.Curve.{x_or, last_at, next_after, height_at, line_at, between, curve_at, places, fitting, left, curve, Bytes}
@@ -87,23 +87,6 @@ pub up_to_end : (xs ys fs : List ℕ) (m : ℕ) (before now : List ℕ) (at : �
 up_to_end xs ys fs m before now at s h = are_places (curve_at xs ys fs m) (length before) now s.long (λ k j. s.on k (omega arith) j)
 
 -- ---- lists that fit each other
-module _ (xs : List ℕ) (y f : ℕ) where
-  pub no_points : length xs ≡ 0 → false ≡ fitting xs y f
-  unfolding fitting
-  no_points e = rw e
-
-  pub other_begin : 0 < length xs → (get_or xs 0 0 ≡ 0 → ⊥) → false ≡ fitting xs y f
-  unfolding fitting
-  other_begin h e = rw (lt-ltb 0 (length xs) h, ne_eqb (get_or xs 0 0) 0 e)
-
-  pub other_y : 0 < length xs → get_or xs 0 0 ≡ 0 → (y ≡ length xs → ⊥) → false ≡ fitting xs y f
-  unfolding fitting
-  other_y h b e = rw (lt-ltb 0 (length xs) h, eq-eqb (get_or xs 0 0) 0 b, ne_eqb y (length xs) e)
-
-  pub other_flags : 0 < length xs → get_or xs 0 0 ≡ 0 → y ≡ length xs → eqb f (length xs) ≡ fitting xs y f
-  unfolding fitting
-  other_flags h b e = rw (lt-ltb 0 (length xs) h, eq-eqb (get_or xs 0 0) 0 b, eq-eqb y (length xs) e)
-
 pub fit_points : (xs ys fs : List ℕ) (t : Bool) → t ≡ fitting xs (length ys) (length fs) → t ≡ true → Points xs ys fs
 unfolding fitting
 fit_points xs ys fs t e h =

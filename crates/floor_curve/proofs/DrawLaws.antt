@@ -1,8 +1,8 @@
 -- Laws of drawing: a loop that draws places from the left, and what a line or the flat part is then. Assumes nothing.
-use Prim.Native.Nat.{ℕ, zero, suc, ◌+◌, ◌-◌, ◌*◌, ◌≤◌, ◌<◌, min, max}
-use native.Mathlib.Nat.{eq-or-lt_of_le, mul-le-mul}
+use Prim.Native.Nat.{ℕ, zero, suc, ◌+◌, ◌*◌, ◌≤◌, ◌<◌, min, max}
+use native.Mathlib.Nat.{eq-or-lt_of_le}
 use native.Mathlib.Omega.{arith}
-use mathlib.Core.List.{List, [], ◌∷◌}
+use mathlib.Core.List.{List}
 use mathlib.Core.Logic.{◌⊎◌, ⊎_elim}
 use mathlib.Core.Path.{◌≡◌, refl, sym, ap, ◌∙◌}
 use lib.IntN.{pos}
@@ -26,9 +26,6 @@ line_made x0 y0 x1 y1 x r e = e ∙ sym (line_height_at x0 y0 x1 y1 x)
 
 pub line_byte : (x0 y0 x1 y1 x r : ℕ) → r ≡ line_height x0 y0 x1 y1 x → y0 < 256 → y1 < 256 → r < 256
 line_byte x0 y0 x1 y1 x r e p q = rw e (omega (arith, height_le x0 y0 x1 y1 x 255 (omega arith) (omega arith)))
-
-pub bytes_product : (a b : ℕ) → a < 256 → b < 256 → a * b < 65536
-bytes_product a b p q = omega (arith, mul-le-mul {n₁ = a} {m₁ = b} {n₂ = 255} {m₂ = 255} (omega arith) (omega arith))
 
 pub height_made : (ys : List ℕ) (m j r : ℕ) → r ≡ min (get_or ys j 0 * m) 255 → r ≡ height_at ys m j
 unfolding height_at

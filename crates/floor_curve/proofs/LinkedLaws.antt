@@ -1,17 +1,17 @@
 -- Laws of the flagged points in a list linked in order of X: the next one is found by walking it, and the last one is where the drawing stands. Assumes nothing.
-use Prim.Native.Nat.{ℕ, ◌+◌, ◌-◌, ◌≤◌, ◌<◌}
+use Prim.Native.Nat.{ℕ, ◌-◌, ◌≤◌, ◌<◌}
 use native.Mathlib.Nat.{eq-or-lt_of_le}
 use native.Mathlib.Omega.{arith}
 use mathlib.Core.List.{List}
 use mathlib.Core.Logic.{⊎_elim}
-use mathlib.Core.Path.{◌≡◌, refl, sym, ap, ◌∙◌}
+use mathlib.Core.Path.{◌≡◌, sym, ap, ◌∙◌}
 use lib.ListN.{length, get_or}
 use Rattle.reading.proofs.Least.{lt_or_le}
 use Rattle.floor_line.specs.Inner.Order.{Follows, Ordered}
 use Rattle.floor_line.proofs.Searching.{search_keeps}
 use Rattle.floor_curve.specs.Curve.{x_or, takes_left, takes_right, last_at, next_after, height_at, curve_at, places}
 use Rattle.floor_curve.specs.Inner.Drawing.{Drawn, Flat, Points}
-use Rattle.floor_curve.proofs.PointLaws.{within, past, last_le, next_is, next_le}
+use Rattle.floor_curve.proofs.PointLaws.{within, past, next_is, next_le}
 use Rattle.floor_curve.proofs.CurveLaws.{DrawnUpTo, up_to_begin, up_to_line, up_to_flat, next_right}
 
 -- ---- where the points found lie

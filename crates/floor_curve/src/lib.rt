@@ -13,7 +13,6 @@ ghost use Rattle.floor_curve.specs.Inner.Drawing.{Points};
 use floor_line::order::link_all;
 use lines::{draw_flat, draw_line};
 use points::{height_at, last_at, next_after, next_linked};
-use reading::widths::wide_u16;
 
 // Line by line, from each flagged point to the next, as far as `out` has places; past the last point flat. The next is found by walking the order of X.
 fn draw_linked(x: &[u16], y: &[u8], flags: &[u8], multiplier: u8, after: &[usize], out: &mut [u8])
@@ -23,11 +22,10 @@ fn draw_linked(x: &[u16], y: &[u8], flags: &[u8], multiplier: u8, after: &[usize
     let mut at: usize = 0;
     let mut left: usize = 0;
     while at < out.len() {
-        let right = next_linked(x, flags, after, left);
-        if right == x.len() {
+        let Some(right) = next_linked(x, flags, after, left) else {
             draw_flat(out, at, height_at(y, multiplier, left));
             return;
-        }
+        };
         draw_line(
             out,
             x[left],
@@ -35,7 +33,7 @@ fn draw_linked(x: &[u16], y: &[u8], flags: &[u8], multiplier: u8, after: &[usize
             x[right],
             height_at(y, multiplier, right),
         );
-        at = wide_u16(x[right]);
+        at = x[right] as usize;
         left = right;
     }
 }
@@ -48,11 +46,10 @@ fn draw_searched(x: &[u16], y: &[u8], flags: &[u8], multiplier: u8, out: &mut [u
     let mut at: usize = 0;
     while at < out.len() {
         let l = last_at(x, flags, at);
-        let r = next_after(x, flags, at);
-        if r == x.len() {
+        let Some(r) = next_after(x, flags, at) else {
             draw_flat(out, at, height_at(y, multiplier, l));
             return;
-        }
+        };
         draw_line(
             out,
             x[l],
@@ -60,7 +57,7 @@ fn draw_searched(x: &[u16], y: &[u8], flags: &[u8], multiplier: u8, out: &mut [u
             x[r],
             height_at(y, multiplier, r),
         );
-        at = wide_u16(x[r]);
+        at = x[r] as usize;
     }
 }
 
@@ -72,29 +69,20 @@ fn draw_points(x: &[u16], y: &[u8], flags: &[u8], multiplier: u8, out: &mut [u8]
     let mut after = [0usize; 65];
     if link_all(x, &mut after) {
         draw_linked(x, y, flags, multiplier, &after, out);
-        return;
+    } else {
+        draw_searched(x, y, flags, multiplier, out);
     }
-    draw_searched(x, y, flags, multiplier, out);
 }
 
 // Whether there are as many X, Y and flags, at least one, and the first X is 0.
 fn fitting(x: &[u16], y: usize, flags: usize) -> bool
     ensures { result ≡ drawing.fitting x.now y flags }
 {
-    if x.len() == 0 {
-        return false;
-    }
-    if x[0] != 0 {
-        return false;
-    }
-    if y != x.len() {
-        return false;
-    }
-    flags == x.len()
+    !x.is_empty() && x[0] == 0 && y == x.len() && flags == x.len()
 }
 
 // The curve's first `out.len()` places. True where there are as many X, Y and flags, at least one, and the first X is 0. Otherwise false, and `out` is all
-// zero.
+// zero. A bool, not a Result: C's torchvalley_floor_curve answers with it.
 pub fn curve(x: &[u16], y: &[u8], flags: &[u8], multiplier: u8, out: &mut [u8]) -> bool
     ensures { (left result out.new
         ≡ drawing.curve x.now y.now flags.now multiplier (length out.old))

@@ -1,18 +1,9 @@
 // Drawing into the lent part: one line, and the flat part past the last point.
-ghost use Rattle.std.specs.Prelude.{◌≡◌, ◌≤◌, ◌<◌, min, length};
+ghost use Rattle.std.specs.Prelude.{◌≡◌, ◌≤◌, ◌<◌, length};
 ghost use Rattle.floor_curve.specs.Curve.{line_at};
 ghost use Rattle.floor_curve.specs.Inner.Drawing.{Drawn, Flat};
 
 use floor_line::lines::line_height;
-
-fn lesser(a: usize, b: usize) -> usize
-    ensures { result ≡ min a b }
-{
-    if a < b {
-        return a;
-    }
-    b
-}
 
 // The height at x on the line from (x0, y0) to (x1, y1), a byte since both ends are.
 fn line_at(x0: u16, y0: u8, x1: u16, y1: u8, x: usize) -> u8
@@ -26,11 +17,9 @@ fn line_at(x0: u16, y0: u8, x1: u16, y1: u8, x: usize) -> u8
 pub fn draw_line(out: &mut [u8], x0: u16, y0: u8, x1: u16, y1: u8)
     ensures { Drawn x0 y0 x1 y1 out.old out.new }
 {
-    let end = lesser(x1 as usize, out.len());
-    let mut x = x0 as usize;
-    while x < end {
+    let end = out.len().min(x1 as usize);
+    for x in x0 as usize..end {
         out[x] = line_at(x0, y0, x1, y1, x);
-        x = x + 1;
     }
 }
 
@@ -38,9 +27,7 @@ pub fn draw_line(out: &mut [u8], x0: u16, y0: u8, x1: u16, y1: u8)
 pub fn draw_flat(out: &mut [u8], from: usize, y: u8)
     ensures { Flat from y out.old out.new }
 {
-    let mut x = from;
-    while x < out.len() {
+    for x in from..out.len() {
         out[x] = y;
-        x = x + 1;
     }
 }

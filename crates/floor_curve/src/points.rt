@@ -1,52 +1,17 @@
 // The flagged points around a place: the last at or left of it, and the next right of it.
-ghost use Rattle.std.specs.Prelude.{◌≡◌, cond, ◌*◌, ◌≤◌, ◌<◌, min, length, get_or};
+ghost use Rattle.std.specs.Prelude.{◌≡◌, IfSome, unwrap_or, ◌≤◌, ◌<◌, length, get_or};
 ghost use Rattle.floor_line.specs.Inner.Order.{Ordered};
-ghost use Rattle.floor_curve.specs.Curve.{x_or, takes_left, takes_right, last_at, next_after, IsLast, IsNext, height_at};
+ghost use Rattle.floor_curve.specs.Curve.{x_or, last_at, next_after, IsLast, IsNext, height_at};
 
-use reading::widths::wide_u16;
-
-// The X of a place; 65,536 past the list.
-fn x_or(x: &[u16], j: usize) -> usize
-    ensures { result ≡ x_or x.now j }
+// The X of a place; 65,536 where there is none.
+fn x_or(x: &[u16], place: Option<usize>) -> usize
+    requires { IfSome place (λ j. j < length x.now) }
+    ensures { result ≡ x_or x.now (unwrap_or place (length x.now)) }
 {
-    if j < x.len() {
-        return wide_u16(x[j]);
+    match place {
+        Some(j) => x[j] as usize,
+        None => 65536,
     }
-    65536
-}
-
-// Place j, where it is flagged, at or left of `at`, and right of the place held; else the place held.
-fn later(x: &[u16], flags: &[u8], at: usize, j: usize, best: usize) -> usize
-    requires { (j < length x.now) × (best < length x.now) × (j < length flags.now) }
-    ensures { result ≡ cond (takes_left x.now flags.now at j best) j best }
-{
-    if flags[j] == 0 {
-        return best;
-    }
-    if at < wide_u16(x[j]) {
-        return best;
-    }
-    if x[best] >= x[j] {
-        return best;
-    }
-    j
-}
-
-// Place j, where it is flagged, right of `at`, and left of the place held; else the place held.
-fn earlier(x: &[u16], flags: &[u8], at: usize, j: usize, best: usize) -> usize
-    requires { (j < length x.now) × (j < length flags.now) }
-    ensures { result ≡ cond (takes_right x.now flags.now at j best) j best }
-{
-    if flags[j] == 0 {
-        return best;
-    }
-    if wide_u16(x[j]) <= at {
-        return best;
-    }
-    if x_or(x, best) <= wide_u16(x[j]) {
-        return best;
-    }
-    j
 }
 
 pub fn last_at(x: &[u16], flags: &[u8], at: usize) -> usize
@@ -55,57 +20,49 @@ pub fn last_at(x: &[u16], flags: &[u8], at: usize) -> usize
         × (get_or x.now 0 0 ≤ at → IsLast x.now flags.now at result) }
 {
     let mut best: usize = 0;
-    let mut j: usize = 0;
-    while j < x.len() {
-        best = later(x, flags, at, j, best);
-        j = j + 1;
+    for j in 0..x.len() {
+        if flags[j] != 0 && x[j] as usize <= at && x[best] < x[j] {
+            best = j;
+        }
     }
     best
 }
 
-pub fn next_after(x: &[u16], flags: &[u8], at: usize) -> usize
+pub fn next_after(x: &[u16], flags: &[u8], at: usize) -> Option<usize>
     requires { length flags.now ≡ length x.now }
-    ensures { (result ≡ next_after x.now flags.now at) × (result ≤ length x.now)
-        × IsNext x.now flags.now at result }
+    ensures { (unwrap_or result (length x.now) ≡ next_after x.now flags.now at)
+        × IfSome result (λ r. r < length x.now)
+        × IsNext x.now flags.now at (unwrap_or result (length x.now)) }
 {
-    let mut best = x.len();
-    let mut j: usize = 0;
-    while j < x.len() {
-        best = earlier(x, flags, at, j, best);
-        j = j + 1;
+    let mut best = None;
+    for j in 0..x.len() {
+        if flags[j] != 0 && at < x[j] as usize && (x[j] as usize) < x_or(x, best) {
+            best = Some(j);
+        }
     }
     best
 }
 
-// The next flagged point after place l, in a list linked in order of X; the list's length where there is none.
-pub fn next_linked(x: &[u16], flags: &[u8], after: &[usize], l: usize) -> usize
+// The next flagged point after place l, in a list linked in order of X.
+pub fn next_linked(x: &[u16], flags: &[u8], after: &[usize], l: usize) -> Option<usize>
     requires { Ordered x.now after.now × (length flags.now ≡ length x.now) × (l < length x.now) }
-    ensures { (result ≡ next_after x.now flags.now (get_or x.now l 0)) × (result ≤ length x.now) }
+    ensures { (unwrap_or result (length x.now) ≡ next_after x.now flags.now (get_or x.now l 0))
+        × IfSome result (λ r. r < length x.now) }
 {
     let mut p = l;
     while p != 1 {
         p = after[p];
         if flags[p] != 0 {
-            return p;
+            return Some(p);
         }
     }
-    x.len()
+    None
 }
 
 // Y times the multiplier, at most 255.
-fn times(y: u8, multiplier: u8) -> u8
-    ensures { result ≡ min (y * multiplier) 255 }
-{
-    let product = y as u32 * multiplier as u32;
-    if product < 255 {
-        return product as u8;
-    }
-    255
-}
-
 pub fn height_at(y: &[u8], multiplier: u8, j: usize) -> u8
     requires { j < length y.now }
     ensures { result ≡ height_at y.now multiplier j }
 {
-    times(y[j], multiplier)
+    y[j].saturating_mul(multiplier)
 }

@@ -1,5 +1,4 @@
 -- `floor_curve::lines::draw_flat` meets its contract. The loop draws the places from the left (`DrawnSoFar`), up to the length. Assumes nothing.
-use Prim.Native.Nat.{◌-◌}
 use native.Mathlib.Omega.{arith}
 use mathlib.Core.Path.{refl}
 use Rattle.floor_curve.proofs.DrawLaws.{draw_begin, draw_turn, flat}

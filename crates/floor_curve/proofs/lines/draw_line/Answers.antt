@@ -1,7 +1,5 @@
 -- `floor_curve::lines::draw_line` meets its contract. The loop draws the places from the left (`DrawnSoFar`), up to the lesser of x1 and the length. Assumes nothing.
-use Prim.Native.Nat.{◌-◌}
 use native.Mathlib.Omega.{arith}
-use Rattle.floor_curve.specs.Curve.{line_at}
 use Rattle.floor_curve.proofs.DrawLaws.{draw_begin, draw_turn, drawn}
 use Rattle.floor_curve.proofs.lines.draw_line.Goals as goal
 
@@ -24,4 +22,4 @@ pub shape_of-out : goal.shape_of-out
 shape_of-out c = omega arith
 
 pub returns : goal.returns
-returns c = drawn _ _ _ _ _ _ _ _ c.loop-x.invariant.0 c.lesser-end.ensures c.loop-x.invariant.1 (omega arith)
+returns c = drawn _ _ _ _ _ _ _ _ c.loop-x.invariant.0 (omega arith) c.loop-x.invariant.1 (omega arith)
