@@ -12,10 +12,8 @@ fn put(out: Stdout, n: u8) -> io::Result<()> {
 }
 
 fn put_all(out: Stdout, numbers: &[u8]) -> io::Result<()> {
-    let mut i: usize = 0;
-    while i < numbers.len() {
-        put(out, numbers[i])?;
-        i = i + 1;
+    for n in numbers {
+        put(out, *n)?;
     }
     Ok(())
 }
@@ -46,11 +44,15 @@ fn floor(out: Stdout) -> io::Result<()> {
 
 fn main(rt: HostRuntime) -> io::Result<()> {
     let out = rt.stdout();
-    room(out, 100, 3)?;
-    room(out, 100, 4)?;
-    room(out, 100, 199)?;
-    room(out, 100, 200)?;
-    room(out, 200, 111)?;
-    room(out, 200, 112)?;
+    for (predicted, value) in [
+        (100, 3),
+        (100, 4),
+        (100, 199),
+        (100, 200),
+        (200, 111),
+        (200, 112),
+    ] {
+        room(out, predicted, value)?;
+    }
     floor(out)
 }
