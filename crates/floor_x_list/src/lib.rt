@@ -2,19 +2,19 @@
 // Refusal 12 has its place at the floor's type, which stands at `place`.
 #![tactic(auto)]
 
-ghost use Rattle.std.specs.Prelude.{◌≡◌, ◌+◌, ◌<◌, ◌≤◌, replicate};
+ghost use Rattle.std.specs.Prelude.{◌≡◌, ◌+◌, ◌≤◌, replicate};
 ghost use Rattle.reading.specs.Reader.{mapped, into};
 ghost use Rattle.reading.specs.Inner.Table.{table, put_row};
-ghost use Rattle.bits.specs.Inner.Cursors.{position, Wrote};
+ghost use Rattle.bits.specs.Inner.Cursors.{position, outcome, Wrote};
 ghost use Rattle.numbers.specs.Inner.Cell.{cell};
 ghost use Rattle.floor.specs.XListReading.{x_values, ends, ends_from};
-ghost use Rattle.floor_x_list.specs.Inner.Pieces.{ends_read, ends_in_buffer};
+ghost use Rattle.floor_x_list.specs.Inner.Pieces.{with_list, ends_in_buffer};
 ghost use Rattle.floor.specs.Content.{x_list_room};
 
-use bits::{Cursor, Field, Refusal, Step};
+use bits::Cursor;
+use bits::refusal::{Reason, Refusal};
 use floor::X_LIST_ROOM;
 use reading::buffers;
-use reading::widths::wide_u32;
 
 // The X values, from place 2 on. The count is judged before each is read: of more than 63 the 64th is refused.
 pub fn read_x_values(
@@ -24,7 +24,7 @@ pub fn read_x_values(
     rangebits: usize,
     value_count: usize,
     list: &mut [u16],
-) -> Step
+) -> Result<Cursor, Refusal>
     requires { rangebits ≤ 15 }
     ensures { Wrote
         (into (put_row cell) (x_values (position place) rangebits value_count packet.now (position from)) (table list.old 2))
@@ -33,10 +33,11 @@ pub fn read_x_values(
     if value_count <= 63 {
         return numbers::read_numbers(packet, from, rangebits, value_count, list, 2);
     }
-    match numbers::read_numbers(packet, from, rangebits, 63, list, 2) {
-        Step::Refused(z) => Step::Refused(z),
-        Step::Next(_) => Step::Refused(Refusal { number: 12, place }),
-    }
+    numbers::read_numbers(packet, from, rangebits, 63, list, 2)?;
+    Err(Refusal {
+        reason: Reason::XList,
+        place,
+    })
 }
 
 // What follows the classes, beside the X list that went into a buffer.
@@ -44,7 +45,6 @@ pub fn read_x_values(
 pub struct Ends {
     pub multiplier: u32,
     pub rangebits: u32,
-    pub step: Step,
 }
 
 // The X list, judged when it is complete.
@@ -56,33 +56,26 @@ pub fn read_x_list(
     multiplier: u32,
     rangebits: u32,
     list: &mut [u16],
-) -> Ends
+) -> Result<(Ends, Cursor), Refusal>
     requires { (rangebits ≤ 15) × (list.old ≡ replicate x_list_room 0) }
-    ensures { Wrote (mapped ends_in_buffer (ends_from (position place) value_count multiplier rangebits packet.now (position from)))
-        result.step (ends_read result.multiplier result.rangebits list.new) }
+    ensures { mapped (with_list list.new) (outcome result)
+        ≡ mapped ends_in_buffer (ends_from (position place) value_count multiplier rangebits packet.now (position from)) }
 {
-    buffers::put_u16(list, 1, numbers::power(rangebits));
-    match read_x_values(packet, from, place, wide_u32(rangebits), value_count, list) {
-        Step::Refused(z) => Ends {
+    buffers::put(list, 1, 1 << rangebits);
+    let next = read_x_values(packet, from, place, rangebits as usize, value_count, list)?;
+    if !numbers::are_distinct(&list[..2 + value_count]) {
+        return Err(Refusal {
+            reason: Reason::XList,
+            place,
+        });
+    }
+    Ok((
+        Ends {
             multiplier,
             rangebits,
-            step: Step::Refused(z),
         },
-        Step::Next(next) => {
-            if !numbers::are_distinct(list, 0, 2 + value_count) {
-                return Ends {
-                    multiplier,
-                    rangebits,
-                    step: Step::Refused(Refusal { number: 12, place }),
-                };
-            }
-            Ends {
-                multiplier,
-                rangebits,
-                step: Step::Next(next),
-            }
-        }
-    }
+        next,
+    ))
 }
 
 // Multiplier, range bits, X list.
@@ -92,32 +85,20 @@ pub fn read_ends(
     place: Cursor,
     value_count: usize,
     list: &mut [u16],
-) -> Ends
+) -> Result<(Ends, Cursor), Refusal>
     requires { list.old ≡ replicate x_list_room 0 }
-    ensures { Wrote (mapped ends_in_buffer (ends (position place) value_count packet.now (position from)))
-        result.step (ends_read result.multiplier result.rangebits list.new) }
+    ensures { mapped (with_list list.new) (outcome result)
+        ≡ mapped ends_in_buffer (ends (position place) value_count packet.now (position from)) }
 {
-    match from.field(packet, 2) {
-        Field::Refused(z) => Ends {
-            multiplier: 0,
-            rangebits: 0,
-            step: Step::Refused(z),
-        },
-        Field::Value(multiplier, at_range) => match at_range.field(packet, 4) {
-            Field::Refused(z) => Ends {
-                multiplier: 0,
-                rangebits: 0,
-                step: Step::Refused(z),
-            },
-            Field::Value(rangebits, next) => read_x_list(
-                packet,
-                next,
-                place,
-                value_count,
-                multiplier + 1,
-                rangebits,
-                list,
-            ),
-        },
-    }
+    let (multiplier, at_range) = from.field(packet, 2)?;
+    let (rangebits, next) = at_range.field(packet, 4)?;
+    read_x_list(
+        packet,
+        next,
+        place,
+        value_count,
+        multiplier + 1,
+        rangebits,
+        list,
+    )
 }

@@ -3,3 +3,4 @@ pub mod Collected
 pub mod ListLaws
 pub mod NumberLaws
 pub mod Accepted
+pub mod Beside
