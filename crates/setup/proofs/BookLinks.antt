@@ -2,7 +2,7 @@
 -- Assumes nothing.
 use Prim.Native.Nat.{ℕ, ◌+◌, ◌*◌, ◌≤◌, ◌<◌}
 use native.Mathlib.Omega.{arith}
-use mathlib.Core.List.{List, [], ◌∷◌, map}
+use mathlib.Core.List.{List, [], map}
 use mathlib.Core.Logic.{⊎_elim}
 use mathlib.Core.Path.{◌≡◌, refl, sym, ap, ◌∙◌}
 use lib.ListN.{length, get_or, take, get_or-eq_default, get_or-map}
@@ -14,7 +14,6 @@ use Rattle.book.specs.Layout.{book_width, book_row, number_at}
 use Rattle.book.specs.HeadReading.{Before}
 use Rattle.book.specs.Rows.{book_rows, and_these}
 use Rattle.book.proofs.BooksStored.{rows_length, row_at}
-use Rattle.residue.specs.Reading.{Books}
 use Rattle.residue.specs.Inner.FromTable.{books_of}
 use Rattle.setup.specs.Content.{books_known}
 

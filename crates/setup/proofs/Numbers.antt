@@ -21,6 +21,7 @@ use Rattle.identification.specs.Sound.{is_sound}
 use Rattle.codeword_assignment.specs.Book.{used, first_refused, free_after, is_lone}
 use Rattle.rules.specs.Rules.{meets7, meets8}
 use Rattle.book.specs.Content.{Book}
+use Rattle.book.specs.declared.Head.{Head}
 use Rattle.book.specs.HeadReading as H
 use Rattle.book.specs.LengthsReading as L
 use Rattle.book.specs.LookupReading as U
@@ -114,7 +115,7 @@ head_numbered l before s k =
 book_numbered : (l : Limits) (before : H.Before) (s : List ℕ) (k : ℕ) → Numbered (K.book l before s k)
 unfolding K.book
 book_numbered l before s k =
-    then_numbered (head_numbered l before s k) (λ (h : H.Head × ℕ).
+    then_numbered (head_numbered l before s k) (λ (h : Head × ℕ).
     then_numbered (then_numbered (lengths_numbered k h.0.entries s h.1) (λ (ls : List ℕ × ℕ). entered_numbered k ls.0 (value ls))) (λ (ls : List ℕ × ℕ).
     then_numbered (lookup_numbered k h.0.entries h.0.dimensions l.multiplicands before.values s ls.1) (λ (x : U.Lookup × ℕ). value _)))
 

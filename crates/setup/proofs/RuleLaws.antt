@@ -3,7 +3,7 @@
 use Prim.Native.Nat.{ℕ, ◌+◌, ◌≤◌}
 use native.Mathlib.Omega.{arith}
 use borrow.Author.Tests.{leb-true, le-leb}
-use mathlib.Core.List.{List, [], ◌∷◌, map}
+use mathlib.Core.List.{List, [], ◌∷◌}
 use lib.ListN.{length}
 use Rattle.reading.specs.Lists.{sum}
 use Rattle.reading.specs.Encoding.{Each}
@@ -19,7 +19,7 @@ use Rattle.floor.specs.Rules.{Class11, Rule12}
 use Rattle.residue.specs.Rules.{Rule10, Residue11, Rule13}
 use Rattle.setup.specs.Content.{Setup, books_known, known}
 use Rattle.setup.specs.Carried.{Carried}
-use Rattle.setup.specs.Rules.{Rule11, entries_in_all, multiplicands_in_all, Rule14, MeetsRules}
+use Rattle.setup.specs.Rules.{entries_in_all, multiplicands_in_all, MeetsRules}
 use Rattle.setup.specs.Inner.Valid.{ValidSetup}
 use Rattle.setup.specs.Layout.{Tables}
 use Rattle.setup.specs.Sound.{Sound}

@@ -21,12 +21,11 @@ use Rattle.identification.specs.declared.Identity.{Identity}
 use Rattle.identification.specs.Sound.{is_sound}
 use Rattle.identification.proofs.SoundLaws.{sound_test_lem}
 use Rattle.book.specs.Content.{Book}
-use Rattle.book.specs.Reading.{books}
 use Rattle.book.specs.Inner.Valid.{ValidBooks}
 use Rattle.book.proofs.Accepted.{books_valid}
 use Rattle.floor.specs.Reading.{floor}
 use Rattle.floor.proofs.Laws.{floors_valid}
-use Rattle.residue.specs.Reading.{Books, residue}
+use Rattle.residue.specs.Reading.{residue}
 use Rattle.residue.proofs.Laws.{residues_valid}
 use Rattle.mapping.specs.Reading.{mapping}
 use Rattle.mapping.proofs.Laws.{mappings_valid}

@@ -1,8 +1,31 @@
--- The ten tables as a contract names them: slices, which a call was handed and has left.
-use Rattle.std.specs.Prelude.{ℕ, List}
+-- The ten tables as a contract names them: lent together, or slice by slice as C hands them in; what a call was handed and has left.
+use Rattle.std.specs.Prelude.{ℕ, List, ◌≡◌}
 use Rattle.std.specs.Borrow.{Bor, MutBor}
 use denote.Triple.Both.{Both}
 use Rattle.setup.specs.Layout.{Tables, tables}
+use Rattle.setup.specs.declared.lent.LentTables.{LentTables}
+use Rattle.setup.specs.declared.lent.LentTablesMut.{LentTablesMut}
+
+-- what tables hold that are lent to be read
+abbrev pub held : LentTables → Tables
+held t = tables t.counts.now t.books.now t.lengths.now t.codewords.now t.multiplicands.now t.floors.now t.residues.now t.plans.now t.mappings.now t.modes.now
+
+-- and that are lent to be written
+abbrev pub held_mut : LentTablesMut → Tables
+held_mut t = tables t.counts.now t.books.now t.lengths.now t.codewords.now t.multiplicands.now t.floors.now t.residues.now t.plans.now t.mappings.now t.modes.now
+
+-- a call that was lent `old` by `&mut` leaves the same slices there, whatever they hold now
+pub record StaysLent (old new : LentTablesMut) : Type 0 where
+  pub counts : new.counts.ghost_name ≡ old.counts.ghost_name
+  pub books : new.books.ghost_name ≡ old.books.ghost_name
+  pub lengths : new.lengths.ghost_name ≡ old.lengths.ghost_name
+  pub codewords : new.codewords.ghost_name ≡ old.codewords.ghost_name
+  pub multiplicands : new.multiplicands.ghost_name ≡ old.multiplicands.ghost_name
+  pub floors : new.floors.ghost_name ≡ old.floors.ghost_name
+  pub residues : new.residues.ghost_name ≡ old.residues.ghost_name
+  pub plans : new.plans.ghost_name ≡ old.plans.ghost_name
+  pub mappings : new.mappings.ghost_name ≡ old.mappings.ghost_name
+  pub modes : new.modes.ghost_name ≡ old.modes.ghost_name
 
 -- a slice of numbers that is lent to be written, before the call and after it
 abbrev pub Slice : Type 0

@@ -1,5 +1,5 @@
 -- The setup packet as 003's steps (section 4.2.4): the first fault in reading order decides (01, "Order").
-use Rattle.std.specs.Prelude.{ℕ, ◌+◌, List, eqb, length}
+use Rattle.std.specs.Prelude.{ℕ, ◌+◌, List, length}
 use Rattle.reading.specs.Outcome.{Outcome, ok, then}
 use Rattle.reading.specs.Reader.{Reader, judged, many}
 use Rattle.bits.specs.Field.{field}
@@ -8,13 +8,9 @@ use Rattle.header.specs.Header.{common_header, framing}
 use Rattle.limits.specs.declared.Limits.{Limits}
 use Rattle.book.specs.Content.{Book}
 use Rattle.book.specs.Reading.{books}
-use Rattle.floor.specs.Content.{Floor}
 use Rattle.floor.specs.Reading.{floor}
-use Rattle.residue.specs.Content.{Residue}
 use Rattle.residue.specs.Reading.{residue}
-use Rattle.mapping.specs.Content.{Mapping}
 use Rattle.mapping.specs.Reading.{mapping}
-use Rattle.mode.specs.Content.{Mode}
 use Rattle.mode.specs.Reading.{mode}
 use Rattle.setup.specs.Content.{Setup, books_known, known}
 

@@ -1,13 +1,14 @@
 -- Pieces of specs/Reading.antt under names of their own, one for each function that reads one, and what each leaves in its tables. Nothing is added
 -- to what is read. The tables are cleared before: what is written into them lies in front of zeros.
-use Rattle.std.specs.Prelude.{ℕ, ◌≤◌, List, [], ◌∷◌, ◌≡◌, length}
+use Rattle.bits.specs.declared.refusal.Refusal.{Refusal}
+use Rattle.bits.specs.declared.Cursor.{Cursor}
+use Rattle.std.specs.Prelude.{ℕ, ◌≤◌, List, [], ◌∷◌, ◌≡◌, length, Result, Ok}
 use Rattle.reading.specs.Outcome.{refusal, Outcome, ok, then, need}
 use Rattle.reading.specs.Reader.{Reader}
 use Rattle.reading.specs.Lists.{rows}
 use Rattle.reading.specs.Pad.{pad}
 use Rattle.reading.specs.Encoding.{Zeros}
-use Rattle.bits.specs.declared.Step.{Step}
-use Rattle.bits.specs.Inner.Cursors.{stepped}
+use Rattle.bits.specs.Inner.Cursors.{outcome, stepped}
 use Rattle.header.specs.Header.{common_header, framing}
 use Rattle.limits.specs.declared.Limits.{Limits}
 use Rattle.identification.specs.declared.Identity.{Identity}
@@ -30,12 +31,17 @@ use Rattle.mode.specs.Layout.{mode_row}
 use Rattle.mode.specs.Reading.{mode}
 use Rattle.setup.specs.Content.{Setup, books_known, known}
 use Rattle.setup.specs.Reading.{book_section, section, time_value}
-use Rattle.setup.specs.Layout.{Tables, has_room, written_out, cleared}
+use Rattle.setup.specs.Layout.{Tables, has_room, written_out}
 
 -- a function that answers r has read what o says; where that is a content, Stored says how it lies in the tables
-pub record ReadInto {C : Type 0} (o : Outcome (C × ℕ)) (r : Step) (Stored : C → Type 0) : Type 0 where
+pub record ReadInto {C : Type 0} (o : Outcome (C × ℕ)) (r : Result Cursor Refusal) (Stored : C → Type 0) : Type 0 where
   pub step : stepped r ≡ then o (λ x. ok x.1)
   pub stored : (x : C × ℕ) → o ≡ ok x → Stored x.0
+
+-- the same of a function that also answers a number, as of the items of a section
+pub record ReadCounted {V C : Type 0} (o : Outcome (C × ℕ)) (r : Result (V × Cursor) Refusal) (Stored : V → C → Type 0) : Type 0 where
+  pub step : then (outcome r) (λ x. ok x.1) ≡ then o (λ x. ok x.1)
+  pub stored : (v : V) (c : Cursor) → r ≡ Ok (v, c) → (x : C × ℕ) → o ≡ ok x → Stored v x.0
 
 -- n items with their rows in a table that was lent as `entry`
 module _ {A : Type 0} where
