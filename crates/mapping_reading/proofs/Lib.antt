@@ -1,5 +1,3 @@
-pub mod CountLaws
+pub mod Fits
 pub mod Fillings
-pub mod CouplingLaws
-pub mod SubmapLaws
 pub mod MappingLaws

@@ -13,10 +13,12 @@ ghost use Rattle.bits.specs.Inner.Cursors.{position, Wrote};
 ghost use Rattle.mapping.specs.Reading.{parts, mapping};
 ghost use Rattle.mapping.specs.Layout.{mapping_row, parts_into, mapping_width, mappings_need};
 
-use bits::{Cursor, Field, Refusal, Step};
+use bits::Cursor;
+use bits::refusal::{Reason, Refusal};
 use mapping::{Known, MAPPING_WIDTH};
 
 // What follows a mapping's counts, into a row in which those stand.
+#[tactic(auto, unfolding(bits::specs::Inner::Cursors::outcome, bits::specs::Inner::Cursors::stepped, mapping::specs::Reading::parts, reading::specs::Reader::mapped, mapping::specs::Layout::parts_into))]
 fn read_parts(
     packet: &[u8],
     from: Cursor,
@@ -24,37 +26,27 @@ fn read_parts(
     submaps: u32,
     steps: u32,
     row: &mut [u8],
-) -> Step
+) -> Result<Cursor, Refusal>
     requires { (1 ≤ known.channels) × (known.channels ≤ 255) × (submaps ≤ 16) × (steps ≤ 256) }
     ensures { Wrote (mapped (parts_into row.old) (parts known submaps steps packet.now (position from)))
         result row.new }
 {
-    match crate::couplings::read_couplings(packet, from, steps, known.channels, row) {
-        Step::Refused(z) => Step::Refused(z),
-        Step::Next(at_reserved) => match at_reserved.field(packet, 2) {
-            Field::Refused(z) => Step::Refused(z),
-            Field::Value(reserved, at_multiplex) => {
-                if reserved != 0 {
-                    return Step::Refused(Refusal {
-                        number: 9,
-                        place: at_reserved,
-                    });
-                }
-                match crate::submaps::read_multiplexes(
-                    packet,
-                    at_multiplex,
-                    known.channels,
-                    submaps,
-                    row,
-                ) {
-                    Step::Refused(z) => Step::Refused(z),
-                    Step::Next(at_submaps) => crate::submaps::read_submaps(
-                        packet, at_submaps, submaps, known, row,
-                    ),
-                }
-            }
-        },
+    let at_reserved = crate::couplings::read_couplings(packet, from, steps, known.channels, row)?;
+    let (reserved, at_multiplex) = at_reserved.field(packet, 2)?;
+    if reserved != 0 {
+        return Err(Refusal {
+            reason: Reason::NotZero,
+            place: at_reserved,
+        });
     }
+    let at_submaps = crate::submaps::read_multiplexes(
+        packet,
+        at_multiplex,
+        known.channels,
+        submaps,
+        row,
+    )?;
+    crate::submaps::read_submaps(packet, at_submaps, submaps, known, row)
 }
 
 // A row in which a mapping's counts stand, and zeros behind them.
@@ -70,6 +62,7 @@ fn counted(submaps: u32, steps: u32) -> [u8; MAPPING_WIDTH]
 }
 
 // A mapping whose counts were read, its row written at `at`.
+#[tactic(auto, unfolding(bits::specs::Inner::Cursors::outcome, bits::specs::Inner::Cursors::stepped, reading::specs::Reader::into1, reading::specs::Reader::mapped))]
 fn read_row(
     packet: &[u8],
     from: Cursor,
@@ -78,55 +71,40 @@ fn read_row(
     steps: u32,
     mappings: &mut [u8],
     at: usize,
-) -> Step
+) -> Result<Cursor, Refusal>
     requires { (1 ≤ known.channels) × (known.channels ≤ 255) × (submaps ≤ 16) × (steps ≤ 256) × (at ≤ mappings_need) }
     ensures { Wrote (into1 (put_row mapping_row) (parts known submaps steps packet.now (position from)) (table mappings.old at))
         result (table mappings.new (at + mapping_width)) }
 {
     let mut row = counted(submaps, steps);
-    match read_parts(packet, from, known, submaps, steps, &mut row) {
-        Step::Refused(z) => Step::Refused(z),
-        Step::Next(next) => {
-            reading::buffers::write_u8(mappings, at, &row);
-            Step::Next(next)
-        }
-    }
+    let next = read_parts(packet, from, known, submaps, steps, &mut row)?;
+    reading::buffers::write(mappings, at, &row);
+    Ok(next)
 }
 
 // One mapping, its row written at `at`.
+#[tactic(auto, using(crate::proofs::Fits::counts_few), unfolding(bits::specs::Inner::Cursors::outcome, bits::specs::Inner::Cursors::stepped, mapping::specs::Reading::mapping, reading::specs::Reader::into1, reading::specs::Reader::mapped))]
 pub fn read_mapping(
     packet: &[u8],
     from: Cursor,
     known: Known,
     mappings: &mut [u8],
     at: usize,
-) -> Step
+) -> Result<Cursor, Refusal>
     requires { (1 ≤ known.channels) × (known.channels ≤ 255) × (at ≤ mappings_need) }
     ensures { Wrote (into1 (put_row mapping_row) (mapping known packet.now (position from)) (table mappings.old at))
         result (table mappings.new (at + mapping_width)) }
 {
-    match from.field(packet, 16) {
-        Field::Refused(z) => Step::Refused(z),
-        Field::Value(kind, at_submaps) => {
-            if kind != 0 {
-                return Step::Refused(Refusal {
-                    number: 9,
-                    place: from,
-                });
-            }
-            match counts::read_submap_count(packet, at_submaps) {
-                Field::Refused(z) => Step::Refused(z),
-                Field::Value(submaps, at_steps) => match counts::read_coupling_count(
-                    packet, at_steps,
-                ) {
-                    Field::Refused(z) => Step::Refused(z),
-                    Field::Value(steps, at_parts) => read_row(
-                        packet, at_parts, known, submaps, steps, mappings, at,
-                    ),
-                },
-            }
-        }
+    let (kind, at_submaps) = from.field(packet, 16)?;
+    if kind != 0 {
+        return Err(Refusal {
+            reason: Reason::NotZero,
+            place: from,
+        });
     }
+    let (submaps, at_steps) = counts::read_submap_count(packet, at_submaps)?;
+    let (steps, at_parts) = counts::read_coupling_count(packet, at_steps)?;
+    read_row(packet, at_parts, known, submaps, steps, mappings, at)
 }
 
 // `count` mappings, their rows from the front of the buffer.
@@ -136,23 +114,14 @@ pub fn read_mappings(
     count: usize,
     known: Known,
     mappings: &mut [u8],
-) -> Step
+) -> Result<Cursor, Refusal>
     requires { (1 ≤ known.channels) × (known.channels ≤ 255) × (count ≤ 64) }
     ensures { Wrote (into (put_row mapping_row) (many (mapping known) count packet.now (position from)) (table mappings.old 0))
         result (table mappings.new (mapping_width * count)) }
 {
     let mut k = from;
-    let mut i: usize = 0;
-    while i < count {
-        match read_mapping(packet, k, known, mappings, MAPPING_WIDTH * i) {
-            Step::Refused(z) => {
-                return Step::Refused(z);
-            }
-            Step::Next(next) => {
-                k = next;
-            }
-        }
-        i = i + 1;
+    for i in 0..count {
+        k = read_mapping(packet, k, known, mappings, MAPPING_WIDTH * i)?;
     }
-    Step::Next(k)
+    Ok(k)
 }

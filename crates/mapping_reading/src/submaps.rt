@@ -8,131 +8,122 @@ ghost use Rattle.bits.specs.Inner.Cursors.{position, Wrote};
 ghost use Rattle.mapping.specs.Reading.{multiplex, multiplexes, submap};
 ghost use Rattle.mapping.specs.Layout.{multiplex_row, submap_row, mapping_width, multiplex_place, submaps_place};
 
-use bits::{Cursor, Field, Refusal, Step};
+use bits::Cursor;
+use bits::refusal::{Reason, Refusal};
 use mapping::{Known, MULTIPLEX_PLACE, SUBMAPS_PLACE};
 
 // One channel's submap, which is written at `at` plus one.
-pub fn read_multiplex(packet: &[u8], from: Cursor, submaps: u32, row: &mut [u8], at: usize) -> Step
+#[tactic(auto, using(crate::proofs::Fits::multiplex_fits), unfolding(bits::specs::Inner::Cursors::outcome, bits::specs::Inner::Cursors::stepped, mapping::specs::Reading::multiplex, reading::specs::Reader::into1, reading::specs::Reader::mapped, reading::specs::Inner::Table::put_row, mapping::specs::Layout::multiplex_row))]
+pub fn read_multiplex(
+    packet: &[u8],
+    from: Cursor,
+    submaps: u32,
+    row: &mut [u8],
+    at: usize,
+) -> Result<Cursor, Refusal>
     requires { at ≤ mapping_width }
     ensures { Wrote (into1 (put_row multiplex_row) (multiplex submaps packet.now (position from)) (table row.old at))
         result (table row.new (at + 1)) }
 {
-    match from.field(packet, 4) {
-        Field::Refused(z) => Step::Refused(z),
-        Field::Value(number, next) => {
-            if number >= submaps {
-                return Step::Refused(Refusal {
-                    number: 11,
-                    place: from,
-                });
-            }
-            reading::buffers::put_u8(row, at, (number + 1) as u8);
-            Step::Next(next)
-        }
+    let (number, next) = from.field(packet, 4)?;
+    if number >= submaps {
+        return Err(Refusal {
+            reason: Reason::NotSetUp,
+            place: from,
+        });
     }
+    reading::buffers::put(row, at, (number + 1) as u8);
+    Ok(next)
 }
 
 // Every channel's submap, into its part of the row.
-fn read_channels(packet: &[u8], from: Cursor, channels: u32, submaps: u32, row: &mut [u8]) -> Step
+fn read_channels(
+    packet: &[u8],
+    from: Cursor,
+    channels: u32,
+    submaps: u32,
+    row: &mut [u8],
+) -> Result<Cursor, Refusal>
     requires { channels ≤ 255 }
     ensures { Wrote (mapped (λ l. sets row.old multiplex_place (rows multiplex_row l))
         (many (multiplex submaps) channels packet.now (position from)))
         result row.new }
 {
     let mut k = from;
-    let mut i: u32 = 0;
-    let mut at: usize = MULTIPLEX_PLACE;
-    while i < channels {
-        match read_multiplex(packet, k, submaps, row, at) {
-            Step::Refused(z) => {
-                return Step::Refused(z);
-            }
-            Step::Next(next) => {
-                k = next;
-            }
-        }
-        at = at + 1;
-        i = i + 1;
+    for i in 0..channels {
+        k = read_multiplex(packet, k, submaps, row, MULTIPLEX_PLACE + i as usize)?;
     }
-    Step::Next(k)
+    Ok(k)
 }
 
 // The multiplex: nothing where there is one submap.
+#[tactic(auto, unfolding(bits::specs::Inner::Cursors::outcome, bits::specs::Inner::Cursors::stepped, mapping::specs::Reading::multiplexes, reading::specs::Reader::mapped, reading::specs::Lists::rows))]
 pub fn read_multiplexes(
     packet: &[u8],
     from: Cursor,
     channels: u32,
     submaps: u32,
     row: &mut [u8],
-) -> Step
+) -> Result<Cursor, Refusal>
     requires { channels ≤ 255 }
     ensures { Wrote (mapped (λ l. sets row.old multiplex_place (rows multiplex_row l))
         (multiplexes channels submaps packet.now (position from)))
         result row.new }
 {
     if submaps <= 1 {
-        return Step::Next(from);
+        return Ok(from);
     }
     read_channels(packet, from, channels, submaps, row)
 }
 
 // One submap, its row written at `at`.
-pub fn read_submap(packet: &[u8], from: Cursor, known: Known, row: &mut [u8], at: usize) -> Step
+#[tactic(auto, using(bits::proofs::Answers::byte_below), unfolding(bits::specs::Inner::Cursors::outcome, bits::specs::Inner::Cursors::stepped, mapping::specs::Reading::submap, reading::specs::Reader::into1, reading::specs::Reader::mapped, reading::specs::Inner::Table::put_row, mapping::specs::Layout::submap_row))]
+pub fn read_submap(
+    packet: &[u8],
+    from: Cursor,
+    known: Known,
+    row: &mut [u8],
+    at: usize,
+) -> Result<Cursor, Refusal>
     requires { at ≤ mapping_width }
     ensures { Wrote (into1 (put_row submap_row) (submap known packet.now (position from)) (table row.old at))
         result (table row.new (at + 2)) }
 {
-    match from.field(packet, 8) {
-        Field::Refused(z) => Step::Refused(z),
-        Field::Value(_, at_floor) => match at_floor.field(packet, 8) {
-            Field::Refused(z) => Step::Refused(z),
-            Field::Value(floor, at_residue) => {
-                if floor >= known.floors {
-                    return Step::Refused(Refusal {
-                        number: 11,
-                        place: at_floor,
-                    });
-                }
-                match at_residue.field(packet, 8) {
-                    Field::Refused(z) => Step::Refused(z),
-                    Field::Value(residue, next) => {
-                        if residue >= known.residues {
-                            return Step::Refused(Refusal {
-                                number: 11,
-                                place: at_residue,
-                            });
-                        }
-                        let pair: [u8; 2] = [floor as u8, residue as u8];
-                        reading::buffers::write_u8(row, at, &pair);
-                        Step::Next(next)
-                    }
-                }
-            }
-        },
+    let (_, at_floor) = from.field(packet, 8)?;
+    let (floor, at_residue) = at_floor.field(packet, 8)?;
+    if floor >= known.floors {
+        return Err(Refusal {
+            reason: Reason::NotSetUp,
+            place: at_floor,
+        });
     }
+    let (residue, next) = at_residue.field(packet, 8)?;
+    if residue >= known.residues {
+        return Err(Refusal {
+            reason: Reason::NotSetUp,
+            place: at_residue,
+        });
+    }
+    reading::buffers::write(row, at, &[floor as u8, residue as u8]);
+    Ok(next)
 }
 
 // `count` submaps, into their part of the row.
-pub fn read_submaps(packet: &[u8], from: Cursor, count: u32, known: Known, row: &mut [u8]) -> Step
+pub fn read_submaps(
+    packet: &[u8],
+    from: Cursor,
+    count: u32,
+    known: Known,
+    row: &mut [u8],
+) -> Result<Cursor, Refusal>
     requires { count ≤ 16 }
     ensures { Wrote (mapped (λ l. sets row.old submaps_place (rows submap_row l))
         (many (submap known) count packet.now (position from)))
         result row.new }
 {
     let mut k = from;
-    let mut i: u32 = 0;
-    let mut at: usize = SUBMAPS_PLACE;
-    while i < count {
-        match read_submap(packet, k, known, row, at) {
-            Step::Refused(z) => {
-                return Step::Refused(z);
-            }
-            Step::Next(next) => {
-                k = next;
-            }
-        }
-        at = at + 2;
-        i = i + 1;
+    for i in 0..count {
+        k = read_submap(packet, k, known, row, SUBMAPS_PLACE + 2 * i as usize)?;
     }
-    Step::Next(k)
+    Ok(k)
 }
