@@ -1,4 +1,6 @@
 -- Laws of reading codewords into the lent list: what is read, and what is left to read. Assumes nothing.
+use Rattle.std.specs.Prelude.{Result, Ok, Err, IsErrAnd}
+use Rattle.std.proofs.lemmas.Result.{err_from_is_err_and}
 use Prim.Native.Nat.{ℕ, ◌+◌, ◌≤◌, ◌<◌}
 use native.Mathlib.Omega.{arith}
 use borrow.Author.Tests.{leb-true, leb-false, le-leb, lt-leb}
@@ -19,8 +21,8 @@ use Rattle.requests.specs.Inner.Parts.{after, joined}
 use Rattle.requests.proofs.Laws.{run_bind}
 use Rattle.residue_requests.proofs.AgainLaws.{numbers, numbers_append, numbers_long}
 use Rattle.codeword_list.specs.declared.Progress.{Progress}
-use Rattle.codeword_list.specs.declared.ListRead.{ListRead}
-use Rattle.codeword_list.specs.declared.ListRead.TheVariants.{Whole, Cut, Full}
+use Rattle.codeword_list.specs.declared.Stop.{Stop}
+use Rattle.codeword_list.specs.declared.Stop.TheVariants.{Cut, Full}
 use Rattle.codeword_list.specs.Inner.ListRead.{all, cut, full, ending_of, ending_by, ending_in, ReadIntoList}
 
 -- items before those of a run
@@ -52,7 +54,7 @@ module _ {A : Type 0} where
   ending_full (some a) at n e = let z : ◌≡◌ {A = ℕ} 0 1 = cc in omega arith
   ending_full none at n e = let z : ◌≡◌ {A = ℕ} 0 1 = cc in omega arith
 
-  pub read_whole : {room count : ℕ} {r : Run A} {p : Progress} {x : ListRead} → x ≡ Whole p → ending_of x ≡ ending_in room count r → ReadWhole room count r p
+  pub read_whole : {room count : ℕ} {r : Run A} {p : Progress} {x : Result Progress Stop} → x ≡ Ok p → ending_of x ≡ ending_in room count r → ReadWhole room count r p
   unfolding ending_of ending_in
   read_whole {room} {count} {r} {p} {x} q e = go (leb (count + length r.items) room) refl (ap ending_of (sym q) ∙ e)
     where
@@ -76,15 +78,15 @@ module _ {A : Type 0} where
   unfolding items_before
   sofar_start h = record { items = []; split = refl; list = refl; number = omega arith; fits = h }
 
-  pub read_length : {r : Run A} {out : List ℕ} {c : ℕ} {x : ListRead} {exit : List ℕ} → ReadIntoList r out c x exit → length exit ≡ length out
+  pub read_length : {r : Run A} {out : List ℕ} {c : ℕ} {x : Result Progress Stop} {exit : List ℕ} → ReadIntoList r out c x exit → length exit ≡ length out
   read_length {r} {out} {c} w = ap length w.list ∙ length-sets out c (numbers r.items)
 
-  pub read_room : {r : Run A} {out : List ℕ} {c : ℕ} {x : ListRead} {exit : List ℕ} {p : Progress} → ReadIntoList r out c x exit → x ≡ Whole p → p.count ≤ length exit
+  pub read_room : {r : Run A} {out : List ℕ} {c : ℕ} {x : Result Progress Stop} {exit : List ℕ} {p : Progress} → ReadIntoList r out c x exit → x ≡ Ok p → p.count ≤ length exit
   read_room w q = let y = read_whole q w.ending in let z = read_length w in omega (arith, y.fits)
 
   -- nothing is left
   pub read_nothing : {at : Cursor} {out : List ℕ} {c : ℕ} {a : A} {r : Run A} → r ≡ ended [] (position at) (some a) → c ≤ length out → {p : Progress}
-      → p ≡ record { at = at; count = c } → ReadIntoList r out c (Whole p) out
+      → p ≡ record { at = at; count = c } → ReadIntoList r out c (Ok p) out
   unfolding ending_in ending_of
   read_nothing {at} {out} {c} e f g = let z : c + 0 ≡ c = omega arith in rw (e, g) (record { ending = rw (z, le-leb c (length out) f); list = refl })
 
@@ -99,7 +101,7 @@ module _ {A : Type 0} {r : Run A} {entry : List ℕ} {c₀ : ℕ} {rest : Run A}
   sofar_numbers l = rw (p.list, p.number, numbers_append, sets_append, numbers_long) refl
 
   -- what is read last answers for all
-  pub sofar_last : {x : ListRead} {exit : List ℕ} → ReadIntoList rest out c x exit → ReadIntoList r entry c₀ x exit
+  pub sofar_last : {x : Result Progress Stop} {exit : List ℕ} → ReadIntoList rest out c x exit → ReadIntoList r entry c₀ x exit
   unfolding ending_in items_before
   sofar_last {x} {exit} w =
       let n : c + length rest.items ≡ c₀ + length (p.items ++ rest.items) = omega (arith, p.number, length-append p.items rest.items) in
@@ -113,9 +115,9 @@ module _ {A B : Type 0} where
   joined_whole r f e g = rw (e, g)
 
   module _ {r : Run B} {entry : List ℕ} {c₀ : ℕ} {rest : Run B} {out : List ℕ} {c : ℕ} (p : ReadSoFar r entry c₀ rest out c)
-      {first : Run A} (f : A → ℕ → Run B) (j : rest ≡ joined first f) {x : ListRead} {exit : List ℕ} (w : ReadIntoList first out c x exit) where
+      {first : Run A} (f : A → ℕ → Run B) (j : rest ≡ joined first f) {x : Result Progress Stop} {exit : List ℕ} (w : ReadIntoList first out c x exit) where
     -- the first came whole, and the other is left
-    pub sofar_next : {m : Progress} → x ≡ Whole m → (a : A) × (first.value ≡ some a) × ReadSoFar r entry c₀ (f a (position m.at)) exit m.count
+    pub sofar_next : {m : Progress} → x ≡ Ok m → (a : A) × (first.value ≡ some a) × ReadSoFar r entry c₀ (f a (position m.at)) exit m.count
     sofar_next {m} q =
         let y = read_whole q w.ending in
         let l = sofar_length p in
@@ -133,26 +135,26 @@ module _ {A B : Type 0} where
         )
 
   -- the first was cut, or the list was full: so is the whole
-  module _ (f : A → ℕ → Run B) {first : Run A} {out : List ℕ} {c : ℕ} {x : ListRead} {exit : List ℕ} (w : ReadIntoList first out c x exit) where
+  module _ (f : A → ℕ → Run B) {first : Run A} {out : List ℕ} {c : ℕ} {x : Result Progress Stop} {exit : List ℕ} (w : ReadIntoList first out c x exit) where
     abbrev needed : ℕ
     needed = c + length first.items
 
-    pub joined_cut : {m : Progress} → x ≡ Cut m → ReadIntoList (joined first f) out c (Cut m) exit
+    pub joined_cut : {m : Progress} → x ≡ Err (Cut m) → ReadIntoList (joined first f) out c (Err (Cut m)) exit
     unfolding ending_in ending_of joined
     joined_cut {m} q = go (leb needed (length out)) refl (ap ending_of (sym q) ∙ w.ending)
       where
         go : (t : Bool) → leb needed (length out) ≡ t → cut (position m.at) m.count ≡ cond t (ending_by first.value first.position needed) full
-            → ReadIntoList (after first.items first.position first.value f) out c (Cut m) exit
+            → ReadIntoList (after first.items first.position first.value f) out c (Err (Cut m)) exit
         go false g e = let z : ◌≡◌ {A = ℕ} 0 1 = cc in absurd (omega arith)
         go true g e =
             let y = ending_cut first.value first.position needed (position m.at) m.count e in
             rw y.0 (record { ending = rw (g, y.1, y.2); list = w.list })
 
-    pub joined_full : x ≡ Full → ReadIntoList (joined first f) out c Full exit
+    pub joined_full : x ≡ Err Full → ReadIntoList (joined first f) out c (Err Full) exit
     unfolding ending_in ending_of joined
     joined_full q = go (leb needed (length out)) refl (ap ending_of (sym q) ∙ w.ending)
       where
-        more : (v : Option A) → length out < needed → ReadIntoList (after first.items first.position v f) out c Full exit
+        more : (v : Option A) → length out < needed → ReadIntoList (after first.items first.position v f) out c (Err Full) exit
         more none g = record { ending = rw (lt-leb needed (length out) g); list = w.list }
         more (some a) g =
             let l = (f a first.position).items in
@@ -166,9 +168,19 @@ module _ {A B : Type 0} where
             }
 
         go : (t : Bool) → leb needed (length out) ≡ t → full ≡ cond t (ending_by first.value first.position needed) full
-            → ReadIntoList (after first.items first.position first.value f) out c Full exit
+            → ReadIntoList (after first.items first.position first.value f) out c (Err Full) exit
         go true g e = absurd (ending_full first.value first.position needed e)
         go false g e = more first.value (leb-false needed (length out) g)
+
+    -- whatever stopped it
+    pub joined_stop : {e : Stop} → x ≡ Err e → ReadIntoList (joined first f) out c (Err e) exit
+    joined_stop {Cut m} q = joined_cut q
+    joined_stop {Full} q = joined_full q
+
+-- the exit of a `?` returns what stopped reading
+pub read_back : {A : Type 0} {r : Run A} {out : List ℕ} {c : ℕ} {exit : List ℕ} (x : Result Progress Stop) (e : Stop) → IsErrAnd x (λ y. y ≡ e)
+    → ReadIntoList r out c (Err e) exit → ReadIntoList r out c x exit
+read_back x e b w = let p = err_from_is_err_and x b in let q : x ≡ Err e = p.1 ∙ ap Err p.2 in rw q w
 
 -- RUNS THAT FILL A LIST ALIKE: the same numbers, the same position, whole or cut both. What a run's value is, and which book an item names, the list does not show
 abbrev pub whole : {A : Type 0} → Option A → Bool
@@ -186,7 +198,7 @@ alike_ending none none at n e = refl
 alike_ending (some a) none at n e = let z : ◌≡◌ {A = ℕ} 0 1 = cc in absurd (omega arith)
 alike_ending none (some b) at n e = let z : ◌≡◌ {A = ℕ} 0 1 = cc in absurd (omega arith)
 
-pub read_alike : {A B : Type 0} {r : Run A} {t : Run B} {out : List ℕ} {c : ℕ} {x : ListRead} {exit : List ℕ} → Alike r t → ReadIntoList r out c x exit → ReadIntoList t out c x exit
+pub read_alike : {A B : Type 0} {r : Run A} {t : Run B} {out : List ℕ} {c : ℕ} {x : Result Progress Stop} {exit : List ℕ} → Alike r t → ReadIntoList r out c x exit → ReadIntoList t out c x exit
 unfolding ending_in
 read_alike {r = r} {t = t} {out} {c} a w =
     let n : length r.items ≡ length t.items = sym (numbers_long r.items) ∙ ap length a.numbers_are ∙ numbers_long t.items in

@@ -11,8 +11,8 @@ ghost use Rattle.residue_requests.specs.Inner.Unplaced.{flat_vectors};
 ghost use Rattle.codeword_list.specs.Inner.ListRead.{ReadIntoList};
 ghost use Rattle.codeword_list.specs.Inner.WordsRun.{words_run, one_word, vectors_run};
 
-use bits::{Cursor, Field};
-use reading::widths::wide_u32;
+use bits::Cursor;
+use book_codeword::Codebooks;
 
 // Where reading goes on, and how many codewords the list holds.
 #[derive(Clone, Copy)]
@@ -21,11 +21,9 @@ pub struct Progress {
     pub count: usize,
 }
 
-// What reading codewords into the list comes to.
+// What stops reading codewords into the list before all that was asked is there.
 #[derive(Clone, Copy)]
-pub enum ListRead {
-    // All that was asked.
-    Whole(Progress),
+pub enum Stop {
     // A codeword was cut: the position behind the last whole one, and how many there are.
     Cut(Progress),
     // The list is too short: refusal 17, whatever else the packet holds.
@@ -37,10 +35,7 @@ fn list_number(entry: u32, vector: bool) -> u32
     requires { entry ≤ 16777216 }
     ensures { result ≡ 2 * entry + one vector }
 {
-    if vector {
-        return 2 * entry + 1;
-    }
-    2 * entry
+    2 * entry + vector as u32
 }
 
 // One codeword of a book: one that names a vector, or a class word.
@@ -49,34 +44,29 @@ pub fn read_word(
     from: Progress,
     book: u32,
     vector: bool,
-    books: &[u32],
-    lengths: &[u8],
-    codewords: &[u32],
+    codebooks: Codebooks,
     out: &mut [u32],
-) -> ListRead
-    requires { (from.count ≤ length out.old) × BookStored books.now lengths.now codewords.now book }
-    ensures { ReadIntoList (words_run books.now lengths.now (one_word book vector) packet.now (position from.at))
+) -> Result<Progress, Stop>
+    requires { (from.count ≤ length out.old) × BookStored codebooks.books.now codebooks.lengths.now codebooks.codewords.now book }
+    ensures { ReadIntoList (words_run codebooks.entry.books.now codebooks.entry.lengths.now (one_word book vector) packet.now (position from.at))
         out.old from.count result out.new }
 {
-    let at = from.at;
-    let count = from.count;
-    match book_codeword::read_entry(packet, at, book, books, lengths, codewords) {
-        Field::Refused(_) => ListRead::Cut(from),
-        Field::Value(entry, next) => {
-            let needed = count + 1;
-            if out.len() < needed {
-                return ListRead::Full;
-            }
-            out[count] = list_number(entry, vector);
-            ListRead::Whole(Progress {
-                at: next,
-                count: needed,
-            })
-        }
+    let Ok((entry, next)) = book_codeword::read_entry(packet, from.at, book, codebooks) else {
+        return Err(Stop::Cut(from));
+    };
+    let needed = from.count + 1;
+    if out.len() < needed {
+        return Err(Stop::Full);
     }
+    out[from.count] = list_number(entry, vector);
+    Ok(Progress {
+        at: next,
+        count: needed,
+    })
 }
 
 // The codewords of a book for `size` values, each naming a vector of `dimensions` values: as many as fit. The book is lent as its own part of the tables.
+// What is left is counted down by the dimensions: a `for` over the number of codewords would divide first.
 fn read_vectors(
     packet: &[u8],
     from: Progress,
@@ -86,32 +76,30 @@ fn read_vectors(
     lengths: &[u8],
     codewords: &[u32],
     out: &mut [u32],
-) -> ListRead
+) -> Result<Progress, Stop>
     requires { (from.count ≤ length out.old) × Codebook lengths.now codewords.now × (lone ≡ lone_mark lengths.now) × (1 ≤ dimensions) }
     ensures { ReadIntoList (vectors_run lengths.now (size / dimensions) packet.now (position from.at))
         out.old from.count result out.new }
 {
-    let mut at = from.at;
-    let mut count = from.count;
+    let mut done = from;
     let mut left = size;
     while dimensions <= left {
-        match codeword::read_codeword(packet, at, lone, lengths, codewords) {
-            Field::Refused(_) => {
-                return ListRead::Cut(Progress { at, count });
-            }
-            Field::Value(entry, next) => {
-                let needed = count + 1;
-                if out.len() < needed {
-                    return ListRead::Full;
-                }
-                out[count] = list_number(entry, true);
-                at = next;
-                count = needed;
-            }
+        let Ok((entry, next)) = codeword::read_codeword(packet, done.at, lone, lengths, codewords)
+        else {
+            return Err(Stop::Cut(done));
+        };
+        let needed = done.count + 1;
+        if out.len() < needed {
+            return Err(Stop::Full);
         }
-        left = left - dimensions;
+        out[done.count] = list_number(entry, true);
+        done = Progress {
+            at: next,
+            count: needed,
+        };
+        left -= dimensions;
     }
-    ListRead::Whole(Progress { at, count })
+    Ok(done)
 }
 
 // The codewords of a partition of `size` values, each naming a vector. The book's row is looked up once for all.
@@ -120,27 +108,26 @@ pub fn read_run(
     from: Progress,
     book: u32,
     size: u32,
-    books: &[u32],
-    lengths: &[u8],
-    codewords: &[u32],
+    codebooks: Codebooks,
     out: &mut [u32],
-) -> ListRead
-    requires { (from.count ≤ length out.old) × BookStored books.now lengths.now codewords.now book × (1 ≤ dimensions_in books.now book) }
-    ensures { ReadIntoList (words_run books.now lengths.now (flat_vectors book (size / dimensions_in books.now book))
-        packet.now (position from.at)) out.old from.count result out.new }
+) -> Result<Progress, Stop>
+    requires { (from.count ≤ length out.old) × BookStored codebooks.books.now codebooks.lengths.now codebooks.codewords.now book
+        × (1 ≤ dimensions_in codebooks.books.now book) }
+    ensures { ReadIntoList (words_run codebooks.entry.books.now codebooks.entry.lengths.now
+        (flat_vectors book (size / dimensions_in codebooks.entry.books.now book)) packet.now (position from.at)) out.old from.count result out.new }
 {
-    let first = wide_u32(book_row::first_entry(books, book));
-    let end = first + wide_u32(book_row::entries(books, book));
-    let lone = book_row::lone(books, book);
-    let dimensions = book_row::dimensions(books, book);
+    let first = book_row::first_entry(codebooks.books, book) as usize;
+    let end = first + book_row::entries(codebooks.books, book) as usize;
+    let lone = book_row::lone(codebooks.books, book);
+    let dimensions = book_row::dimensions(codebooks.books, book);
     read_vectors(
         packet,
         from,
         size,
         dimensions,
         lone,
-        &lengths[first..end],
-        &codewords[first..end],
+        &codebooks.lengths[first..end],
+        &codebooks.codewords[first..end],
         out,
     )
 }

@@ -8,8 +8,8 @@ loop-left-init c = search looped
 pub read_codeword-requires : goal.read_codeword-requires
 read_codeword-requires c = search looped
 
-pub returns-in-Refused : goal.returns-in-Refused
-returns-in-Refused c = search looped
+pub returns-in_default : goal.returns-in_default
+returns-in_default c = search looped
 
 pub overflow_add-needed : goal.overflow_add-needed
 overflow_add-needed c = search looped

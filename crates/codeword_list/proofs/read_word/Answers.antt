@@ -11,8 +11,8 @@ returns-then-out-needed c = search asked
 pub list_number-requires : goal.list_number-requires
 list_number-requires c = search asked
 
-pub returns-in-Refused : goal.returns-in-Refused
-returns-in-Refused c = search asked
+pub returns-in_default : goal.returns-in_default
+returns-in_default c = search asked
 
-pub returns-else-out-needed : goal.returns-else-out-needed
-returns-else-out-needed c = search asked
+pub returns : goal.returns
+returns c = search asked
