@@ -13,33 +13,28 @@ ghost use Rattle.floor.specs.Reading.{floor_type, floor1, floor, floor_from};
 ghost use Rattle.floor.specs.Inner.Counts.{classes_to, values_to, Partitions};
 ghost use Rattle.floor_reading.specs.Inner.Pieces.{row_of};
 
-use bits::{Cursor, Field, Refusal, Step};
+use bits::Cursor;
+use bits::refusal::{Reason, Refusal};
 use floor::{CLASSES_PLACE, CLASSES_ROOM, FLOOR_WIDTH, PARTITIONS_ROOM, X_LIST_ROOM};
-use reading::buffers;
-use reading::widths::{wide_u16, wide_u32};
 
 // The type field: 0 is refusal 14, above 1 is 10.
-pub fn read_type(packet: &[u8], from: Cursor) -> Field
+pub fn read_type(packet: &[u8], from: Cursor) -> Result<(u32, Cursor), Refusal>
     ensures { outcome result ≡ floor_type packet.now (position from) }
 {
-    match from.field(packet, 16) {
-        Field::Refused(z) => Field::Refused(z),
-        Field::Value(number, next) => {
-            if number == 0 {
-                return Field::Refused(Refusal {
-                    number: 14,
-                    place: from,
-                });
-            }
-            if 1 < number {
-                return Field::Refused(Refusal {
-                    number: 10,
-                    place: from,
-                });
-            }
-            Field::Value(number, next)
-        }
+    let (number, next) = from.field(packet, 16)?;
+    if number == 0 {
+        return Err(Refusal {
+            reason: Reason::Limit,
+            place: from,
+        });
     }
+    if 1 < number {
+        return Err(Refusal {
+            reason: Reason::UnknownType,
+            place: from,
+        });
+    }
+    Ok((number, next))
 }
 
 // A floor's row, from place `at` on.
@@ -70,7 +65,7 @@ pub fn read_after_classes(
     class_count: usize,
     floors: &mut [u16],
     at: usize,
-) -> Step
+) -> Result<Cursor, Refusal>
     requires { (partition_count ≤ 31) × (class_count ≤ 16) × (at ≤ floors_need)
         × (length partitions.now ≡ partitions_room) × (length classes.now ≡ classes_room) }
     ensures { Wrote (into1 (put_row (row_of partition_count class_count partitions.now classes.now))
@@ -79,22 +74,16 @@ pub fn read_after_classes(
 {
     let values = floor_row::counts::value_count(partitions, partition_count, classes);
     let mut list = [0u16; X_LIST_ROOM];
-    let ends = floor_x_list::read_ends(packet, from, place, values, &mut list);
-    let step = ends.step;
-    match step {
-        Step::Refused(z) => Step::Refused(z),
-        Step::Next(next) => {
-            let head = [
-                numbers::short(partition_count),
-                numbers::short(class_count),
-                numbers::narrow(ends.multiplier),
-                numbers::narrow(ends.rangebits),
-                numbers::short(2 + values),
-            ];
-            write_row(floors, at, &head, partitions, classes, &list);
-            Step::Next(next)
-        }
-    }
+    let (ends, next) = floor_x_list::read_ends(packet, from, place, values, &mut list)?;
+    let head = [
+        partition_count as u16,
+        class_count as u16,
+        ends.multiplier as u16,
+        ends.rangebits as u16,
+        (2 + values) as u16,
+    ];
+    write_row(floors, at, &head, partitions, classes, &list);
+    Ok(next)
 }
 
 // The rest of a floor whose partitions are read.
@@ -107,7 +96,7 @@ pub fn read_after_partitions(
     partition_count: usize,
     floors: &mut [u16],
     at: usize,
-) -> Step
+) -> Result<Cursor, Refusal>
     requires { (book_count ≤ 256) × (at ≤ floors_need) × Partitions partition_count partitions.now }
     ensures { Wrote (into1 (put_row floor_row)
         (floor_from book_count (position place) (take partition_count partitions.now) packet.now (position from))
@@ -115,20 +104,18 @@ pub fn read_after_partitions(
 {
     let class_count = floor_row::counts::class_count(partitions, partition_count);
     let mut classes = [0u16; CLASSES_ROOM];
-    match floor_class::read_classes(packet, from, book_count, class_count, &mut classes) {
-        Step::Refused(z) => Step::Refused(z),
-        Step::Next(next) => read_after_classes(
-            packet,
-            next,
-            place,
-            partitions,
-            partition_count,
-            &classes,
-            class_count,
-            floors,
-            at,
-        ),
-    }
+    let next = floor_class::read_classes(packet, from, book_count, class_count, &mut classes)?;
+    read_after_classes(
+        packet,
+        next,
+        place,
+        partitions,
+        partition_count,
+        &classes,
+        class_count,
+        floors,
+        at,
+    )
 }
 
 // A floor behind its type, which stands at `place`.
@@ -139,31 +126,25 @@ pub fn read_floor1(
     book_count: u32,
     floors: &mut [u16],
     at: usize,
-) -> Step
+) -> Result<Cursor, Refusal>
     requires { (book_count ≤ 256) × (at ≤ floors_need) }
     ensures { Wrote (into1 (put_row floor_row) (floor1 book_count (position place) packet.now (position from))
         (table floors.old at)) result (table floors.new (at + floor_width)) }
 {
-    match from.field(packet, 5) {
-        Field::Refused(z) => Step::Refused(z),
-        Field::Value(field, next) => {
-            let count = wide_u32(field);
-            let mut partitions = [0u16; PARTITIONS_ROOM];
-            match numbers::read_numbers(packet, next, 4, count, &mut partitions, 0) {
-                Step::Refused(z) => Step::Refused(z),
-                Step::Next(after) => read_after_partitions(
-                    packet,
-                    after,
-                    place,
-                    book_count,
-                    &partitions,
-                    count,
-                    floors,
-                    at,
-                ),
-            }
-        }
-    }
+    let (field, next) = from.field(packet, 5)?;
+    let count = field as usize;
+    let mut partitions = [0u16; PARTITIONS_ROOM];
+    let after = numbers::read_numbers(packet, next, 4, count, &mut partitions, 0)?;
+    read_after_partitions(
+        packet,
+        after,
+        place,
+        book_count,
+        &partitions,
+        count,
+        floors,
+        at,
+    )
 }
 
 // A floor, its row from place `at` on. `book_count` is how many codebooks are set up.
@@ -173,15 +154,13 @@ pub fn read_floor(
     book_count: u32,
     floors: &mut [u16],
     at: usize,
-) -> Step
+) -> Result<Cursor, Refusal>
     requires { (book_count ≤ 256) × (at ≤ floors_need) }
     ensures { Wrote (into1 (put_row floor_row) (floor book_count packet.now (position from)) (table floors.old at))
         result (table floors.new (at + floor_width)) }
 {
-    match read_type(packet, from) {
-        Field::Refused(z) => Step::Refused(z),
-        Field::Value(_, next) => read_floor1(packet, next, from, book_count, floors, at),
-    }
+    let (_, next) = read_type(packet, from)?;
+    read_floor1(packet, next, from, book_count, floors, at)
 }
 
 // `count` floors, their rows one after the other.
@@ -191,23 +170,14 @@ pub fn read_floors(
     count: usize,
     book_count: u32,
     floors: &mut [u16],
-) -> Step
+) -> Result<Cursor, Refusal>
     requires { (count ≤ 64) × (book_count ≤ 256) }
     ensures { Wrote (into (put_row floor_row) (many (floor book_count) count packet.now (position from)) (table floors.old 0))
         result (table floors.new (floor_width * count)) }
 {
     let mut next = from;
-    let mut i: usize = 0;
-    while i < count {
-        match read_floor(packet, next, book_count, floors, FLOOR_WIDTH * i) {
-            Step::Refused(z) => {
-                return Step::Refused(z);
-            }
-            Step::Next(after) => {
-                next = after;
-            }
-        }
-        i = i + 1;
+    for i in 0..count {
+        next = read_floor(packet, next, book_count, floors, FLOOR_WIDTH * i)?;
     }
-    Step::Next(next)
+    Ok(next)
 }

@@ -1,30 +1,27 @@
 -- `floor_reading::read_after_classes` meets its contract. Assumes nothing.
 use mathlib.Core.List.{[]}
 use native.Mathlib.Omega.{arith}
-use Rattle.floor_reading.proofs.RowLaws.{after_few, after_laws, after_refused, after_written}
+use Rattle.bits.proofs.Answers.{wrote_back}
+use Rattle.floor_reading.proofs.RowLaws.{after_laws, after_few, after_refused, after_written}
 use Rattle.floor_reading.proofs.read_after_classes.Goals as goal
 
-pub short-requires : goal.short-requires
-short-requires c = search after_laws
+pub returns-in_err-ends : goal.returns-in_err-ends
+returns-in_err-ends c =
+    wrote_back c.from_residual.result _ c.from_residual.ensures.1
+    (after_refused _ c.args.partition_count _ _ _ _ _ _ _ c.value_count-values.ensures _ c.read_ends.ensures c.in_err-ends.was _)
 
-pub short-requires-in-Next : goal.short-requires-in-Next
-short-requires-in-Next c = search after_laws
+pub overflow_cast-head-3 : goal.overflow_cast-head-3
+overflow_cast-head-3 c = search (after_laws, c.in_ok-ends.was)
 
-pub narrow-requires : goal.narrow-requires
-narrow-requires c = search after_laws
+pub overflow_cast-head-4 : goal.overflow_cast-head-4
+overflow_cast-head-4 c = search (after_laws, c.in_ok-ends.was)
 
-pub narrow-requires-in-Next : goal.narrow-requires-in-Next
-narrow-requires-in-Next c = search after_laws
+pub overflow_add-head : goal.overflow_add-head
+overflow_add-head c = omega (arith, after_few _ c.args.partition_count 0 _ _ _ _ [] 0 c.value_count-values.ensures _ c.read_ends.ensures c.in_ok-ends.was)
 
-pub overflow_add-values : goal.overflow_add-values
-overflow_add-values c =
-    omega (arith, after_few _ c.args.partition_count 0 _ _ _ _ [] 0 c.value_count-values.ensures c.read_ends-ends.ensures c.in-Next.is)
+pub overflow_cast-head-5 : goal.overflow_cast-head-5
+overflow_cast-head-5 c = search (after_laws, c.in_ok-ends.was)
 
-pub short-requires-in-Next-2 : goal.short-requires-in-Next-2
-short-requires-in-Next-2 c = search after_laws
-
-pub returns-in-Refused : goal.returns-in-Refused
-returns-in-Refused c = search after_refused
-
-pub returns-in-Next : goal.returns-in-Next
-returns-in-Next c = search after_written
+pub returns : goal.returns
+returns c =
+    after_written _ c.args.partition_count _ _ _ _ _ _ _ c.value_count-values.ensures _ c.read_ends.ensures c.in_ok-ends.was (omega arith) (omega arith) _ c.write_row.ensures
