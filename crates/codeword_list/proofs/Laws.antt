@@ -173,9 +173,9 @@ module _ {A B : Type 0} where
         go false g e = more first.value (leb-false needed (length out) g)
 
     -- whatever stopped it
-    pub joined_stop : {e : Stop} → x ≡ Err e → ReadIntoList (joined first f) out c (Err e) exit
-    joined_stop {Cut m} q = joined_cut q
-    joined_stop {Full} q = joined_full q
+    pub joined_stop : (e : Stop) → x ≡ Err e → ReadIntoList (joined first f) out c (Err e) exit
+    joined_stop (Cut m) q = joined_cut q
+    joined_stop Full q = joined_full q
 
 -- the exit of a `?` returns what stopped reading
 pub read_back : {A : Type 0} {r : Run A} {out : List ℕ} {c : ℕ} {exit : List ℕ} (x : Result Progress Stop) (e : Stop) → IsErrAnd x (λ y. y ≡ e)
