@@ -6,14 +6,11 @@ use mathlib.Core.List.{List, ◌∷◌}
 use mathlib.Core.Path.{◌≡◌, refl, sym, ap, ◌∙◌}
 use lib.ListN.{length}
 use Rattle.reading.specs.Outcome.{Outcome, ok, bad, then}
+use Rattle.reading.specs.Outcome as O
 use Rattle.reading.specs.Reader.{mapped, puts, into, into1}
 use Rattle.reading.proofs.Readers.{mapped_bad, mapped_ok}
 use Rattle.bits.specs.declared.Cursor.{Cursor}
-use Rattle.bits.specs.declared.Refusal.{Refusal}
-use Rattle.bits.specs.declared.Step.{Step}
-use Rattle.bits.specs.declared.Step.TheVariants.{Next, Refused}
-use Rattle.bits.specs.Inner.Cursors.{position, Wrote}
-use Rattle.bits.proofs.Steps.{wrote_bad, wrote_ok, wrote_refused, wrote_next}
+use Rattle.bits.specs.Inner.Cursors.{position}
 use Rattle.limits.specs.declared.Limits.{Limits}
 use Rattle.book.specs.Content.{Book}
 use Rattle.book.specs.HeadReading.{totals}
@@ -73,48 +70,46 @@ module _ (l : Limits) (s : List ℕ) (n k : ℕ) (bk₀ lens₀ wds₀ m₀ : Li
           few_values = buffers.few_values;
         }
 
-    pub books_done : {st : Step} → st ≡ Next c → n ≤ index → Wrote whole st (tables bk lens wds m n entries values)
-    books_done q h =
+    pub books_done : n ≤ index → whole ≡ ok (tables bk lens wds m n entries values, position c)
+    books_done h =
         let i = w.within in
         let e : index ≡ n = omega arith in
-        rw q (wrote_next (sym w.rest ∙ books_none l s here (n - index) (omega arith) ∙ ap (λ (x : ℕ). ok (tables bk lens wds m x entries values, position c)) e))
+        sym w.rest ∙ books_none l s here (n - index) (omega arith) ∙ ap (λ (x : ℕ). ok (tables bk lens wds m x entries values, position c)) e
 
-    module _ (h : index < n) {st : Step} {t' : Tables} (one : Wrote (into1 put_book (book l (totals entries values) s (position c)) here) st t') where
-      pub books_refused : {z : Refusal} → st ≡ Refused z → (u : Tables) → Wrote whole st u
+    module _ (h : index < n) where
+      pub books_refused : {z : O.Refusal} → into1 put_book (book l (totals entries values) s (position c)) here ≡ bad z → whole ≡ bad z
       unfolding into1
-      books_refused {z} q u =
-          rw q
-          (wrote_refused u
-          (sym w.rest
+      books_refused one =
+          sym w.rest
           ∙ books-bad l s here (n - index) (position c) (omega arith)
-          (mapped_bad (λ b. put_book b here) (book l (totals entries values) s (position c)) (wrote_bad one q))))
+          (mapped_bad (λ b. put_book b here) (book l (totals entries values) s (position c)) one)
 
-    module _ (h : index < n) {st : Step} {bk' lens' wds' m' : List ℕ} {entries' values' : ℕ}
-        (one : Wrote (into1 put_book (book l (totals entries values) s (position c)) here) st (tables bk' lens' wds' m' (index + 1) entries' values')) where
-      abbrev there : Tables
-      there = tables bk' lens' wds' m' (index + 1) entries' values'
+      module _ (c' : Cursor) {bk' lens' wds' m' : List ℕ} {entries' values' : ℕ}
+          (one : into1 put_book (book l (totals entries values) s (position c)) here ≡ ok (tables bk' lens' wds' m' (index + 1) entries' values', position c')) where
+        abbrev there : Tables
+        there = tables bk' lens' wds' m' (index + 1) entries' values'
 
-      books_rest : {c' : Cursor} → st ≡ Next c' → into put_book (books l there.before (n - (index + 1)) s (position c')) there ≡ whole
-      unfolding into1
-      books_rest {c'} q =
-          let a = mapped_ok (λ b. put_book b here) (book l (totals entries values) s (position c)) (wrote_ok one q) in
-          ap (λ (t : Tables). into put_book (books l t.before (n - (index + 1)) s (position c')) t) (sym a.2)
-          ∙ sym (books_more l s here (n - index) (n - (index + 1)) (position c) (omega arith) a.1)
-          ∙ w.rest
+        books_rest : into put_book (books l there.before (n - (index + 1)) s (position c')) there ≡ whole
+        unfolding into1
+        books_rest =
+            let a = mapped_ok (λ b. put_book b here) (book l (totals entries values) s (position c)) one in
+            ap (λ (t : Tables). into put_book (books l t.before (n - (index + 1)) s (position c')) t) (sym a.2)
+            ∙ sym (books_more l s here (n - index) (n - (index + 1)) (position c) (omega arith) a.1)
+            ∙ w.rest
 
-      pub books_next : {c' : Cursor} → st ≡ Next c' → length bk' ≡ length bk → length lens' ≡ length lens → length wds' ≡ length wds → length m' ≡ length m
-          → entries' ≤ l.entries → values' ≤ l.multiplicands → BooksRead c' bk' lens' wds' m' (index + 1) entries' values'
-      books_next q e₁ e₂ e₃ e₄ f g =
-          record {
-            within = omega arith;
-            bk_long = e₁ ∙ w.bk_long;
-            lens_long = e₂ ∙ w.lens_long;
-            wds_long = e₃ ∙ w.wds_long;
-            m_long = e₄ ∙ w.m_long;
-            entries_within = f;
-            values_within = g;
-            rest = books_rest q;
-          }
+        pub books_next : length bk' ≡ length bk → length lens' ≡ length lens → length wds' ≡ length wds → length m' ≡ length m
+            → (entries' ≤ l.entries) × (values' ≤ l.multiplicands) → BooksRead c' bk' lens' wds' m' (index + 1) entries' values'
+        books_next e₁ e₂ e₃ e₄ f =
+            record {
+              within = omega arith;
+              bk_long = e₁ ∙ w.bk_long;
+              lens_long = e₂ ∙ w.lens_long;
+              wds_long = e₃ ∙ w.wds_long;
+              m_long = e₄ ∙ w.m_long;
+              entries_within = f.0;
+              values_within = f.1;
+              rest = books_rest;
+            }
 
 pub books_start : (l : Limits) (s : List ℕ) (n : ℕ) (c : Cursor) (bk lens wds m : List ℕ) → BooksRead l s n (position c) bk lens wds m c bk lens wds m 0 0 0
 books_start l s n c bk lens wds m =

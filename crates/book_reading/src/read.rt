@@ -1,30 +1,31 @@
 // Codebooks read into their four tables: a row for each book, the lengths and codewords of all entries, all multiplicands.
-ghost use Rattle.std.specs.Prelude.{◌≡◌, [], ◌∷◌, ◌++◌, ◌+◌, ◌*◌, ◌<◌, ◌≤◌, length};
+ghost use Rattle.std.specs.Prelude.{◌≡◌, [], ◌∷◌, ◌++◌, ◌+◌, ◌*◌, ◌<◌, ◌≤◌, length, IfOk};
 ghost use Rattle.std.proofs.lemmas.List.Edits.{sets};
 ghost use Rattle.reading.specs.Reader.{mapped, into, into1};
-ghost use Rattle.bits.specs.Inner.Cursors.{position, Wrote};
+ghost use Rattle.bits.specs.Inner.Cursors.{position};
 ghost use Rattle.book.specs.Layout.{book_width};
 ghost use Rattle.book.specs.HeadReading.{totals};
-ghost use Rattle.book_head.specs.Inner.Answers.{head_of};
 ghost use Rattle.book.specs.LookupReading.{lookup};
 ghost use Rattle.book_lookup.specs.Inner.Answers.{numbers_of};
 ghost use Rattle.book.specs.Reading.{book};
+ghost use Rattle.book.specs.Inner.Answers.{answered};
 ghost use Rattle.book.specs.Inner.Parts.{body, section};
 ghost use Rattle.book.specs.Inner.Layout.{put_book, tables, finished};
 ghost use Rattle.book.specs.Inner.BookBuffers.{BookBuffers, Begins, BookAt};
 
-use bits::{Cursor, Step};
-use book_head::head::{Head, HeadRead, read_head};
+use bits::Cursor;
+use bits::refusal::Refusal;
+use book::{Head, WIDTH};
+use book_head::head::read_head;
 use book_lengths::entries::read_entries_at;
-use book_lookup::lookup::{LookupRead, read_lookup};
+use book_lookup::lookup::{Lookup, read_lookup};
 use book_row::mark::lone_mark_at;
 use limits::Limits;
-use reading::buffers::write_u32;
+use reading::buffers::write;
 
-// Where reading goes on, or the refusal; and how many entries and multiplicands the books have by then.
+// How many entries and multiplicands the books read so far have.
 #[derive(Clone, Copy)]
-pub struct BooksRead {
-    pub step: Step,
+pub struct Totals {
     pub entries: u32,
     pub values: u32,
 }
@@ -41,7 +42,7 @@ struct BookStart {
 }
 
 // A book's row, at its place in the table of books.
-fn write_row(books: &mut [u32], at: BookStart, l: LookupRead, lone: u32)
+fn write_row(books: &mut [u32], at: BookStart, l: Lookup, lone: u32)
     requires { at.index < 256 }
     ensures { books.new
         ≡ sets books.old (book_width * at.index)
@@ -62,7 +63,7 @@ fn write_row(books: &mut [u32], at: BookStart, l: LookupRead, lone: u32)
         first_value,
         lone,
     ];
-    write_u32(books, book::WIDTH * at.index as usize, &row);
+    write(books, WIDTH * at.index as usize, &row);
 }
 
 // What follows a book's lengths: its lookup and its row. `lone` is the mark of its lengths.
@@ -73,16 +74,15 @@ fn finish_book(
     lone: u32,
     books: &mut [u32],
     multiplicands: &mut [u16],
-) -> BooksRead
+) -> Result<(Totals, Cursor), Refusal>
     requires { (at.index < 256) × (at.entries + at.head.entries ≤ 16777216)
         × (at.values ≤ at.most) × (at.most ≤ length multiplicands.old) × (at.most ≤ 16777216) }
-    ensures wrote { Wrote
-        (mapped (finished books.old multiplicands.old (head_of at.head) at.index at.entries at.values lone)
-        (lookup (position at.place) at.head.entries at.head.dimensions at.most at.values packet.now (position from)))
-        result.step (books.new, multiplicands.new, result.values) }
-    ensures entries_value { (result.entries ≡ at.entries + at.head.entries) × (result.values ≤ at.most) }
+    ensures wrote { answered (λ t. (books.new, multiplicands.new, t.values)) result
+        ≡ mapped (finished books.old multiplicands.old at.head at.index at.entries at.values lone)
+        (lookup (position at.place) at.head.entries at.head.dimensions at.most at.values packet.now (position from)) }
+    ensures entries_value { IfOk result (λ x. (x.0.entries ≡ at.entries + at.head.entries) × (x.0.values ≤ at.most)) }
 {
-    let l = read_lookup(
+    let (l, next) = read_lookup(
         packet,
         from,
         at.place,
@@ -91,14 +91,15 @@ fn finish_book(
         at.values,
         at.most,
         multiplicands,
-    );
+    )?;
     write_row(books, at, l, lone);
-    let step = l.step;
-    BooksRead {
-        step,
-        entries: at.entries + at.head.entries,
-        values: at.values + l.count,
-    }
+    Ok((
+        Totals {
+            entries: at.entries + at.head.entries,
+            values: at.values + l.count,
+        },
+        next,
+    ))
 }
 
 // What follows a book's head.
@@ -110,16 +111,15 @@ fn read_body(
     lengths: &mut [u8],
     codewords: &mut [u32],
     multiplicands: &mut [u16],
-) -> BooksRead
+) -> Result<(Totals, Cursor), Refusal>
     requires { BookAt at.head.entries at.most at.index at.entries at.values lengths.old codewords.old multiplicands.old }
-    ensures wrote { Wrote
-        (into1 put_book (body (position at.place) (head_of at.head) at.most at.values packet.now (position from))
-        (tables books.old lengths.old codewords.old multiplicands.old at.index at.entries at.values))
-        result.step
-        (tables books.new lengths.new codewords.new multiplicands.new (at.index + 1) result.entries result.values) }
-    ensures entries_bound { (result.entries ≤ at.entries + at.head.entries) × (result.values ≤ at.most) }
+    ensures wrote { answered
+        (λ t. tables books.new lengths.new codewords.new multiplicands.new (at.index + 1) t.entries t.values) result
+        ≡ into1 put_book (body (position at.place) at.head at.most at.values packet.now (position from))
+        (tables books.old lengths.old codewords.old multiplicands.old at.index at.entries at.values) }
+    ensures entries_bound { IfOk result (λ x. (x.0.entries ≤ at.entries + at.head.entries) × (x.0.values ≤ at.most)) }
 {
-    match read_entries_at(
+    let next = read_entries_at(
         packet,
         from,
         at.place,
@@ -127,17 +127,9 @@ fn read_body(
         at.head.entries,
         lengths,
         codewords,
-    ) {
-        Step::Refused(z) => BooksRead {
-            step: Step::Refused(z),
-            entries: at.entries,
-            values: at.values,
-        },
-        Step::Next(next) => {
-            let lone = lone_mark_at(lengths, at.entries, at.head.entries);
-            finish_book(packet, next, at, lone, books, multiplicands)
-        }
-    }
+    )?;
+    let lone = lone_mark_at(lengths, at.entries, at.head.entries);
+    finish_book(packet, next, at, lone, books, multiplicands)
 }
 
 // Book number `index`, behind books of so many entries and multiplicands.
@@ -152,33 +144,24 @@ pub fn read_book(
     lengths: &mut [u8],
     codewords: &mut [u32],
     multiplicands: &mut [u16],
-) -> BooksRead
+) -> Result<(Totals, Cursor), Refusal>
     requires { BookBuffers limits books.old lengths.old codewords.old multiplicands.old × Begins limits index entries values }
-    ensures wrote { Wrote
-        (into1 put_book (book limits (totals entries values) packet.now (position from))
-        (tables books.old lengths.old codewords.old multiplicands.old index entries values))
-        result.step
-        (tables books.new lengths.new codewords.new multiplicands.new (index + 1) result.entries result.values) }
-    ensures entries_le_entries { (result.entries ≤ limits.entries) × (result.values ≤ limits.multiplicands) }
+    ensures wrote { answered
+        (λ t. tables books.new lengths.new codewords.new multiplicands.new (index + 1) t.entries t.values) result
+        ≡ into1 put_book (book limits (totals entries values) packet.now (position from))
+        (tables books.old lengths.old codewords.old multiplicands.old index entries values) }
+    ensures entries_le_entries { IfOk result (λ x. (x.0.entries ≤ limits.entries) × (x.0.values ≤ limits.multiplicands)) }
 {
-    match read_head(packet, from, limits, entries) {
-        HeadRead::Refused(z) => BooksRead {
-            step: Step::Refused(z),
-            entries,
-            values,
-        },
-        HeadRead::Value(head, next) => {
-            let at = BookStart {
-                place: from,
-                head,
-                most: limits.multiplicands,
-                index,
-                entries,
-                values,
-            };
-            read_body(packet, next, at, books, lengths, codewords, multiplicands)
-        }
-    }
+    let (head, next) = read_head(packet, from, limits, entries)?;
+    let at = BookStart {
+        place: from,
+        head,
+        most: limits.multiplicands,
+        index,
+        entries,
+        values,
+    };
+    read_body(packet, next, at, books, lengths, codewords, multiplicands)
 }
 
 // `count` books one after the other, from the front of the tables.
@@ -191,41 +174,34 @@ pub fn read_books(
     lengths: &mut [u8],
     codewords: &mut [u32],
     multiplicands: &mut [u16],
-) -> BooksRead
+) -> Result<(Totals, Cursor), Refusal>
     requires { BookBuffers limits books.old lengths.old codewords.old multiplicands.old × (count ≤ 256) }
-    ensures wrote { Wrote
-        (into put_book (section limits count packet.now (position from))
-        (tables books.old lengths.old codewords.old multiplicands.old 0 0 0))
-        result.step
-        (tables books.new lengths.new codewords.new multiplicands.new count result.entries result.values) }
-    ensures entries_le_entries { (result.entries ≤ limits.entries) × (result.values ≤ limits.multiplicands) }
+    ensures wrote { answered
+        (λ t. tables books.new lengths.new codewords.new multiplicands.new count t.entries t.values) result
+        ≡ into put_book (section limits count packet.now (position from))
+        (tables books.old lengths.old codewords.old multiplicands.old 0 0 0) }
+    ensures entries_le_entries { IfOk result (λ x. (x.0.entries ≤ limits.entries) × (x.0.values ≤ limits.multiplicands)) }
 {
     let mut at = from;
-    let mut read = BooksRead {
-        step: Step::Next(from),
+    let mut so_far = Totals {
         entries: 0,
         values: 0,
     };
-    let mut index: u32 = 0;
-    while index < count {
-        read = read_book(
+    for index in 0..count {
+        let (totals, next) = read_book(
             packet,
             at,
             limits,
             index,
-            read.entries,
-            read.values,
+            so_far.entries,
+            so_far.values,
             books,
             lengths,
             codewords,
             multiplicands,
-        );
-        let step = read.step;
-        let Step::Next(next) = step else {
-            return read;
-        };
+        )?;
+        so_far = totals;
         at = next;
-        index += 1;
     }
-    read
+    Ok((so_far, at))
 }
