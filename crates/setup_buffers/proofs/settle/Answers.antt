@@ -2,9 +2,8 @@
 use Rattle.setup_buffers.proofs.SettledLaws.{settled_next, settled_refused}
 use Rattle.setup_buffers.proofs.settle.Goals as goal
 
-pub returns-in-Next : goal.returns-in-Next
-returns-in-Next c = search settled_next
+pub returns-in-Ok-clause-left : goal.returns-in-Ok-clause-left
+returns-in-Ok-clause-left c = search settled_next
 
-pub returns-in-Refused : goal.returns-in-Refused
-returns-in-Refused c =
-    settled_refused _ _ c.in-Refused.is c.number_of-number.ensures c.clear.ensures
+pub returns-in-Err-clause-left : goal.returns-in-Err-clause-left
+returns-in-Err-clause-left c = settled_refused _ _ c.in-Err.is c.number.ensures c.clear.ensures.after
