@@ -8,7 +8,7 @@ use mathlib.Core.Bool.{Bool, true, false, not}
 use mathlib.Core.List.{List, [], ◌∷◌, ◌++◌, map}
 use mathlib.Core.Logic.{◌↔◌, ⊎_elim}
 use mathlib.Core.Path.{◌≡◌, refl, sym, ap, subst, ◌∙◌}
-use lib.Dec.{eqb, leb, ltb}
+use lib.Dec.{leb}
 use lib.ListN.{length, get_or, take, drop, replicate, length-drop, length-replicate, take-append-drop}
 use lib.Seq.{drop-cons, drop-drop, take_all, length-take-le}
 use Rattle.reading.specs.Lists.{rows}
@@ -24,29 +24,9 @@ use Rattle.mapping.specs.declared.Known.{Known}
 use Rattle.mapping.specs.Layout.{coupling_row, multiplex_row, submap_row, mapping_row, mapping_width, couplings_room}
 use Rattle.mapping.specs.Rules.{Coupling11}
 use Rattle.mapping.specs.Inner.Valid.{ValidMultiplex, ValidSubmap, ValidMapping}
-use Rattle.mapping.specs.Inner.Decode.{coupling_of, submap_of}
 use Rattle.mapping_tables.specs.Inner.Recognised.{MappingsRecognised, MultiplexCount}
 use Rattle.mapping.proofs.RowLaws.{couplings_length, submaps_length, multiplex_rows, multiplex_length, multiplex_wide, mapping_wide, part_couplings, part_multiplex, part_submaps}
 use Rattle.mapping.proofs.Laws.{each_all, all_each, coupling_pairs, submap_pairs, multiplex_most}
-
--- the two numbers of a coupling step
-module _ (magnitude angle channels : ℕ) where
-  pub magnitude_high : channels ≤ magnitude → (false ≡ true) ↔ Coupling11 channels (coupling_of magnitude angle)
-  magnitude_high h = iff_false (λ v. let b = ltb-true magnitude channels v.magnitude in omega arith)
-
-  pub angle_high : channels ≤ angle → (false ≡ true) ↔ Coupling11 channels (coupling_of magnitude angle)
-  angle_high h = iff_false (λ v. let b = ltb-true angle channels v.angle in omega arith)
-
-  pub coupling_low : magnitude < channels → angle < channels → (not (eqb angle magnitude) ≡ true) ↔ Coupling11 channels (coupling_of magnitude angle)
-  coupling_low h g = ((λ e. record { magnitude = lt-ltb _ _ h; angle = lt-ltb _ _ g; coupled = e }), (λ v. v.coupled))
-
--- the two numbers of a submap
-module _ (floor residue : ℕ) (known : Known) where
-  pub floor_high : known.floors ≤ floor → (false ≡ true) ↔ ValidSubmap known (submap_of floor residue)
-  floor_high h = iff_false (λ v. let b = ltb-true floor known.floors v.floor in omega arith)
-
-  pub floor_low : floor < known.floors → (ltb residue known.residues ≡ true) ↔ ValidSubmap known (submap_of floor residue)
-  floor_low h = ((λ e. record { floor = lt-ltb _ _ h; residue = e }), (λ v. v.residue))
 
 -- a multiplex number, which stands plus one
 module _ (number submaps : ℕ) where
@@ -147,8 +127,6 @@ module _ (submaps channels : ℕ) where
 
     pub count_most : channels ≤ 255 → count ≤ 256
     count_most h = ⊎_elim (λ g. let e = is_each g in omega arith) (λ g. let e = is_none (omega arith) in omega arith) (lt_or_le 1 submaps)
-
-pub ruleset count_known = (rules, count_none, count_each)
 
 -- the row of a mapping, part by part
 pub record Parts (known : Known) (cells : List ℕ) (steps k count : ℕ) : Type 0 where
@@ -292,23 +270,21 @@ module _ (known : Known) (cells : List ℕ) (long : length cells ≡ mapping_wid
   place_used h = iff_false (λ r. h (ps r).zero)
 
   module _ {r₁ : Bool} (said₁ : (r₁ ≡ true) ↔ Encodes coupling_row (Coupling11 known.channels) steps (take couplings_room (drop 4 cells))) where
-    pub couplings_wrong : not r₁ ≡ true → (false ≡ true) ↔ RowOf mapping_row (ValidMapping known) cells
-    couplings_wrong e = iff_false (λ r. not_said said₁ (not-true r₁ e) (ps r).couplings)
+    pub couplings_wrong : r₁ ≡ false → (false ≡ true) ↔ RowOf mapping_row (ValidMapping known) cells
+    couplings_wrong e = iff_false (λ r. not_said said₁ e (ps r).couplings)
 
     module _ {count : ℕ} (n : MultiplexCount (get_or cells 2 0) known.channels count) {r₂ : Bool}
         (said₂ : (r₂ ≡ true) ↔ Encodes multiplex_row (ValidMultiplex (get_or cells 2 0)) count (take 256 (drop 516 cells))) where
-      pub multiplex_wrong : not r₂ ≡ true → (false ≡ true) ↔ RowOf mapping_row (ValidMapping known) cells
-      multiplex_wrong e = iff_false (λ r. not_said said₂ (not-true r₂ e) ((parts_of known few cells long es.1 es.0 n).0 r).multiplex)
+      pub multiplex_wrong : r₂ ≡ false → (false ≡ true) ↔ RowOf mapping_row (ValidMapping known) cells
+      multiplex_wrong e = iff_false (λ r. not_said said₂ e ((parts_of known few cells long es.1 es.0 n).0 r).multiplex)
 
-      pub row_right : steps ≤ 256 → 1 ≤ get_or cells 2 0 → get_or cells 2 0 ≤ 16 → get_or cells 3 0 ≡ 0 → not r₁ ≡ false → not r₂ ≡ false → {r₃ : Bool}
+      pub row_right : steps ≤ 256 → 1 ≤ get_or cells 2 0 → get_or cells 2 0 ≤ 16 → get_or cells 3 0 ≡ 0 → r₁ ≡ true → r₂ ≡ true → {r₃ : Bool}
           → (r₃ ≡ true) ↔ Encodes submap_row (ValidSubmap known) (get_or cells 2 0) (take 32 (drop 772 cells)) → (r₃ ≡ true) ↔ RowOf mapping_row (ValidMapping known) cells
       row_right a b c z e₁ e₂ said₃ =
           let q = parts_of known few cells long es.1 es.0 n in (
-            (λ e. q.1 (record { few_steps = a; some_submap = b; few_submaps = c; zero = z; couplings = said₁.0 (not-false r₁ e₁); multiplex = said₂.0 (not-false r₂ e₂); submaps = said₃.0 e })),
+            (λ e. q.1 (record { few_steps = a; some_submap = b; few_submaps = c; zero = z; couplings = said₁.0 e₁; multiplex = said₂.0 e₂; submaps = said₃.0 e })),
             (λ r. said₃.1 (ps r).submaps),
           )
-
-pub ruleset row_laws = (rules, count_most, steps_many, submaps_none, submaps_many, place_used, couplings_wrong, multiplex_wrong, row_right)
 
 -- the width of a part, as the code computes it
 pub part_width : (a w : ℕ) → a + w - a ≡ w

@@ -13,15 +13,10 @@ use mapping::{COUPLINGS_PLACE, Known, MAPPING_WIDTH, MULTIPLEX_PLACE, SUBMAPS_PL
 fn is_coupling(magnitude: u8, angle: u8, channels: u32) -> bool
     ensures { (result ≡ true) ↔ Coupling11 channels (coupling_of magnitude angle) }
 {
-    if (magnitude as u32) >= channels {
-        return false;
-    }
-    if (angle as u32) >= channels {
-        return false;
-    }
-    angle != magnitude
+    (magnitude as u32) < channels && (angle as u32) < channels && angle != magnitude
 }
 
+// Kept apart from `are_submaps`, which differs in the test alone: handed in, the test would need a contract of its own, and a trait for what it tests.
 fn are_couplings(part: &[u8], count: usize, channels: u32) -> bool
     requires { count ≤ 256 }
     ensures { (result ≡ true) ↔ Encodes coupling_row (Coupling11 channels) count part.now }
@@ -29,24 +24,19 @@ fn are_couplings(part: &[u8], count: usize, channels: u32) -> bool
     if part.len() < 2 * count {
         return false;
     }
-    let mut i: usize = 0;
-    while i < count {
+    for i in 0..count {
         if !is_coupling(part[2 * i], part[2 * i + 1], channels) {
             return false;
         }
-        i = i + 1;
     }
-    reading::zeros::zeros_u8(part, 2 * count)
+    reading::zeros::zeros(part, 2 * count)
 }
 
 // Whether the number is a channel's submap, plus one.
 fn is_multiplex(number: u8, submaps: u8) -> bool
     ensures { (result ≡ true) ↔ RowOf multiplex_row (ValidMultiplex submaps) (number ∷ []) }
 {
-    if number == 0 {
-        return false;
-    }
-    number <= submaps
+    number != 0 && number <= submaps
 }
 
 fn are_multiplexes(part: &[u8], count: usize, submaps: u8) -> bool
@@ -56,24 +46,19 @@ fn are_multiplexes(part: &[u8], count: usize, submaps: u8) -> bool
     if part.len() < count {
         return false;
     }
-    let mut i: usize = 0;
-    while i < count {
+    for i in 0..count {
         if !is_multiplex(part[i], submaps) {
             return false;
         }
-        i = i + 1;
     }
-    reading::zeros::zeros_u8(part, count)
+    reading::zeros::zeros(part, count)
 }
 
 // Whether the two numbers are a submap's floor and residue, both set up.
 fn is_submap(floor: u8, residue: u8, known: Known) -> bool
     ensures { (result ≡ true) ↔ ValidSubmap known (submap_of floor residue) }
 {
-    if (floor as u32) >= known.floors {
-        return false;
-    }
-    (residue as u32) < known.residues
+    (floor as u32) < known.floors && (residue as u32) < known.residues
 }
 
 fn are_submaps(part: &[u8], count: usize, known: Known) -> bool
@@ -83,24 +68,19 @@ fn are_submaps(part: &[u8], count: usize, known: Known) -> bool
     if part.len() < 2 * count {
         return false;
     }
-    let mut i: usize = 0;
-    while i < count {
+    for i in 0..count {
         if !is_submap(part[2 * i], part[2 * i + 1], known) {
             return false;
         }
-        i = i + 1;
     }
-    reading::zeros::zeros_u8(part, 2 * count)
+    reading::zeros::zeros(part, 2 * count)
 }
 
 // How many multiplex numbers there are: none where there is one submap.
 fn multiplex_count(submaps: u8, channels: u32) -> usize
     ensures { MultiplexCount submaps channels result }
 {
-    if submaps <= 1 {
-        return 0;
-    }
-    channels as usize
+    if submaps <= 1 { 0 } else { channels as usize }
 }
 
 // Whether the numbers are the row of a mapping that meets every rule.
@@ -109,34 +89,19 @@ fn is_mapping(row: &[u8], known: Known) -> bool
     ensures { (result ≡ true) ↔ RowOf mapping_row (ValidMapping known) row.now }
 {
     let steps = mapping_row::two_places(row[0], row[1]);
-    if steps > 256 {
-        return false;
-    }
     let submaps = row[2];
-    if submaps < 1 {
+    if steps > 256 || submaps < 1 || submaps > 16 || row[3] != 0 {
         return false;
     }
-    if submaps > 16 {
-        return false;
-    }
-    if row[3] != 0 {
-        return false;
-    }
-    if !are_couplings(
+    are_couplings(
         &row[COUPLINGS_PLACE..MULTIPLEX_PLACE],
         steps,
         known.channels,
-    ) {
-        return false;
-    }
-    if !are_multiplexes(
+    ) && are_multiplexes(
         &row[MULTIPLEX_PLACE..SUBMAPS_PLACE],
         multiplex_count(submaps, known.channels),
         submaps,
-    ) {
-        return false;
-    }
-    are_submaps(&row[SUBMAPS_PLACE..MAPPING_WIDTH], submaps as usize, known)
+    ) && are_submaps(&row[SUBMAPS_PLACE..MAPPING_WIDTH], submaps as usize, known)
 }
 
 // Whether the table is the writing-out of `count` mappings, zeros behind them.
@@ -147,15 +112,13 @@ pub fn are_mappings(mappings: &[u8], count: usize, known: Known) -> bool
     if mappings.len() < MAPPING_WIDTH * count {
         return false;
     }
-    let mut i: usize = 0;
-    while i < count {
+    for i in 0..count {
         if !is_mapping(
             &mappings[MAPPING_WIDTH * i..MAPPING_WIDTH * i + MAPPING_WIDTH],
             known,
         ) {
             return false;
         }
-        i = i + 1;
     }
-    reading::zeros::zeros_u8(mappings, MAPPING_WIDTH * count)
+    reading::zeros::zeros(mappings, MAPPING_WIDTH * count)
 }

@@ -1,7 +1,7 @@
 -- `mapping_tables::recognise::are_mappings` meets its contract, by RecogniseLaws. Assumes nothing.
 use mathlib.Core.Bool.{not}
 use mathlib.Core.Path.{ap}
-use Prim.Native.Nat.{◌*◌, ◌-◌}
+use Prim.Native.Nat.{◌*◌}
 use Rattle.mapping_tables.proofs.RecogniseLaws.{recognise_laws, part_width, find_stop, find_next}
 use borrow.Author.Rules.{rules}
 use Rattle.mapping.specs.Layout.{mapping_width}

@@ -1,5 +1,4 @@
 -- `mapping_tables::recognise::are_multiplexes` meets its contract, by RecogniseLaws. Assumes nothing.
-use Prim.Native.Nat.{◌-◌}
 use Rattle.mapping_tables.proofs.RecogniseLaws.{multiplex_recognise_laws}
 use Rattle.mapping_tables.proofs.recognise.are_multiplexes.Goals as goal
 

@@ -1,5 +1,4 @@
 -- `mapping_tables::recognise::are_submaps` meets its contract, by RecogniseLaws, mappings's Laws and reading's PairRows. Assumes nothing.
-use Prim.Native.Nat.{◌-◌}
 use Rattle.mapping_tables.proofs.RecogniseLaws.{submap_recognise_laws}
 use Rattle.mapping_tables.proofs.recognise.are_submaps.Goals as goal
 
