@@ -10,13 +10,6 @@ use lib.Seq.{take-suc}
 use Rattle.reading.specs.Pad.{pad}
 use Rattle.reading.specs.Lists.{all, rows}
 use Rattle.residue.specs.Carried.{Rows8}
-use Rattle.residue.specs.Inner.Plans.{Grid}
-
-pub row_long : (l : List (List ℕ)) (i : ℕ) → Rows8 l → i < length l → length (get_or l i []) ≡ 8
-unfolding Rows8
-row_long [] i r h = absurd (omega arith)
-row_long (x ∷ l) zero r h = r.0
-row_long (x ∷ l) (suc i) r h = row_long l i r.1 (omega arith)
 
 pub all_append : (f : ℕ → Bool) (xs ys : List ℕ) → all f (xs ++ ys) ≡ all f xs && all f ys
 unfolding all
@@ -49,7 +42,3 @@ unfolding pad
 pad_cat m [] ys n e = let f : m ≡ n = omega arith in ap (λ (j : ℕ). pad j ys) f
 pad_cat zero (x ∷ xs) ys n e = absurd (omega arith)
 pad_cat (suc m) (x ∷ xs) ys n e = ap (λ (l : List ℕ). x ∷ l) (pad_cat m xs ys n (omega arith))
-
--- the row that a loop takes out of a grid
-pub row_counted : (plan : List (List ℕ)) (i : ℕ) → Grid plan → i < 64 → length (get_or plan i []) ≡ 8
-row_counted plan i g h = let c = g.classes in row_long plan i g.passes (omega arith)

@@ -1,4 +1,5 @@
 -- Laws of reading a residue into the tables, as the code asks them: the plan's loop, the judgement, the rows. Assumes nothing.
+use Rattle.std.specs.Prelude.{Result, Ok, Err}
 use Prim.Native.Nat.{ℕ, zero, suc, ◌+◌, ◌-◌, ◌*◌, ◌≤◌, ◌<◌}
 use native.Mathlib.Omega.{arith}
 use borrow.Author.Tests.{not-true, not-false}
@@ -16,12 +17,12 @@ use Rattle.reading.specs.Inner.Table.{table, put_row}
 use Rattle.reading.proofs.Readers.{Long, each_long, mapped_ok, mapped_bad}
 use Rattle.reading.proofs.Pads.{pad_nil, length-pad}
 use Rattle.bits.specs.declared.Cursor.{Cursor}
-use Rattle.bits.specs.declared.Refusal.{Refusal}
-use Rattle.bits.specs.declared.Step.{Step}
-use Rattle.bits.specs.declared.Step.TheVariants.{Next, Refused}
-use Rattle.bits.specs.Inner.Cursors.{position, Wrote}
-use Rattle.bits.proofs.Steps.{wrote_ok, wrote_bad, wrote_next, wrote_refused}
-use Rattle.residue.specs.Reading.{Head, passes, plan_row, place_fits, residue_fits, with_plan, residue_from}
+use Rattle.bits.specs.declared.refusal.Refusal.{Refusal}
+use Rattle.bits.specs.declared.refusal.Reason.TheVariants as R
+use Rattle.bits.specs.Inner.Cursors.{position, outcome, Wrote}
+use Rattle.bits.proofs.Answers.{value_is, refused_is}
+use Rattle.bits.proofs.Steps.{wrote_next, wrote_refused}
+use Rattle.residue.specs.Reading.{Head, plan_row, place_fits, residue_fits, with_plan, residue_from}
 use Rattle.residue.specs.Inner.FromTable.{books_of}
 use Rattle.residue.specs.Inner.Heads.{head_numbers}
 use Rattle.residue.specs.Layout.{Tables, head_row, plan_table, put_residue, plan_width}
@@ -93,11 +94,11 @@ module _ (s : List ℕ) (count classes : ℕ) (cascades : List ℕ) (k₀ : Curs
     cascades_long : length (take classes cascades) ≡ classes
     cascades_long = length-take-le classes cascades (omega arith)
 
-    module _ (h : i < classes) {st : Step} {row : List ℕ} (p : Wrote (plan_row count (get_or cascades i 0) s (position c)) st row) where
-      pub planning_next : {c' : Cursor} → st ≡ Next c' → Planning s count classes cascades k₀ (set plan i row) c' (i + 1)
-      planning_next {c'} q =
+    module _ (h : i < classes) {r : Result (List ℕ × Cursor) Refusal} (p : outcome r ≡ plan_row count (get_or cascades i 0) s (position c)) where
+      pub planning_next : {row : List ℕ} {c' : Cursor} → r ≡ Ok (row, c') → Planning s count classes cascades k₀ (set plan i row) c' (i + 1)
+      planning_next {row} {c'} q =
           let e = cascades_long in
-          let o = wrote_ok p q in
+          let o = value_is p q in
           let g = w.grid in
           record {
             within = omega arith;
@@ -106,14 +107,14 @@ module _ (s : List ℕ) (count classes : ℕ) (cascades : List ℕ) (k₀ : Curs
           }
 
       module _ (t : List ℕ) (place : ℕ) (hd : Head) (T : Tables) where
-        pub planning_refused : {z : Refusal} → st ≡ Refused z → (U : Tables)
-            → Wrote (into1 put_residue (residue_from (books_of count t) place hd (take classes cascades) s (position k₀)) T) (Refused z) U
+        pub planning_refused : {z : Refusal} → r ≡ Err z → (U : Tables)
+            → Wrote (into1 put_residue (residue_from (books_of count t) place hd (take classes cascades) s (position k₀)) T) (Err z) U
         unfolding residue_from into1 mapped
         planning_refused {z} q U =
             let e = cascades_long in
-            let o = wrote_bad p q in
-            let f = fill_refused 0 (replicate 8 0) 64 (plan_row count) s (take classes cascades) w.filling (omega arith) {y = z} (rw (get_or-take classes cascades i 0 h) o) in
-            wrote_refused U (rw (mapped_bad (pad_with (replicate 8 0) 64) (each (plan_row count) (take classes cascades) s (position k₀)) (wrote_bad f refl)))
+            let o = refused_is p q in
+            let f = fill_refused 0 (replicate 8 0) 64 (plan_row count) s (take classes cascades) w.filling (omega arith) z (rw (get_or-take classes cascades i 0 h) o) in
+            wrote_refused U (rw (mapped_bad (pad_with (replicate 8 0) 64) (each (plan_row count) (take classes cascades) s (position k₀)) (refused_is f refl)))
 
     module _ (h : classes ≤ i) where
       -- the plan as it was read
@@ -123,7 +124,7 @@ module _ (s : List ℕ) (count classes : ℕ) (cascades : List ℕ) (k₀ : Curs
           mapped_ok
           (pad_with (replicate 8 0) 64)
           (each (plan_row count) (take classes cascades) s (position k₀))
-          (wrote_ok (fill_done 0 (replicate 8 0) 64 (plan_row count) s (take classes cascades) w.filling (omega arith)) refl)
+          (value_is (fill_done 0 (replicate 8 0) 64 (plan_row count) s (take classes cascades) w.filling (omega arith)) refl)
 
       read_long : length read.0 ≡ classes
       read_long = go (each (plan_row count) (take classes cascades) s (position k₀)) (each_long (plan_row count) (take classes cascades) s (position k₀)) read.1 ∙ cascades_long
@@ -140,20 +141,20 @@ module _ (s : List ℕ) (count classes : ℕ) (cascades : List ℕ) (k₀ : Curs
 
       module _ (t : List ℕ) (place : Cursor) (hd : Head) {rh : Bool} (ph : rh ≡ head_fits (books_of 0 t) hd) where
         pub head_unfit : not rh ≡ true → (T U : Tables)
-            → Wrote (into1 put_residue (residue_from (books_of count t) (position place) hd (take classes cascades) s (position k₀)) T) (Refused (record { number = 13; place = place })) U
+            → Wrote (into1 put_residue (residue_from (books_of count t) (position place) hd (take classes cascades) s (position k₀)) T) (Err (record { reason = R.Residue; place = place })) U
         unfolding residue_from into1 mapped
         head_unfit q T U =
             let f : residue_fits (books_of count t) (with_plan hd read.0) ≡ false = fits_halves count t hd read.0 ∙ rw (← ph, not-true rh q) in
             wrote_refused U (rw (read.1, f))
 
-        module _ (qh : not rh ≡ false) {n : ℕ} (e : n ≡ classes) {rp : Bool} (pp : rp ≡ all (place_fits (books_of 0 t) hd.size) (rows (λ row. row) (take n plan))) where
+        module _ (qh : not rh ≡ false) {rp : Bool} (pp : rp ≡ all (place_fits (books_of 0 t) hd.size) (rows (λ row. row) (take classes plan))) where
           whole_fits : residue_fits (books_of count t) (with_plan hd read.0) ≡ rp
           whole_fits =
               fits_halves count t hd read.0
-              ∙ rw (← ph, not-false rh qh) (ap (λ (l : List (List ℕ)). all (place_fits (books_of 0 t) hd.size) (rows (λ row. row) l)) (sym read_is ∙ ap (λ (j : ℕ). take j plan) (sym e)) ∙ sym pp)
+              ∙ rw (← ph, not-false rh qh) (ap (λ (l : List (List ℕ)). all (place_fits (books_of 0 t) hd.size) (rows (λ row. row) l)) (sym read_is) ∙ sym pp)
 
           pub plan_unfit : not rp ≡ true → (T U : Tables)
-              → Wrote (into1 put_residue (residue_from (books_of count t) (position place) hd (take classes cascades) s (position k₀)) T) (Refused (record { number = 13; place = place })) U
+              → Wrote (into1 put_residue (residue_from (books_of count t) (position place) hd (take classes cascades) s (position k₀)) T) (Err (record { reason = R.Residue; place = place })) U
           unfolding residue_from into1 mapped
           plan_unfit q T U =
               let f : residue_fits (books_of count t) (with_plan hd read.0) ≡ false = whole_fits ∙ not-true rp q in
@@ -161,7 +162,7 @@ module _ (s : List ℕ) (count classes : ℕ) (cascades : List ℕ) (k₀ : Curs
 
           pub residue_written : not rp ≡ false → (residues plans : List ℕ) (index : ℕ) {residues' plans' : List ℕ} → residues' ≡ sets residues (6 * index) (head_numbers hd)
               → plans' ≡ sets plans (plan_width * index) (rows (λ row. row) plan)
-              → Wrote (into1 put_residue (residue_from (books_of count t) (position place) hd (take classes cascades) s (position k₀)) (tables_at residues plans index)) (Next c)
+              → Wrote (into1 put_residue (residue_from (books_of count t) (position place) hd (take classes cascades) s (position k₀)) (tables_at residues plans index)) (Ok c)
               (tables_at residues' plans' (index + 1))
           unfolding residue_from into1 mapped put_residue put_row head_row plan_table
           residue_written q residues plans index {residues'} {plans'} a b =

@@ -1,4 +1,5 @@
 -- Laws of filling an array while reading: a loop over a list of items, of which i are done. Assumes nothing.
+use Rattle.std.specs.Prelude.{Result, Ok, Err}
 use Prim.Native.Nat.{ℕ, zero, suc, ◌+◌, ◌≤◌, ◌<◌}
 use native.Mathlib.Omega.{arith}
 use mathlib.Core.List.{List, [], ◌∷◌, ◌++◌, append-nil, append_assoc}
@@ -7,11 +8,9 @@ use lib.ListN.{length, get_or, set, take, replicate, length-append, length-set, 
 use Rattle.reading.specs.Outcome.{Outcome, ok, bad, then}
 use Rattle.reading.specs.Reader.{Reader, many, each, mapped, puts, into, into1}
 use Rattle.bits.specs.declared.Cursor.{Cursor}
-use Rattle.bits.specs.declared.Refusal.{Refusal}
-use Rattle.bits.specs.declared.Step.{Step}
-use Rattle.bits.specs.declared.Step.TheVariants.{Next, Refused}
-use Rattle.bits.specs.Inner.Cursors.{position, refusal_of, Wrote}
-use Rattle.bits.proofs.Steps.{wrote_next, wrote_refused, EachRest, each_loop_start, each_loop_next, each_loop_refused, each_loop_done}
+use Rattle.bits.specs.declared.refusal.Refusal.{Refusal}
+use Rattle.bits.specs.Inner.Cursors.{position, refusal_of, outcome, Wrote}
+use Rattle.bits.proofs.Steps.{wrote_ok, wrote_bad, wrote_next, wrote_refused, EachRest, each_loop_start, each_loop_next, each_loop_refused, each_loop_done}
 use Rattle.residue_reading.specs.Inner.Slots.{pad_with, Slots, slots, store}
 
 -- `pad_with`: its length, nothing but fillers, the items in front
@@ -57,7 +56,7 @@ module _ {A : Type 0} (z : A) where
   stored_all n l = rw (← pad_with_nil n) (puts-store n l [])
 
   -- what a filling loop comes to, as the array alone
-  pub filled : (n : ℕ) (o : Outcome (List A × ℕ)) {st : Step} {cells : List A} {i : ℕ} → Wrote (into store o (slots (replicate n z) 0)) st (slots cells i)
+  pub filled : (n : ℕ) (o : Outcome (List A × ℕ)) {st : Result Cursor Refusal} {cells : List A} {i : ℕ} → Wrote (into store o (slots (replicate n z) 0)) st (slots cells i)
       → Wrote (mapped (pad_with z n) o) st cells
   unfolding into mapped
   filled n (ok x) {st} {cells} {i} w =
@@ -72,11 +71,11 @@ module _ {A : Type 0} (z : A) where
 
 -- one item stored, or refused
 module _ {A : Type 0} {o : Outcome (A × ℕ)} where
-  stored : {v : A} {c : Cursor} (cells : List A) (i : ℕ) → o ≡ ok (v, position c) → Wrote (into1 store o (slots cells i)) (Next c) (slots (set cells i v) (i + 1))
+  stored : {v : A} {c : Cursor} (cells : List A) (i : ℕ) → o ≡ ok (v, position c) → Wrote (into1 store o (slots cells i)) (Ok c) (slots (set cells i v) (i + 1))
   unfolding into1 mapped store
   stored cells i e = wrote_next (rw e)
 
-  not_stored : {z : Refusal} (t : Slots A) → o ≡ bad (refusal_of z) → Wrote (into1 store o t) (Refused z) t
+  not_stored : {z : Refusal} (t : Slots A) → o ≡ bad (refusal_of z) → Wrote (into1 store o t) (Err z) t
   unfolding into1 mapped
   not_stored t e = wrote_refused t (rw e)
 
@@ -91,8 +90,9 @@ module _ {A B : Type 0} (d : B) (z : A) (n : ℕ) (r : B → Reader A) (s : List
   fill_start k₀ = record { within = omega arith; long = length-replicate n z; rest = each_loop_start d store r s l _ k₀ (slots (replicate n z) 0) refl }
 
   module _ {k₀ : Cursor} {cells : List A} {c : Cursor} {i : ℕ} (w : Filling k₀ cells c i) where
-    pub fill_done : length l ≤ i → Wrote (mapped (pad_with z n) (each r l s (position k₀))) (Next c) cells
-    fill_done h = filled z n (each r l s (position k₀)) (each_loop_done d store r s l _ i c (slots cells i) w.rest h)
+    pub fill_done : length l ≤ i → outcome (Ok (cells, c)) ≡ mapped (pad_with z n) (each r l s (position k₀))
+    unfolding outcome
+    fill_done h = sym (wrote_ok (filled z n (each r l s (position k₀)) (each_loop_done d store r s l _ i c (slots cells i) w.rest h)) refl)
 
     pub fill_next : i < length l → {v : A} {c' : Cursor} → r (get_or l i d) s (position c) ≡ ok (v, position c') → Filling k₀ (set cells i v) c' (i + 1)
     fill_next h {v} {c'} e =
@@ -102,9 +102,10 @@ module _ {A B : Type 0} (d : B) (z : A) (n : ℕ) (r : B → Reader A) (s : List
           rest = each_loop_next d store r s l _ i c (slots cells i) w.rest h (stored cells i e) refl;
         }
 
-    pub fill_refused : i < length l → {y : Refusal} → r (get_or l i d) s (position c) ≡ bad (refusal_of y)
-        → Wrote (mapped (pad_with z n) (each r l s (position k₀))) (Refused y) cells
-    fill_refused h e = filled z n (each r l s (position k₀)) (each_loop_refused d store r s l _ i c (slots cells i) w.rest h (not_stored (slots cells i) e) refl (slots cells i))
+    pub fill_refused : i < length l → (y : Refusal) → r (get_or l i d) s (position c) ≡ bad (refusal_of y)
+        → outcome {A = List A} (Err y) ≡ mapped (pad_with z n) (each r l s (position k₀))
+    unfolding outcome
+    fill_refused h y e = sym (wrote_bad (filled z n (each r l s (position k₀)) (each_loop_refused d store r s l _ i c (slots cells i) w.rest h (not_stored (slots cells i) e) refl (slots cells i))) refl)
 
 -- n times the same is once for each of n items
 module _ {A : Type 0} (r : Reader A) where

@@ -9,7 +9,7 @@ use lib.Seq.{take_all, sets, length-sets}
 use Rattle.reading.specs.Lists.{rows}
 use Rattle.reading.proofs.Tables.{sets_append}
 use Rattle.residue.specs.Inner.Plans.{Grid}
-use Rattle.residue.proofs.RowsLaws.{rows_more, rows_long, row_counted}
+use Rattle.residue.proofs.RowsLaws.{rows_more, rows_long}
 
 -- the loop that writes a grid row by row
 module _ (entry : List ℕ) (at : ℕ) (plan : List (List ℕ)) where
@@ -43,4 +43,4 @@ module _ (entry : List ℕ) (at : ℕ) (plan : List (List ℕ)) where
         let c = g.classes in
         w.is ∙ ap (λ (l : List (List ℕ)). sets entry at (rows (λ row. row) l)) (take_all i plan (omega arith))
 
-pub ruleset writing_laws = (rules, row_counted, writing_start, writing_next, writing_done)
+pub ruleset writing_laws = (rules, writing_start, writing_next, writing_done)

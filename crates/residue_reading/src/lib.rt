@@ -16,9 +16,8 @@ ghost use Rattle.residue.specs.Inner.Heads.{head_of, head_numbers};
 ghost use Rattle.residue.specs.Inner.Plans.{tables_at};
 ghost use Rattle.residue.specs.Inner.Valid.{AcceptedValid};
 
-use crate::head::HeadRead;
-use bits::{Cursor, Refusal, Step};
-use reading::widths::wide_u32;
+use bits::Cursor;
+use bits::refusal::{Reason, Refusal};
 use residue::head::Head;
 use residue::{HEAD_WIDTH, PLAN_WIDTH};
 
@@ -33,7 +32,7 @@ fn write_head(residues: &mut [u32], at: usize, head: Head)
         head.classifications,
         head.classbook,
     ];
-    reading::buffers::write_u32(residues, at, &row);
+    reading::buffers::write(residues, at, &row);
 }
 
 // The plan of a residue whose other fields and cascades were read: it is read whole, judged (13, at the residue's type) and written with them.
@@ -48,7 +47,7 @@ fn read_plan(
     residues: &mut [u32],
     plans: &mut [u16],
     index: usize,
-) -> Step
+) -> Result<Cursor, Refusal>
     requires { (index ≤ 63) × (head.classifications ≤ 64) × (length cascades ≡ 64) }
     ensures { Wrote (into1 put_residue
         (residue_from (books_of book_count books.now) (position place) (head_of head) (take head.classifications cascades)
@@ -56,35 +55,30 @@ fn read_plan(
         (tables_at residues.old plans.old index))
         result (tables_at residues.new plans.new (index + 1)) }
 {
-    let classes = wide_u32(head.classifications);
+    let classes = head.classifications as usize;
     let empty = [0u16; 8];
     let mut plan = [empty; 64];
     let mut at = from;
-    let mut i: usize = 0;
-    while i < classes {
-        let row = crate::plan::read_row(packet, at, book_count, cascades[i]);
-        let step = row.step;
-        match step {
-            Step::Refused(z) => {
-                return Step::Refused(z); // a book number's refusal comes before rule 13
-            }
-            Step::Next(next) => {
-                let books_of_class = row.books;
-                plan[i] = books_of_class;
-                at = next;
-            }
-        }
-        i = i + 1;
+    for i in 0..classes {
+        let (row, next) = plan::read_row(packet, at, book_count, cascades[i])?; // a book number's refusal comes before rule 13
+        plan[i] = row;
+        at = next;
     }
     if !residue::fits::head_fits(head, books) {
-        return Step::Refused(Refusal { number: 13, place });
+        return Err(Refusal {
+            reason: Reason::Residue,
+            place,
+        });
     }
-    if !residue::fits::plan_fits(plan, classes, head.size, books) {
-        return Step::Refused(Refusal { number: 13, place });
+    if !residue::fits::plan_fits(&plan[..classes], head.size, books) {
+        return Err(Refusal {
+            reason: Reason::Residue,
+            place,
+        });
     }
     write_head(residues, HEAD_WIDTH * index, head);
-    crate::plan::write_plan(plans, PLAN_WIDTH * index, plan);
-    Step::Next(at)
+    plan::write_plan(plans, PLAN_WIDTH * index, plan);
+    Ok(at)
 }
 
 // A residue, written as number `index` of the tables.
@@ -96,30 +90,21 @@ pub fn read_residue(
     residues: &mut [u32],
     plans: &mut [u16],
     index: usize,
-) -> Step
+) -> Result<Cursor, Refusal>
     requires { index ≤ 63 }
     ensures { Wrote (into1 put_residue (residue (books_of book_count books.now) packet.now (position from))
         (tables_at residues.old plans.old index))
         result (tables_at residues.new plans.new (index + 1)) }
 {
-    match head::read_head(packet, from, book_count) {
-        HeadRead::Refused(z) => Step::Refused(z),
-        HeadRead::Value(head, at_cascades) => {
-            let cascades = crate::cascade::read_cascades(
-                packet,
-                at_cascades,
-                wide_u32(head.classifications),
-            );
-            let numbers = cascades.numbers;
-            let step = cascades.step;
-            match step {
-                Step::Refused(z) => Step::Refused(z),
-                Step::Next(at_plan) => read_plan(
-                    packet, at_plan, book_count, head, numbers, from, books, residues, plans, index,
-                ),
-            }
-        }
-    }
+    let (head, at_cascades) = head::read_head(packet, from, book_count)?;
+    let (cascades, at_plan) = cascade::read_cascades(
+        packet,
+        at_cascades,
+        head.classifications as usize,
+    )?;
+    read_plan(
+        packet, at_plan, book_count, head, cascades, from, books, residues, plans, index,
+    )
 }
 
 // `n` residues, from the front of the tables on.
@@ -131,7 +116,7 @@ pub fn read_residues(
     residues: &mut [u32],
     plans: &mut [u16],
     n: usize,
-) -> Step
+) -> Result<Cursor, Refusal>
     requires { n ≤ 64 }
     ensures wrote { Wrote (into put_residue (many (residue (books_of book_count books.now)) n packet.now (position from))
         (tables_at residues.old plans.old 0))
@@ -139,17 +124,8 @@ pub fn read_residues(
     ensures accepted_valid { AcceptedValid (books_of book_count books.now) n packet.now (position from) }
 {
     let mut at = from;
-    let mut i: usize = 0;
-    while i < n {
-        match read_residue(packet, at, book_count, books, residues, plans, i) {
-            Step::Refused(z) => {
-                return Step::Refused(z);
-            }
-            Step::Next(next) => {
-                at = next;
-            }
-        }
-        i = i + 1;
+    for i in 0..n {
+        at = read_residue(packet, at, book_count, books, residues, plans, i)?;
     }
-    Step::Next(at)
+    Ok(at)
 }

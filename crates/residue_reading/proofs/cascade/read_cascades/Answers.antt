@@ -1,16 +1,16 @@
 -- `residue_reading::cascade::read_cascades` meets its contract, by CascadeLaws. Assumes nothing.
-use Prim.Native.Nat.{◌-◌}
-use Rattle.residue_reading.proofs.CascadeLaws.{cascades_laws}
+use Rattle.bits.proofs.Answers.{outcome_back}
+use Rattle.residue_reading.proofs.CascadeLaws.{cascades_start, cascades_refused, cascades_next, cascades_done}
 use Rattle.residue_reading.proofs.cascade.read_cascades.Goals as goal
 
 pub loop-i-init : goal.loop-i-init
-loop-i-init c = search cascades_laws
+loop-i-init c = cascades_start _ _ _
 
-pub returns-in-Refused : goal.returns-in-Refused
-returns-in-Refused c = search cascades_laws
+pub returns-in_err-number : goal.returns-in_err-number
+returns-in_err-number c = outcome_back _ _ c.from_residual.ensures.1 (cascades_refused _ _ _ c.loop-i.invariant c.loop-i-test.true c.read_cascade.ensures c.in_err-number.was)
 
 pub loop-i-preserved : goal.loop-i-preserved
-loop-i-preserved c = search cascades_laws
+loop-i-preserved c = cascades_next _ _ _ c.loop-i.invariant c.loop-i-test.true c.read_cascade.ensures c.in_ok-number.was
 
 pub returns : goal.returns
-returns c = search cascades_laws
+returns c = cascades_done _ _ _ c.loop-i.invariant c.loop-i-test.false
