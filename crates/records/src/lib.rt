@@ -1,13 +1,12 @@
 // The records of the tool's input (01, the tool): where one begins and ends, of which kind it is, and what it can come to.
 #![tactic(auto)]
 
-ghost use Rattle.std.specs.Prelude.{◌≡◌, ◌≤◌, get_or};
+ghost use Rattle.std.specs.Prelude.{◌≡◌};
 ghost use Rattle.records.specs.Records as records;
 ghost use Rattle.records.specs.Inner.Fronts.{front};
 
 use identification::Identity;
-use reading::buffers::get_u8;
-use reading::widths::wide_u8;
+use reading::buffers::get;
 
 // What stands at the front of the bytes that were read so far.
 #[derive(Clone, Copy)]
@@ -16,7 +15,7 @@ pub enum Front {
     Partial,
     // The head of a record whose body is too long, and how many bytes that has.
     TooLong(usize),
-    // A record: its kind, and how many bytes its body has.
+    // A record: its kind, and how many bytes its body has. The kind stays a number: any may stand there, and what is of no kind is a record too.
     Whole(u32, usize),
 }
 
@@ -29,13 +28,14 @@ pub enum Answer {
     SetUp(u32, u32),
     // An audio packet that was accepted: its block size, the samples that it finished, its codewords.
     AudioRead(u32, u64, u64),
-    // The number of the refusal.
+    // The refusal's number as it is printed, which may be any: a number, and not one of `bits`'s reasons.
     Refused(u32),
     Unknown,
     TooLong,
 }
 
 // Looks at the front of `input`, the bytes from a record on.
+#[tactic(auto, unfolding(crate::specs::Inner::Fronts::front, crate::specs::Records::is_too_long))]
 pub fn look(input: &[u8]) -> Front
     ensures { result ≡ front input.now }
 {
@@ -53,22 +53,17 @@ pub fn look(input: &[u8]) -> Front
 }
 
 // The body's length: four bytes, low byte first.
+#[tactic(auto, unfolding(crate::specs::Records::body_length))]
 fn body_length(input: &[u8]) -> usize
     ensures { result ≡ records.body_length input.now }
 {
-    byte(input, 0) + 256 * byte(input, 1) + 65536 * byte(input, 2) + 16777216 * byte(input, 3)
+    u32::from_le_bytes([get(input, 0), get(input, 1), get(input, 2), get(input, 3)]) as usize
 }
 
 // The record's kind: two bytes, low byte first.
+#[tactic(auto, unfolding(crate::specs::Records::kind))]
 fn kind(input: &[u8]) -> u32
     ensures { result ≡ records.kind input.now }
 {
-    (byte(input, 4) + 256 * byte(input, 5)) as u32
-}
-
-// A byte of the input.
-fn byte(input: &[u8], index: usize) -> usize
-    ensures { (result ≡ get_or input.now index 0) × (result ≤ 255) }
-{
-    wide_u8(get_u8(input, index))
+    u16::from_le_bytes([get(input, 4), get(input, 5)]) as u32
 }
