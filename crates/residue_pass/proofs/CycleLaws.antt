@@ -1,4 +1,5 @@
 -- Laws of class words and their groups of partitions, as the code asks them. Assumes nothing.
+use Rattle.std.specs.Prelude.{Result, Ok, Err}
 use Prim.Native.Nat.{ℕ, zero, suc, ◌+◌, ◌-◌, ◌≤◌, ◌<◌, min}
 use native.Mathlib.Omega.{arith}
 use borrow.Author.Rules.{rules}
@@ -24,11 +25,10 @@ use Rattle.residue_requests.proofs.AgainLaws.{numbers, numbers_long, entries_are
 use Rattle.residue_requests.proofs.PassLaws.{partitions_append}
 use Rattle.residue_requests.proofs.FirstPassLaws.{classes_before}
 use Rattle.codeword_list.specs.declared.Progress.{Progress}
-use Rattle.codeword_list.specs.declared.ListRead.{ListRead}
-use Rattle.codeword_list.specs.declared.ListRead.TheVariants.{Whole, Cut, Full}
+use Rattle.codeword_list.specs.declared.Stop.{Stop}
 use Rattle.codeword_list.specs.Inner.ListRead.{ReadIntoList}
 use Rattle.codeword_list.specs.Inner.WordsRun.{words_run, one_word}
-use Rattle.codeword_list.proofs.Laws.{ReadSoFar, sofar_start, sofar_next, sofar_last, sofar_fits, joined_cut, joined_full, read_nothing, read_length, read_whole, Alike, read_alike, alike_mapped}
+use Rattle.codeword_list.proofs.Laws.{ReadSoFar, sofar_start, sofar_next, sofar_last, sofar_fits, joined_stop, read_nothing, read_length, read_whole, Alike, read_alike, alike_mapped}
 use Rattle.residue_pass.specs.Inner.Readable.{residue_by, group_classes, PassReadable}
 use Rattle.residue_pass.specs.Inner.PassRuns.{partitions_run, first_pass_run}
 
@@ -42,42 +42,39 @@ unfolding flat_class_words request bind
 one_more books lengths book n es s k = run_bind (read (lengths_in books lengths)) s (one_word book false) (λ e. flat_class_words book n (es ++ (e ∷ []))) k
 
 -- the loop's state; `es` are the entries of the class words that were read
-pub record ClassWordsLeft (s books lengths codewords : List ℕ) (book live : ℕ) (entered : List ℕ) (from : Progress) (out : List ℕ) (next : Progress) (left : ℕ) : Type 0 where
+pub record ClassWordsLeft (s books lengths codewords : List ℕ) (book live : ℕ) (entered : List ℕ) (from : Progress) (out : List ℕ) (next : Progress) (i : ℕ) : Type 0 where
   pub stored : BookStored books lengths codewords book
   pub long : length out ≡ length entered
   pub es : List ℕ
   pub sofar : ReadSoFar (class_words_run books lengths book live [] s (position from.at)) entered from.count
-      (class_words_run books lengths book left es s (position next.at)) out next.count
+      (class_words_run books lengths book (live - i) es s (position next.at)) out next.count
 
 module _ {s books lengths codewords : List ℕ} {book live : ℕ} {entered : List ℕ} {from : Progress} where
-  pub words_start : BookStored books lengths codewords book → from.count ≤ length entered → ClassWordsLeft s books lengths codewords book live entered from entered from live
-  words_start l r = record { stored = l; long = refl; es = []; sofar = sofar_start r }
+  pub words_start : BookStored books lengths codewords book → from.count ≤ length entered → ClassWordsLeft s books lengths codewords book live entered from entered from 0
+  words_start l r = let z : live - 0 ≡ live = omega arith in record { stored = l; long = refl; es = []; sofar = rw z (sofar_start r) }
 
-  module _ {out : List ℕ} {next : Progress} {left : ℕ} (g : ClassWordsLeft s books lengths codewords book live entered from out next left) where
+  module _ {out : List ℕ} {next : Progress} {i : ℕ} (g : ClassWordsLeft s books lengths codewords book live entered from out next i) where
     pub words_fits : next.count ≤ length out
     words_fits = sofar_fits g.sofar
 
-    pub words_done : left ≤ 0 → ReadIntoList (class_words_run books lengths book live [] s (position from.at)) entered from.count (Whole next) out
+    pub words_done : live ≤ i → ReadIntoList (class_words_run books lengths book live [] s (position from.at)) entered from.count (Ok next) out
     unfolding flat_class_words run
-    words_done z = let y : left ≡ 0 = omega arith in sofar_last (rw y at g.sofar) (read_nothing refl words_fits refl)
+    words_done z = let y : live - i ≡ 0 = omega arith in sofar_last (rw y at g.sofar) (read_nothing refl words_fits refl)
 
-    module _ (more : 0 < left) {x : ListRead} {exit : List ℕ}
+    module _ (more : i < live) {x : Result Progress Stop} {exit : List ℕ}
         (q : ReadIntoList (words_run books lengths (one_word book false) s (position next.at)) out next.count x exit) where
       abbrev later : ℕ → ℕ → Run (List ℕ)
-      later e m = class_words_run books lengths book (left - 1) (g.es ++ (e ∷ [])) s m
+      later e m = class_words_run books lengths book (live - (i + 1)) (g.es ++ (e ∷ [])) s m
 
-      words_joined : class_words_run books lengths book left g.es s (position next.at) ≡ joined (words_run books lengths (one_word book false) s (position next.at)) later
+      words_joined : class_words_run books lengths book (live - i) g.es s (position next.at) ≡ joined (words_run books lengths (one_word book false) s (position next.at)) later
       words_joined =
-          let z : left ≡ suc (left - 1) = omega arith in
-          ap (λ (n : ℕ). class_words_run books lengths book n g.es s (position next.at)) z ∙ one_more books lengths book (left - 1) g.es s (position next.at)
+          let z : live - i ≡ suc (live - (i + 1)) = omega arith in
+          ap (λ (n : ℕ). class_words_run books lengths book n g.es s (position next.at)) z ∙ one_more books lengths book (live - (i + 1)) g.es s (position next.at)
 
-      pub words_cut : {p : Progress} → x ≡ Cut p → ReadIntoList (class_words_run books lengths book live [] s (position from.at)) entered from.count (Cut p) exit
-      words_cut e = sofar_last (rw words_joined at g.sofar) (joined_cut later q e)
+      pub words_stop : {e : Stop} → x ≡ Err e → ReadIntoList (class_words_run books lengths book live [] s (position from.at)) entered from.count (Err e) exit
+      words_stop e = sofar_last (rw words_joined at g.sofar) (joined_stop later q _ e)
 
-      pub words_full : x ≡ Full → ReadIntoList (class_words_run books lengths book live [] s (position from.at)) entered from.count Full exit
-      words_full e = sofar_last (rw words_joined at g.sofar) (joined_full later q e)
-
-      pub words_next : {p : Progress} → x ≡ Whole p → ClassWordsLeft s books lengths codewords book live entered from exit p (left - 1)
+      pub words_next : {p : Progress} → x ≡ Ok p → ClassWordsLeft s books lengths codewords book live entered from exit p (i + 1)
       words_next e =
           let y = sofar_next g.sofar later words_joined q e in
           record { stored = g.stored; long = read_length q ∙ g.long; es = g.es ++ (y.0 ∷ []); sofar = y.2 }
@@ -130,8 +127,8 @@ first_alike lengths_of s dimensions_of r live left unused es acc k =
     rw e (alike_mapped (read lengths_of) s first (λ cs. acc ++ cs) k)
 
 -- the class words that were read last stand last in the list
-words_listed : (books lengths s : List ℕ) (book live k : ℕ) (out : List ℕ) (c : ℕ) {x : ListRead} {exit : List ℕ} → ReadIntoList (class_words_run books lengths book live [] s k) out c x exit
-    → {p : Progress} → x ≡ Whole p → (ws : List ℕ) → (class_words_run books lengths book live [] s k).value ≡ some ws
+words_listed : (books lengths s : List ℕ) (book live k : ℕ) (out : List ℕ) (c : ℕ) {x : Result Progress Stop} {exit : List ℕ} → ReadIntoList (class_words_run books lengths book live [] s k) out c x exit
+    → {p : Progress} → x ≡ Ok p → (ws : List ℕ) → (class_words_run books lengths book live [] s k).value ≡ some ws
     → (p.count ≡ c + live) × (ws ≡ entries_from exit (p.count - live) live)
 words_listed books lengths s book live k out c {x} {exit} w {p} q ws e =
     let items = (class_words_run books lengths book live [] s k).items in
@@ -148,8 +145,8 @@ words_listed books lengths s book live k out c {x} {exit} w {p} q ws e =
     let z : p.count - live ≡ c = omega arith in
     (n, rw z (y.words_are ∙ sym (entries_are items y.kind exit c tail d) ∙ ap (entries_from exit c) y.number))
 
-pub words_counted : (books lengths s : List ℕ) (book live k : ℕ) (out : List ℕ) (c : ℕ) {x : ListRead} {exit : List ℕ} {p : Progress}
-    → ReadIntoList (class_words_run books lengths book live [] s k) out c x exit → x ≡ Whole p → live ≤ p.count
+pub words_counted : (books lengths s : List ℕ) (book live k : ℕ) (out : List ℕ) (c : ℕ) {x : Result Progress Stop} {exit : List ℕ} {p : Progress}
+    → ReadIntoList (class_words_run books lengths book live [] s k) out c x exit → x ≡ Ok p → live ≤ p.count
 words_counted books lengths s book live k out c w q =
     let y = read_whole q w.ending in
     let z = (words_listed books lengths s book live k out c w q y.value y.came).0 in
@@ -161,11 +158,11 @@ module _ {books lengths codewords plans : List ℕ} {n : ℕ} {h : Head} {digits
   class_book = l.readable.class_book
 
   module _ (s : List ℕ) (live left : ℕ) (from : Progress) (out : List ℕ) (room : from.count ≤ length out) where
-    pub class_none : left ≡ 0 → ReadIntoList (first_pass_run books lengths plans n h live left 0 [] s (position from.at)) out from.count (Whole from) out
+    pub class_none : left ≡ 0 → ReadIntoList (first_pass_run books lengths plans n h live left 0 [] s (position from.at)) out from.count (Ok from) out
     unfolding flat_first_pass run
     class_none z = rw z (read_nothing refl room refl)
 
-    module _ (more : left ≡ 0 → ⊥) {x : ListRead} {exit : List ℕ}
+    module _ (more : left ≡ 0 → ⊥) {x : Result Progress Stop} {exit : List ℕ}
         (w : ReadIntoList (class_words_run books lengths h.classbook live [] s (position from.at)) out from.count x exit) where
       abbrev groups : List ℕ → ℕ → Run (List ℕ)
       groups ws m = first_pass_run books lengths plans n h live left (dimensions_in books h.classbook) ws s m
@@ -180,13 +177,10 @@ module _ {books lengths codewords plans : List ℕ} {n : ℕ} {h : Head} {digits
           rw z (first_words (dimensions_in books) r live (left - 1) [] [] l.readable.class_dimensions) in
           rw e (run_bind (read (lengths_in books lengths)) s (flat_class_words h.classbook live []) _ (position from.at))
 
-      pub class_cut : {p : Progress} → x ≡ Cut p → ReadIntoList (first_pass_run books lengths plans n h live left 0 [] s (position from.at)) out from.count (Cut p) exit
-      class_cut q = rw class_joined (joined_cut groups w q)
+      pub class_stop : {e : Stop} → x ≡ Err e → ReadIntoList (first_pass_run books lengths plans n h live left 0 [] s (position from.at)) out from.count (Err e) exit
+      class_stop q = rw class_joined (joined_stop groups w _ q)
 
-      pub class_full : x ≡ Full → ReadIntoList (first_pass_run books lengths plans n h live left 0 [] s (position from.at)) out from.count Full exit
-      class_full q = rw class_joined (joined_full groups w q)
-
-      pub class_then : {p : Progress} → x ≡ Whole p → {x₂ : ListRead} {exit₂ : List ℕ}
+      pub class_then : {p : Progress} → x ≡ Ok p → {x₂ : Result Progress Stop} {exit₂ : List ℕ}
           → ReadIntoList (first_pass_run books lengths plans n h live left digits (entries_from exit (p.count - live) live) s (position p.at)) exit p.count x₂ exit₂
           → ReadIntoList (first_pass_run books lengths plans n h live left 0 [] s (position from.at)) out from.count x₂ exit₂
       class_then q v =
@@ -195,7 +189,7 @@ module _ {books lengths codewords plans : List ℕ} {n : ℕ} {h : Head} {digits
           sofar_last y.2 (rw (← l.digits_are, z) v)
 
     -- a group
-    module _ (rows : ℕ) (e : rows ≡ min digits left) (es : List ℕ) {x : ListRead} {exit : List ℕ}
+    module _ (rows : ℕ) (e : rows ≡ min digits left) (es : List ℕ) {x : Result Progress Stop} {exit : List ℕ}
         (w : ReadIntoList (partitions_run books lengths plans n h 0 (group_classes (residue_by h plans n) digits es rows) s (position from.at)) out from.count x exit) where
       abbrev following : Unit {0} → ℕ → Run (List ℕ)
       following _ m =
@@ -209,11 +203,8 @@ module _ {books lengths codewords plans : List ℕ} {n : ℕ} {h : Head} {digits
           rw (first_group (dimensions_in books) r live rows left digits es [] (omega arith) (omega arith))
           (run_bind (read (lengths_in books lengths)) s (flat_partitions (dimensions_in books) r 0 (group_classes r digits es rows)) _ (position from.at))
 
-      pub group_cut : {p : Progress} → x ≡ Cut p → ReadIntoList (first_pass_run books lengths plans n h live left digits es s (position from.at)) out from.count (Cut p) exit
-      group_cut q = rw group_joined (joined_cut following w q)
-
-      pub group_full : x ≡ Full → ReadIntoList (first_pass_run books lengths plans n h live left digits es s (position from.at)) out from.count Full exit
-      group_full q = rw group_joined (joined_full following w q)
+      pub group_stop : {e : Stop} → x ≡ Err e → ReadIntoList (first_pass_run books lengths plans n h live left digits es s (position from.at)) out from.count (Err e) exit
+      group_stop q = rw group_joined (joined_stop following w _ q)
 
       -- past the last digit or the last partition the class words that were used do not matter
       ends_alike : (left' digits' : ℕ) → min left' digits' ≡ 0 → (acc : List ℕ) (k : ℕ)
@@ -223,13 +214,13 @@ module _ {books lengths codewords plans : List ℕ} {n : ℕ} {h : Head} {digits
       ends_alike (suc left') zero z acc k = first_alike (lengths_in books lengths) s (dimensions_in books) (residue_by h plans n) live (suc left') 0 [] acc k
       ends_alike (suc left') (suc digits') z acc k = absurd (omega arith)
 
-      pub group_then : {p : Progress} → x ≡ Whole p → {x₂ : ListRead} {exit₂ : List ℕ}
+      pub group_then : {p : Progress} → x ≡ Ok p → {x₂ : Result Progress Stop} {exit₂ : List ℕ}
           → ReadIntoList (first_pass_run books lengths plans n h live (left - rows) 0 [] s (position p.at)) exit p.count x₂ exit₂
           → ReadIntoList (first_pass_run books lengths plans n h live left digits es s (position from.at)) out from.count x₂ exit₂
       group_then {p} q v =
           let y = sofar_next (sofar_start room) following group_joined w q in
           sofar_last y.2 (read_alike (ends_alike (left - rows) (digits - rows) (omega arith) ([] ++ group_classes (residue_by h plans n) digits es rows) (position p.at)) v)
 
-pub ruleset looped = (rules, words_start, words_fits, words_done, words_cut, words_full, words_next)
+pub ruleset looped = (rules, words_start, words_fits, words_done, words_stop, words_next)
 
-pub ruleset asked = (rules, class_book, class_none, class_cut, class_full, group_cut, group_full)
+pub ruleset asked = (rules, class_book, class_none, class_stop, group_stop)

@@ -1,4 +1,5 @@
 -- Laws of a partition, and of a partition of each vector, as the code asks them. Assumes nothing.
+use Rattle.std.specs.Prelude.{Result, Ok, Err}
 use Prim.Native.Nat.{ℕ, zero, suc, ◌+◌, ◌-◌, ◌*◌, ◌/◌, ◌%◌, ◌^◌, ◌≤◌, ◌<◌}
 use native.Mathlib.Omega.{arith}
 use native.Mathlib.Nat.{mod-lt, one-le-pow}
@@ -21,11 +22,10 @@ use Rattle.residue_requests.specs.Inner.Unplaced.{flat_vectors, flat_partition, 
 use Rattle.residue_requests.specs.Inner.Again.{entries_from}
 use Rattle.residue_requests.proofs.AgainLaws.{numbers}
 use Rattle.codeword_list.specs.declared.Progress.{Progress}
-use Rattle.codeword_list.specs.declared.ListRead.{ListRead}
-use Rattle.codeword_list.specs.declared.ListRead.TheVariants.{Whole, Cut, Full}
+use Rattle.codeword_list.specs.declared.Stop.{Stop}
 use Rattle.codeword_list.specs.Inner.ListRead.{ReadIntoList}
 use Rattle.codeword_list.specs.Inner.WordsRun.{words_run}
-use Rattle.codeword_list.proofs.Laws.{ReadSoFar, sofar_start, sofar_next, sofar_last, sofar_fits, joined_cut, joined_full, read_nothing, read_length}
+use Rattle.codeword_list.proofs.Laws.{ReadSoFar, sofar_start, sofar_next, sofar_last, sofar_fits, joined_stop, read_nothing, read_length}
 use Rattle.residue_pass.specs.Inner.Readable.{residue_by, place_in, ResidueReadable}
 use Rattle.residue_pass.specs.Inner.PassRuns.{partition_run, partitions_run}
 
@@ -46,31 +46,30 @@ place_is h plans n class pass c p =
 module _ {books lengths codewords plans : List ℕ} {n : ℕ} {h : Head} (l : ResidueReadable books lengths codewords plans n h) {class pass : ℕ}
     (c : class < h.classifications) (p : pass < 8) {place : ℕ} (e : place ≡ place_in plans n class pass) where
   pub partition_none : place ≡ 0 → (s : List ℕ) (from : Progress) (out : List ℕ) → from.count ≤ length out
-      → ReadIntoList (partition_run books lengths plans n h pass class s (position from.at)) out from.count (Whole from) out
+      → ReadIntoList (partition_run books lengths plans n h pass class s (position from.at)) out from.count (Ok from) out
   unfolding flat_partition run
   partition_none z s from out f = rw (place_is h plans n class pass c p ∙ sym e ∙ z) (read_nothing refl f refl)
 
-  module _ (some : place ≡ 0 → ⊥) {place' : ℕ} (same : place' ≡ place) where
+  module _ (some : place ≡ 0 → ⊥) where
     stored : BookStored books lengths codewords (place_in plans n class pass - 1) × (1 ≤ dimensions_in books (place_in plans n class pass - 1))
     stored = l.places class pass c p (λ z. some (e ∙ z))
 
-    pub place_low : 1 ≤ place'
-    place_low = let z : 0 < place = omega (arith, some) in omega arith
+    pub place_low : 1 ≤ place
+    place_low = omega (arith, some)
 
-    pub book_stored : BookStored books lengths codewords (place' - 1)
-    book_stored = rw (same, e) stored.0
+    pub book_stored : BookStored books lengths codewords (place - 1)
+    book_stored = rw e stored.0
 
-    pub book_dimensions : 1 ≤ dimensions_in books (place' - 1)
-    book_dimensions = rw (same, e) stored.1
+    pub book_dimensions : 1 ≤ dimensions_in books (place - 1)
+    book_dimensions = rw e stored.1
 
-    pub partition_some : {size : ℕ} → size ≡ h.size → (s : List ℕ) (k : ℕ) (out : List ℕ) (count : ℕ) {x : ListRead} {exit : List ℕ}
-        → ReadIntoList (words_run books lengths (flat_vectors (place' - 1) (size / dimensions_in books (place' - 1))) s k) out count x exit
+    pub partition_some : (s : List ℕ) (k : ℕ) (out : List ℕ) (count : ℕ) {x : Result Progress Stop} {exit : List ℕ}
+        → ReadIntoList (words_run books lengths (flat_vectors (place - 1) (h.size / dimensions_in books (place - 1))) s k) out count x exit
         → ReadIntoList (partition_run books lengths plans n h pass class s k) out count x exit
     unfolding flat_partition residue_by
-    partition_some {size} f s k out count w =
+    partition_some s k out count w =
         let nonzero : place_in plans n class pass ≡ 0 → ⊥ = λ z. some (e ∙ z) in
-        let at_place : place' ≡ place_in plans n class pass = same ∙ e in
-        rw (place_is h plans n class pass c p, ne_eqb (place_in plans n class pass) 0 nonzero) (rw (at_place, f) at w)
+        rw (place_is h plans n class pass c p, ne_eqb (place_in plans n class pass) 0 nonzero) (rw e at w)
 
 -- A PARTITION OF EACH VECTOR
 pub get_before : (vs l : List ℕ) (i k : ℕ) → k < i → get_or (sets l i vs) k 0 ≡ get_or l k 0
@@ -117,21 +116,28 @@ module _ {s books lengths codewords plans : List ℕ} {n : ℕ} {h : Head} {at l
         let r = residue_by h plans n in
         run_bind (read (lengths_in books lengths)) s (flat_partition (dimensions_in books) r (planned r pass c)) (λ _. flat_partitions (dimensions_in books) r pass cs) k
 
-    pub across_done : live ≤ j → ReadIntoList (across_run books lengths plans n h pass unused entered at live s (position from.at)) entered from.count (Whole next) out
+    pub across_done : live ≤ j → ReadIntoList (across_run books lengths plans n h pass unused entered at live s (position from.at)) entered from.count (Ok next) out
     unfolding flat_partitions classes_of entries_from run
     across_done low = let z : live - j ≡ 0 = omega arith in sofar_last (rw z at g.sofar) (read_nothing refl across_fits refl)
 
-    module _ (more : j < live) {word class classes : ℕ} (w : word ≡ get_or out (at + j) 0) (d : classes ≡ h.classifications) (c : class ≡ word / 2 / divisor % classes) where
+    module _ (more : j < live) where
+      abbrev class : ℕ
+      class = get_or out (at + j) 0 / 2 / divisor % h.classifications
+
+      -- the class word is there
+      pub across_word : at + j < length out
+      across_word = let a = g.class_words_is in let b = g.room in let c = g.long in omega arith
+
       pub across_class : class < h.classifications
-      across_class = let low = g.readable.classes_low in rw (c, d) (mod-lt (word / 2 / divisor) low)
+      across_class = mod-lt (get_or out (at + j) 0 / 2 / divisor) g.readable.classes_low
 
       class_is : digit (residue_by h plans n) unused (get_or entered (at + j) 0 / 2) ≡ class
       unfolding digit residue_by
       class_is =
           let t = g.class_words_is in
           let kept = get_before (numbers g.sofar.items) entered from.count (at + j) (omega arith) in
-          let same : word ≡ get_or entered (at + j) 0 = w ∙ ap (λ (l : List ℕ). get_or l (at + j) 0) g.sofar.list ∙ kept in
-          sym (c ∙ rw (d, same, g.power) refl)
+          let same : get_or out (at + j) 0 ≡ get_or entered (at + j) 0 = ap (λ (l : List ℕ). get_or l (at + j) 0) g.sofar.list ∙ kept in
+          sym (rw (same, g.power) refl)
 
       abbrev later : List ℕ
       later = classes_of (residue_by h plans n) unused (entries_from entered (at + (j + 1)) (live - (j + 1)))
@@ -143,16 +149,12 @@ module _ {s books lengths codewords plans : List ℕ} {n : ℕ} {h : Head} {at l
           let y : suc (at + j) ≡ at + (j + 1) = omega arith in
           rw (z, y, class_is)
 
-      module _ {x : ListRead} {exit : List ℕ} (q : ReadIntoList (partition_run books lengths plans n h pass class s (position next.at)) out next.count x exit) where
-        pub across_cut : {p : Progress} → x ≡ Cut p
-            → ReadIntoList (across_run books lengths plans n h pass unused entered at live s (position from.at)) entered from.count (Cut p) exit
-        across_cut e = sofar_last (rw (across_rest, one_partition) at g.sofar) (joined_cut (λ _ m. partitions_run books lengths plans n h pass later s m) q e)
+      module _ {x : Result Progress Stop} {exit : List ℕ} (q : ReadIntoList (partition_run books lengths plans n h pass class s (position next.at)) out next.count x exit) where
+        pub across_stop : {e : Stop} → x ≡ Err e
+            → ReadIntoList (across_run books lengths plans n h pass unused entered at live s (position from.at)) entered from.count (Err e) exit
+        across_stop e = sofar_last (rw (across_rest, one_partition) at g.sofar) (joined_stop (λ _ m. partitions_run books lengths plans n h pass later s m) q _ e)
 
-        pub across_full : x ≡ Full
-            → ReadIntoList (across_run books lengths plans n h pass unused entered at live s (position from.at)) entered from.count Full exit
-        across_full e = sofar_last (rw (across_rest, one_partition) at g.sofar) (joined_full (λ _ m. partitions_run books lengths plans n h pass later s m) q e)
-
-        pub across_next : {p : Progress} → x ≡ Whole p → AcrossLeft s books lengths codewords plans n h at live unused divisor pass entered from exit p (j + 1)
+        pub across_next : {p : Progress} → x ≡ Ok p → AcrossLeft s books lengths codewords plans n h at live unused divisor pass entered from exit p (j + 1)
         across_next e =
             let y = sofar_next (rw across_rest at g.sofar) (λ _ m. partitions_run books lengths plans n h pass later s m) (one_partition class later (position next.at)) q e in
             record {
@@ -166,4 +168,4 @@ module _ {s books lengths codewords plans : List ℕ} {n : ℕ} {h : Head} {at l
               sofar = y.2;
             }
 
-pub ruleset asked = (rules, partition_none, place_low, book_stored, book_dimensions, partition_some, across_start, across_fits, across_divisor, across_class, across_done, across_cut, across_full, across_next)
+pub ruleset asked = (rules, partition_none, place_low, book_stored, book_dimensions, partition_some, across_start, across_fits, across_divisor, across_word, across_class, across_done, across_stop, across_next)

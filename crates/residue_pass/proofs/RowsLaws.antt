@@ -1,4 +1,5 @@
 -- Laws of partitions by class words, one partition of each vector after the other, as the code asks them. Assumes nothing.
+use Rattle.std.specs.Prelude.{Result, Ok, Err}
 use Prim.Native.Nat.{ℕ, zero, suc, ◌+◌, ◌-◌, ◌/◌, ◌^◌, ◌≤◌, ◌<◌}
 use native.Mathlib.Omega.{arith}
 use native.Mathlib.Nat.{mul-div_cancel, pow-suc}
@@ -19,10 +20,9 @@ use Rattle.residue_requests.specs.Inner.Again.{entries_from}
 use Rattle.residue_requests.proofs.AgainLaws.{numbers, entries_same}
 use Rattle.residue_requests.proofs.PassLaws.{partitions_append}
 use Rattle.codeword_list.specs.declared.Progress.{Progress}
-use Rattle.codeword_list.specs.declared.ListRead.{ListRead}
-use Rattle.codeword_list.specs.declared.ListRead.TheVariants.{Whole, Cut, Full}
+use Rattle.codeword_list.specs.declared.Stop.{Stop}
 use Rattle.codeword_list.specs.Inner.ListRead.{ReadIntoList}
-use Rattle.codeword_list.proofs.Laws.{ReadSoFar, sofar_start, sofar_next, sofar_last, sofar_fits, joined_cut, joined_full, read_nothing, read_length}
+use Rattle.codeword_list.proofs.Laws.{ReadSoFar, sofar_start, sofar_next, sofar_last, sofar_fits, joined_stop, read_nothing, read_length}
 use Rattle.residue_pass.specs.Inner.Readable.{residue_by, group_classes, ResidueReadable}
 use Rattle.residue_pass.specs.Inner.PassRuns.{partitions_run}
 use Rattle.residue_pass.proofs.PartitionLaws.{get_before, across_run}
@@ -43,35 +43,40 @@ rows_run books lengths plans n h pass unused entered at live left s k =
 
 -- the loop's state
 pub record RowsLeft (s books lengths codewords plans : List ℕ) (n : ℕ) (h : Head) (at live digits rows pass : ℕ) (entered : List ℕ) (from : Progress) (out : List ℕ)
-    (next : Progress) (unused divisor left : ℕ) : Type 0 where
+    (next : Progress) (unused divisor : ℕ) : Type 0 where
   pub readable : ResidueReadable books lengths codewords plans n h
   pub pass_below : pass < 8
   pub class_words_is : at + live ≤ from.count
-  pub low : left ≤ unused
+  pub low : digits - rows ≤ unused
   pub power : 0 < unused → divisor ≡ h.classifications ^ (unused - 1)
   pub long : length out ≡ length entered
   pub sofar : ReadSoFar (rows_run books lengths plans n h pass digits entered at live rows s (position from.at)) entered from.count
-      (rows_run books lengths plans n h pass unused entered at live left s (position next.at)) out next.count
+      (rows_run books lengths plans n h pass unused entered at live (unused - (digits - rows)) s (position next.at)) out next.count
 
 module _ {s books lengths codewords plans : List ℕ} {n : ℕ} {h : Head} {at live digits rows pass : ℕ} {entered : List ℕ} {from : Progress} where
   pub rows_start : {top : ℕ} → ResidueReadable books lengths codewords plans n h → pass < 8 → at + live ≤ from.count → from.count ≤ length entered → rows ≤ digits
-      → top ≡ h.classifications ^ (digits - 1) → RowsLeft s books lengths codewords plans n h at live digits rows pass entered from entered from digits top rows
-  rows_start l p t r d e = record { readable = l; pass_below = p; class_words_is = t; low = d; power = λ _. e; long = refl; sofar = sofar_start r }
+      → top ≡ h.classifications ^ (digits - 1) → RowsLeft s books lengths codewords plans n h at live digits rows pass entered from entered from digits top
+  rows_start l p t r d e =
+      let z : digits - (digits - rows) ≡ rows = omega arith in
+      record { readable = l; pass_below = p; class_words_is = t; low = omega arith; power = λ _. e; long = refl; sofar = rw z (sofar_start r) }
 
-  module _ {out : List ℕ} {next : Progress} {unused divisor left : ℕ}
-      (g : RowsLeft s books lengths codewords plans n h at live digits rows pass entered from out next unused divisor left) where
+  module _ {out : List ℕ} {next : Progress} {unused divisor : ℕ}
+      (g : RowsLeft s books lengths codewords plans n h at live digits rows pass entered from out next unused divisor) where
+    abbrev left : ℕ
+    left = unused - (digits - rows)
+
     pub rows_fits : next.count ≤ length out
     rows_fits = sofar_fits g.sofar
 
     pub rows_class_words : at + live ≤ next.count
     rows_class_words = let t = g.class_words_is in let e = g.sofar.number in omega arith
 
-    pub rows_done : left ≤ 0
-        → ReadIntoList (rows_run books lengths plans n h pass digits entered at live rows s (position from.at)) entered from.count (Whole next) out
+    pub rows_done : unused ≤ digits - rows
+        → ReadIntoList (rows_run books lengths plans n h pass digits entered at live rows s (position from.at)) entered from.count (Ok next) out
     unfolding flat_partitions group_classes run
     rows_done z = let y : left ≡ 0 = omega arith in sofar_last (rw y at g.sofar) (read_nothing refl rows_fits refl)
 
-    module _ (more : 0 < left) {after : ℕ} (b : after ≡ unused - 1) where
+    module _ (more : digits - rows < unused) {after : ℕ} (b : after ≡ unused - 1) where
       pub rows_power : divisor ≡ h.classifications ^ after
       rows_power = let l = g.low in rw b (g.power (omega arith))
 
@@ -89,7 +94,8 @@ module _ {s books lengths codewords plans : List ℕ} {n : ℕ} {h : Head} {at l
           let z : left ≡ suc (left - 1) = omega arith in
           let same = entries_kept (numbers g.sofar.items) entered from.count at live g.class_words_is in
           let kept : entries_from out at live ≡ entries_from entered at live = ap (λ (t : List ℕ). entries_from t at live) g.sofar.list ∙ same in
-          rw (kept, y) (ap (group_classes (residue_by h plans n) (suc after) (entries_from entered at live)) z)
+          let words = entries_from entered at live in
+          rw kept (ap (λ (u : ℕ). group_classes (residue_by h plans n) u words left) y ∙ ap (group_classes (residue_by h plans n) (suc after) words) z)
 
       abbrev later_run : Unit {0} → ℕ → Run Unit
       later_run _ m = partitions_run books lengths plans n h pass later s m
@@ -101,18 +107,14 @@ module _ {s books lengths codewords plans : List ℕ} {n : ℕ} {h : Head} {at l
           rw (rows_rest, partitions_append (dimensions_in books) r pass first later)
           (run_bind (read (lengths_in books lengths)) s (flat_partitions (dimensions_in books) r pass first) (λ _. flat_partitions (dimensions_in books) r pass later) (position next.at))
 
-      module _ {x : ListRead} {exit : List ℕ} (q : ReadIntoList (across_run books lengths plans n h pass after out at live s (position next.at)) out next.count x exit) where
-        pub rows_cut : {p : Progress} → x ≡ Cut p
-            → ReadIntoList (rows_run books lengths plans n h pass digits entered at live rows s (position from.at)) entered from.count (Cut p) exit
-        rows_cut e = sofar_last (rw rows_joined at g.sofar) (joined_cut later_run q e)
+      module _ {x : Result Progress Stop} {exit : List ℕ} (q : ReadIntoList (across_run books lengths plans n h pass after out at live s (position next.at)) out next.count x exit) where
+        pub rows_stop : {e : Stop} → x ≡ Err e
+            → ReadIntoList (rows_run books lengths plans n h pass digits entered at live rows s (position from.at)) entered from.count (Err e) exit
+        rows_stop e = sofar_last (rw rows_joined at g.sofar) (joined_stop later_run q _ e)
 
-        pub rows_full : x ≡ Full
-            → ReadIntoList (rows_run books lengths plans n h pass digits entered at live rows s (position from.at)) entered from.count Full exit
-        rows_full e = sofar_last (rw rows_joined at g.sofar) (joined_full later_run q e)
-
-        pub rows_next : {p : Progress} → x ≡ Whole p → {classes divisor' : ℕ} → classes ≡ h.classifications → divisor' ≡ divisor / classes
-            → RowsLeft s books lengths codewords plans n h at live digits rows pass entered from exit p after divisor' (left - 1)
-        rows_next e d f =
+        pub rows_next : {p : Progress} → x ≡ Ok p → RowsLeft s books lengths codewords plans n h at live digits rows pass entered from exit p after (divisor / h.classifications)
+        rows_next e =
+            let z : after - (digits - rows) ≡ left - 1 = omega arith in
             let y = sofar_next g.sofar later_run rows_joined q e in
             let l = g.low in
             record {
@@ -120,9 +122,9 @@ module _ {s books lengths codewords plans : List ℕ} {n : ℕ} {h : Head} {at l
               pass_below = g.pass_below;
               class_words_is = g.class_words_is;
               low = omega arith;
-              power = power_down h.classifications after divisor _ g.readable.classes_low rows_power (f ∙ ap (λ (v : ℕ). divisor / v) d);
+              power = power_down h.classifications after divisor _ g.readable.classes_low rows_power refl;
               long = read_length q ∙ g.long;
-              sofar = y.2;
+              sofar = rw z y.2;
             }
 
-pub ruleset asked = (rules, rows_start, rows_fits, rows_class_words, rows_power, rows_done, rows_cut, rows_full, rows_next)
+pub ruleset asked = (rules, rows_start, rows_fits, rows_class_words, rows_power, rows_done, rows_stop, rows_next)

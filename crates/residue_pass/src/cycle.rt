@@ -11,8 +11,8 @@ ghost use Rattle.residue_pass.specs.Inner.Readable.{PassReadable};
 ghost use Rattle.residue_pass.specs.Inner.PassRuns.{first_pass_run};
 
 use super::partition;
-use codeword_list::{ListRead, Progress};
-use reading::lower::lower_u32;
+use book_codeword::Codebooks;
+use codeword_list::{Progress, Stop};
 use residue::head::Head;
 
 // A class word for each of `live` vectors.
@@ -21,32 +21,18 @@ pub fn read_class_words(
     from: Progress,
     book: u32,
     live: usize,
-    books: &[u32],
-    lengths: &[u8],
-    codewords: &[u32],
+    codebooks: Codebooks,
     out: &mut [u32],
-) -> ListRead
-    requires { (from.count ≤ length out.old) × BookStored books.now lengths.now codewords.now book }
-    ensures { ReadIntoList (words_run books.now lengths.now (flat_class_words book live [])
+) -> Result<Progress, Stop>
+    requires { (from.count ≤ length out.old) × BookStored codebooks.books.now codebooks.lengths.now codebooks.codewords.now book }
+    ensures { ReadIntoList (words_run codebooks.entry.books.now codebooks.entry.lengths.now (flat_class_words book live [])
         packet.now (position from.at)) out.old from.count result out.new }
 {
     let mut next = from;
-    let mut left = live;
-    while 0 < left {
-        match codeword_list::read_word(packet, next, book, false, books, lengths, codewords, out) {
-            ListRead::Whole(progress) => {
-                next = progress;
-            }
-            ListRead::Cut(progress) => {
-                return ListRead::Cut(progress);
-            }
-            ListRead::Full => {
-                return ListRead::Full;
-            }
-        }
-        left = left - 1;
+    for i in 0..live {
+        next = codeword_list::read_word(packet, next, book, false, codebooks, out)?;
     }
-    ListRead::Whole(next)
+    Ok(next)
 }
 
 // The class words of `left` partitions of each of `live` vectors, each with its group of partitions after it.
@@ -61,27 +47,20 @@ pub fn class_word(
     top: u32,
     left: u32,
     plans: &[u16],
-    books: &[u32],
-    lengths: &[u8],
-    codewords: &[u32],
+    codebooks: Codebooks,
     out: &mut [u32],
-) -> ListRead
-    requires { (from.count ≤ length out.old) × PassReadable books.now lengths.now codewords.now plans.now residue head digits top }
-    ensures { ReadIntoList (first_pass_run books.now lengths.now plans.now residue head live left 0 []
+) -> Result<Progress, Stop>
+    requires { (from.count ≤ length out.old) × PassReadable codebooks.books.now codebooks.lengths.now codebooks.codewords.now plans.now residue head digits top }
+    ensures { ReadIntoList (first_pass_run codebooks.entry.books.now codebooks.entry.lengths.now plans.now residue head live left 0 []
         packet.now (position from.at)) out.old from.count result out.new }
 {
     if left == 0 {
-        return ListRead::Whole(from);
+        return Ok(from);
     }
-    let book = head.classbook;
-    match read_class_words(packet, from, book, live, books, lengths, codewords, out) {
-        ListRead::Whole(progress) => group(
-            packet, progress, head, residue, live, digits, top, left, plans, books, lengths,
-            codewords, out,
-        ),
-        ListRead::Cut(progress) => ListRead::Cut(progress),
-        ListRead::Full => ListRead::Full,
-    }
+    let words = read_class_words(packet, from, head.classbook, live, codebooks, out)?;
+    group(
+        packet, words, head, residue, live, digits, top, left, plans, codebooks, out,
+    )
 }
 
 // A group of partitions by the class words that stand last in the list, and then the next class words. Digits past the last partition are not used.
@@ -96,52 +75,31 @@ pub fn group(
     top: u32,
     left: u32,
     plans: &[u16],
-    books: &[u32],
-    lengths: &[u8],
-    codewords: &[u32],
+    codebooks: Codebooks,
     out: &mut [u32],
-) -> ListRead
-    requires { (from.count ≤ length out.old) × PassReadable books.now lengths.now codewords.now plans.now residue head digits top
+) -> Result<Progress, Stop>
+    requires { (from.count ≤ length out.old) × PassReadable codebooks.books.now codebooks.lengths.now codebooks.codewords.now plans.now residue head digits top
         × (live ≤ from.count) × (0 < left) }
-    ensures { ReadIntoList (first_pass_run books.now lengths.now plans.now residue head live left digits
+    ensures { ReadIntoList (first_pass_run codebooks.entry.books.now codebooks.entry.lengths.now plans.now residue head live left digits
         (entries_from out.old (from.count - live) live)
         packet.now (position from.at)) out.old from.count result out.new }
 {
-    let count = from.count;
-    let rows = lower_u32(digits, left);
-    match partition::read_rows(
+    let at = from.count - live;
+    let rows = digits.min(left);
+    let next = partition::read_rows(
+        packet, from, head, residue, at, live, digits, top, rows, 0, plans, codebooks, out,
+    )?;
+    class_word(
         packet,
-        from,
+        next,
         head,
         residue,
-        count - live,
         live,
         digits,
         top,
-        rows,
-        0,
+        left - rows,
         plans,
-        books,
-        lengths,
-        codewords,
+        codebooks,
         out,
-    ) {
-        ListRead::Whole(progress) => class_word(
-            packet,
-            progress,
-            head,
-            residue,
-            live,
-            digits,
-            top,
-            left - rows,
-            plans,
-            books,
-            lengths,
-            codewords,
-            out,
-        ),
-        ListRead::Cut(progress) => ListRead::Cut(progress),
-        ListRead::Full => ListRead::Full,
-    }
+    )
 }

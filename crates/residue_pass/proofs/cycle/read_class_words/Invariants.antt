@@ -2,9 +2,6 @@
 use Rattle.residue_pass.proofs.CycleLaws.{ClassWordsLeft}
 use Rattle.residue_pass.proofs.cycle.read_class_words.Given as goal
 
-abbrev pub invariant-loop-left : goal.invariant-loop-left
-invariant-loop-left l =
-    ClassWordsLeft l.packet l.books l.lengths l.codewords l.book l.live l.initial.out l.initial.next l.out l.next l.left
-
-abbrev pub decreases-loop-left : goal.decreases-loop-left
-decreases-loop-left l = l.left
+abbrev pub invariant-loop-i : goal.invariant-loop-i
+invariant-loop-i l =
+    ClassWordsLeft l.packet l.codebooks.books.now l.codebooks.lengths.now l.codebooks.codewords.now l.book l.live l.initial.out l.initial.next l.out l.next l.i

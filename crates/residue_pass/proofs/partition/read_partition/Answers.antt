@@ -2,14 +2,8 @@
 use Rattle.residue_pass.proofs.PartitionLaws.{asked}
 use Rattle.residue_pass.proofs.partition.read_partition.Goals as goal
 
-pub plan_place-place-requires : goal.plan_place-place-requires
-plan_place-place-requires c = search asked
-
 pub returns-then-place-eq0 : goal.returns-then-place-eq0
 returns-then-place-eq0 c = search asked
-
-pub u32_from_u16-book-requires : goal.u32_from_u16-book-requires
-u32_from_u16-book-requires c = search asked
 
 pub overflow_sub-book : goal.overflow_sub-book
 overflow_sub-book c = search asked
