@@ -24,7 +24,7 @@ use Rattle.floor.specs.Inner.Valid.{ValidClass}
 use Rattle.floor.proofs.ClassDecoded.{ClassStored, class_long, class_stored}
 use Rattle.floor.proofs.ValidLaws.{master_most}
 use Rattle.floor_tables.specs.Inner.Parts.{ValidClassRow, class_of_master, class_of_book, ValidBooks}
-use Rattle.floor_tables.proofs.Places.{slice_front, slice_long, slice-next, slice_stored, stored_whole, all_zeros, padded_tested}
+use Rattle.floor_tables.proofs.Places.{part, below_part, slice_front, slice_long, slice-next, slice_stored, stored_whole, all_zeros, padded_tested}
 
 one : Counted 8 1
 one = record { low = omega arith; high = omega arith }
@@ -81,23 +81,23 @@ module _ (books : ℕ) where
       let y = and_split (leb b 255) true v.0.carried.books in
       (rw (x.0, m.0), rw (y.0, m.1))
 
-module _ (books : ℕ) (t : List ℕ) (at count : ℕ) (room : at + 8 ≤ length t) (few : count ≤ 8) {b₁ : Bool} (p₁ : b₁ ≡ all (λ v. ltb v (books + 1)) (slice at (at + count) t)) where
+module _ (books : ℕ) (t : List ℕ) (at count : ℕ) (room : at + 8 ≤ length t) (few : count ≤ 8) {b₁ : Bool} (p₁ : b₁ ≡ all (λ v. ltb v (books + 1)) (part at (at + count) t)) where
   front : take count (slice at (at + 8) t) ≡ slice at (at + count) t
   front = slice_front t at count (at + 8) (omega arith)
 
-  tested : (most : ℕ) {b : Bool} → b ≡ all (λ v. ltb v (most + 1)) (slice at (at + count) t) → (b ≡ true) ↔ (all (λ v. leb v most) (take count (slice at (at + 8) t)) ≡ true)
+  tested : (most : ℕ) {b : Bool} → b ≡ all (λ v. ltb v (most + 1)) (part at (at + count) t) → (b ≡ true) ↔ (all (λ v. leb v most) (take count (slice at (at + 8) t)) ≡ true)
   tested most {b} p =
-      let q : b ≡ all (λ v. leb v most) (take count (slice at (at + 8) t)) = p ∙ below_next most (slice at (at + count) t) ∙ ap (all (λ v. leb v most)) (sym front) in
+      let q : b ≡ all (λ v. leb v most) (take count (slice at (at + 8) t)) = below_part (most + 1) at (at + count) t p ∙ below_next most (slice at (at + count) t) ∙ ap (all (λ v. leb v most)) (sym front) in
       ((λ s. sym q ∙ s), (λ s. q ∙ s))
 
   pub books_unset : not b₁ ≡ true → (false ≡ true) ↔ ValidBooks books count (slice at (at + 8) t)
   books_unset n = iff_false (λ s. refuted (tested books p₁) n (books_meet books (take count (slice at (at + 8) t)) s.valid).0)
 
-  module _ (y₁ : not b₁ ≡ false) {b₂ : Bool} (p₂ : b₂ ≡ all (λ v. ltb v 256) (slice at (at + count) t)) where
+  module _ (y₁ : not b₁ ≡ false) {b₂ : Bool} (p₂ : b₂ ≡ all (λ v. ltb v 256) (part at (at + count) t)) where
     pub books_large : not b₂ ≡ true → (false ≡ true) ↔ ValidBooks books count (slice at (at + 8) t)
     books_large n = iff_false (λ s. refuted (tested 255 p₂) n (books_meet books (take count (slice at (at + 8) t)) s.valid).1)
 
-    pub books_end : not b₂ ≡ false → {b₃ : Bool} → b₃ ≡ all (λ v. ltb v 1) (slice (at + count) (at + 8) t) → (b₃ ≡ true) ↔ ValidBooks books count (slice at (at + 8) t)
+    pub books_end : not b₂ ≡ false → {b₃ : Bool} → b₃ ≡ all (λ v. ltb v 1) (part (at + count) (at + 8) t) → (b₃ ≡ true) ↔ ValidBooks books count (slice at (at + 8) t)
     books_end y₂ p₃ =
         let z = padded_tested t at count (at + 8) p₃ 8 refl room in (
           (λ e. record { valid = books_valid books (take count (slice at (at + 8) t)) (shown (tested books p₁) y₁) (shown (tested 255 p₂) y₂); holds = z.0 e }),
@@ -120,15 +120,15 @@ module _ (books : ℕ) (t : List ℕ) (at : ℕ) (room : at + 11 ≤ length t) {
     pub class_many : 3 < e → (false ≡ true) ↔ ValidClassRow books t at
     class_many h = iff_false (λ r. let k = r.valid.carried.subclasses in let s = (stored r).subclasses in omega arith)
 
-    module _ (y₂ : e ≤ 3) {e' : ℕ} (w : e' ≡ e) {m : ℕ} (q₂ : m ≡ get_or t (at + 2) 0) {b : Bool} (p : (b ≡ true) ↔ ValidClass books (class_of_master e' m)) where
+    module _ (y₂ : e ≤ 3) {m : ℕ} (q₂ : m ≡ get_or t (at + 2) 0) {b : Bool} (p : (b ≡ true) ↔ ValidClass books (class_of_master e m)) where
       pub class_master_not : not b ≡ true → (false ≡ true) ↔ ValidClassRow books t at
       class_master_not n =
           iff_false (λ r.
           let v = r.valid in
           let s = stored r in
-          refuted p n (rw (w ∙ q₁ ∙ s.subclasses, q₂ ∙ s.master) (master_valid books _ _ (pow_mono v.carried.subclasses) (master_most v) v.carried.no_master v.carried.some_master)))
+          refuted p n (rw (q₁ ∙ s.subclasses, q₂ ∙ s.master) (master_valid books _ _ (pow_mono v.carried.subclasses) (master_most v) v.carried.no_master v.carried.some_master)))
 
-      module _ (y₃ : not b ≡ false) {x n : ℕ} (g : x ≡ 2 ^ e) (h : n ≡ x) where
+      module _ (y₃ : not b ≡ false) {n : ℕ} (h : n ≡ 2 ^ e) where
         heads : slice at (at + 11) t ≡ d ∷ e ∷ m ∷ slice (at + 3) (at + 3 + 8) t
         heads =
             let s : at + 11 ≡ at + 3 + 8 = omega arith in
@@ -142,7 +142,7 @@ module _ (books : ℕ) (t : List ℕ) (at : ℕ) (room : at + 11 ≤ length t) {
         unfolding class_row
         class_end p₂ =
             let cells = slice (at + 3) (at + 3 + 8) t in
-            let v : ValidClass books (class_of_master e m) = rw w at (shown p y₃) in
+            let v : ValidClass books (class_of_master e m) = shown p y₃ in
             let few : 2 ^ e ≤ 8 = pow_mono y₂ in
             let long = slice_long t (at + 3) 8 (at + 3 + 8) refl (omega arith) in (
               (λ s.
@@ -156,7 +156,7 @@ module _ (books : ℕ) (t : List ℕ) (at : ℕ) (room : at + 11 ≤ length t) {
                         subclasses = y₂;
                         no_master = v.carried.no_master;
                         some_master = v.carried.some_master;
-                        count = length-take-le n cells (omega arith) ∙ h ∙ g;
+                        count = length-take-le n cells (omega arith) ∙ h;
                         books = meet.1;
                       };
                       rules = record { master = v.rules.master; subclasses = meet.0 };
@@ -170,12 +170,9 @@ module _ (books : ℕ) (t : List ℕ) (at : ℕ) (room : at + 11 ≤ length t) {
                   let z = length-pad 8 c.books in
                   let E : cells ≡ pad 8 c.books = stored_whole t (at + 3) (at + 3 + 8) f.books (omega arith) in
                   let same : e ≡ c.subclasses = q₁ ∙ f.subclasses in
-                  let T : take n cells ≡ c.books = ap (take n) E ∙ take-pad 8 c.books (u.carried.count ∙ ap (λ (x : ℕ). 2 ^ x) (sym same) ∙ sym (h ∙ g)) (omega arith) in
+                  let T : take n cells ≡ c.books = ap (take n) E ∙ take-pad 8 c.books (u.carried.count ∙ ap (λ (x : ℕ). 2 ^ x) (sym same) ∙ sym h) (omega arith) in
                   p₂.1 (record { valid = rw T (books_valid books c.books u.rules.subclasses u.carried.books); holds = E ∙ ap (pad 8) (sym T) })),
             )
 
-pub bits_few : {e e' : ℕ} → e ≤ 3 → e' ≡ e → 2 ^ e' ≤ 8
-bits_few {e} h w = rw w (pow_mono {i = e} h)
-
-pub power_few : {e x n : ℕ} → e ≤ 3 → x ≡ 2 ^ e → n ≡ x → n ≤ 8
-power_few h g k = rw (k, g) (pow_mono h)
+pub power_few : {e n : ℕ} → e ≤ 3 → n ≡ 2 ^ e → n ≤ 8
+power_few h k = rw k (pow_mono h)

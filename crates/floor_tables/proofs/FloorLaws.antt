@@ -1,5 +1,5 @@
 -- The tests of a floor's row and of a table of floors, as the code asks them: one law for each way out of a function. Assumes nothing.
-use Prim.Native.Nat.{ℕ, ◌+◌, ◌-◌, ◌*◌, ◌^◌, ◌≤◌, ◌<◌}
+use Prim.Native.Nat.{ℕ, ◌+◌, ◌-◌, ◌*◌, ◌^◌, ◌%◌, ◌≤◌, ◌<◌}
 use native.Mathlib.Omega.{arith}
 use borrow.Author.Tests.{eq-eqb, eqb-true, le-leb, leb-true, not-true, not-false}
 use mathlib.Core.Bool.{Bool, true, false, not}
@@ -19,6 +19,7 @@ use Rattle.reading.proofs.Pads.{length-pad}
 use Rattle.reading.proofs.Parts.{part_slice}
 use Rattle.reading.proofs.Encodes.{iff_false, refuted, shown, rows_length, encodes_pad, encodes_long}
 use Rattle.numbers.proofs.ListLaws.{take-pad}
+use Rattle.numbers.proofs.NumberLaws.{one_shifted}
 use Rattle.floor.specs.Content.{Class, x_list, class_count, value_count}
 use Rattle.floor.specs.Layout.{class_row, floor_row, floor_width}
 use Rattle.floor.specs.Inner.Valid.{ValidClass, ValidFloor}
@@ -31,18 +32,18 @@ use Rattle.floor.proofs.ValidLaws.{values_few, classes_meet}
 use Rattle.floor_row.proofs.Laws.{x_list_is}
 use Rattle.floor_tables.specs.Inner.Parts.{ValidFloorRow, partition_places, class_places, ValidPartitions, ValidClasses, values_at, ValidCount, floor_of_ends, ValidHead, DecidesRow}
 use Rattle.floor_tables.specs.Inner.Recognised.{FloorsRecognised}
-use Rattle.floor_tables.proofs.Places.{slice_front, slice_long, slice-next, slice_both, slice_stored, stored_whole, zeros_tested, padded_tested}
+use Rattle.floor_tables.proofs.Places.{part, below_part, slice_front, slice_long, slice-next, slice_both, slice_stored, stored_whole, zeros_tested, padded_tested}
 
 -- ---- partitions
 
-module _ (t : List ℕ) (at : ℕ) (room : at + floor_width ≤ length t) {n : ℕ} (q : n ≡ get_or t at 0) (y : n ≤ 31) {b₁ : Bool} (p₁ : b₁ ≡ all (λ v. ltb v 16) (slice (at + 5) (at + 5 + n) t)) where
+module _ (t : List ℕ) (at : ℕ) (room : at + floor_width ≤ length t) {n : ℕ} (q : n ≡ get_or t at 0) (y : n ≤ 31) {b₁ : Bool} (p₁ : b₁ ≡ all (λ v. ltb v 16) (part (at + 5) (at + 5 + n) t)) where
   named : b₁ ≡ all (λ c. ltb c 16) (take (get_or t at 0) (partition_places t at))
-  named = p₁ ∙ ap (all (λ c. ltb c 16)) (sym (slice_front t (at + 5) n (at + 36) (omega arith)) ∙ ap (λ (k : ℕ). take k (partition_places t at)) q)
+  named = below_part 16 (at + 5) (at + 5 + n) t p₁ ∙ ap (all (λ c. ltb c 16)) (sym (slice_front t (at + 5) n (at + 36) (omega arith)) ∙ ap (λ (k : ℕ). take k (partition_places t at)) q)
 
   pub partitions_not : not b₁ ≡ true → (false ≡ true) ↔ ValidPartitions t at
   partitions_not z = iff_false (λ r. true_not_false b₁ (named ∙ r.named) (not-true b₁ z))
 
-  pub partitions_end : not b₁ ≡ false → {b₂ : Bool} → b₂ ≡ all (λ v. ltb v 1) (slice (at + 5 + n) (at + 36) t) → (b₂ ≡ true) ↔ ValidPartitions t at
+  pub partitions_end : not b₁ ≡ false → {b₂ : Bool} → b₂ ≡ all (λ v. ltb v 1) (part (at + 5 + n) (at + 36) t) → (b₂ ≡ true) ↔ ValidPartitions t at
   partitions_end y₁ p₂ =
       let z = padded_tested t (at + 5) n (at + 36) p₂ 31 (omega arith) (omega arith) in
       let long = slice_long t (at + 5) 31 (at + 36) (omega arith) (omega arith) in (
@@ -75,7 +76,7 @@ module _ (books : ℕ) (t : List ℕ) (at : ℕ) (room : at + floor_width ≤ le
       pub named_not : not b₁ ≡ true → (false ≡ true) ↔ ValidClasses books t at
       named_not z = iff_false (λ r. true_not_false b₁ (classes_said.0 r.classes).0 (not-true b₁ z))
 
-      pub named_end : not b₁ ≡ false → {b₂ : Bool} → b₂ ≡ all (λ v. ltb v 1) (slice (at + 36 + 11 * n) (at + 212) t) → (b₂ ≡ true) ↔ ValidClasses books t at
+      pub named_end : not b₁ ≡ false → {b₂ : Bool} → b₂ ≡ all (λ v. ltb v 1) (part (at + 36 + 11 * n) (at + 212) t) → (b₂ ≡ true) ↔ ValidClasses books t at
       named_end z p₂ =
           let s = zeros_tested t (at + 36) (11 * n) (at + 212) p₂ in
           ((λ e. record { count = sym q ∙ y₁ ∙ counted; classes = classes_said.1 (not-false b₁ z, s.0 e) }), (λ r. s.1 (classes_said.0 r.classes).1))
@@ -217,10 +218,10 @@ module _ (books : ℕ) (t : List ℕ) (at : ℕ) (room : at + floor_width ≤ le
             ∙ (λ j. sym P.long j ∷ sym C.classes.number j ∷ get_or t (at + 2) 0 ∷ get_or t (at + 3) 0 ∷ total j ∷ (P.holds j ++ (class_cells j ++ list j)));
       }
 
-module _ (t : List ℕ) (at : ℕ) (room : at + floor_width ≤ length t) (head : ValidHead t at) {b : ℕ} (q₃ : b ≡ get_or t (at + 3) 0) {x n : ℕ} (power : x ≡ 2 ^ b) (wide : n ≡ x)
+module _ (t : List ℕ) (at : ℕ) (room : at + floor_width ≤ length t) (head : ValidHead t at) {b : ℕ} (q₃ : b ≡ get_or t (at + 3) 0) {n : ℕ} (power : n ≡ (1 * 2 ^ b) % 18446744073709551616)
     {v : ℕ} (q₄ : v ≡ get_or t (at + 4) 0) {f : ℕ} (q₅ : f ≡ get_or t (at + 212) 0) where
   range : n ≡ 2 ^ get_or t (at + 3) 0
-  range = wide ∙ power ∙ ap (λ (e : ℕ). 2 ^ e) q₃
+  range = let few = head.carried.rangebits in power ∙ one_shifted 64 b (omega arith) ∙ ap (λ (e : ℕ). 2 ^ e) q₃
 
   some : 2 ≤ v
   some = let e = head.count.values in omega arith
@@ -246,19 +247,22 @@ module _ (t : List ℕ) (at : ℕ) (room : at + floor_width ≤ length t) (head 
     range_of_lem : n ≡ 2 ^ r.item.rangebits
     range_of_lem = range ∙ ap (λ (e : ℕ). 2 ^ e) (stored books t at room r).rangebits
 
-  pub list_first : 0 < f → DecidesRow false t at
-  list_first h books P C = iff_false (λ r. let e : f ≡ 0 = ap (λ (l : List ℕ). get_or l 0 0) (same r) in omega arith)
+  pub list_first : (f ≡ 0 → ⊥) → DecidesRow false t at
+  list_first h books P C = iff_false (λ r. h (ap (λ (l : List ℕ). get_or l 0 0) (same r)))
 
-  module _ (y₀ : f ≤ 0) {g : ℕ} (q₆ : g ≡ get_or t (at + 213) 0) where
-    pub list_second : (n ≡ g → ⊥) → DecidesRow false t at
-    list_second h books P C = iff_false (λ r. h (range_of_lem r ∙ sym (ap (λ (l : List ℕ). get_or l 1 0) (same r)) ∙ sym q₆))
+  module _ (y₀ : f ≡ 0) {g : ℕ} (q₆ : g ≡ get_or t (at + 213) 0) where
+    pub list_second : (g ≡ n → ⊥) → DecidesRow false t at
+    list_second h books P C = iff_false (λ r. h (q₆ ∙ ap (λ (l : List ℕ). get_or l 1 0) (same r) ∙ sym (range_of_lem r)))
 
-    module _ (y₁ : n ≡ g) {b₁ : Bool} (p₁ : b₁ ≡ all (λ w. ltb w n) (slice (at + 214) (at + 212 + v) t)) where
+    module _ (y₁ : g ≡ n) {b₁ : Bool} (p₁ : b₁ ≡ all (λ w. ltb w n) (part (at + 214) (at + 212 + v) t)) where
+      tested : b₁ ≡ all (λ w. ltb w n) (slice (at + 214) (at + 212 + v) t)
+      tested = below_part n (at + 214) (at + 212 + v) t p₁
+
       pub list_range : not b₁ ≡ true → DecidesRow false t at
       list_range z books P C =
-          iff_false (λ r. true_not_false b₁ (p₁ ∙ (λ j. all (λ w. ltb w (range_of_lem r j)) (ap (drop 2) (same r) j)) ∙ r.valid.carried.in_range) (not-true b₁ z))
+          iff_false (λ r. true_not_false b₁ (tested ∙ (λ j. all (λ w. ltb w (range_of_lem r j)) (ap (drop 2) (same r) j)) ∙ r.valid.carried.in_range) (not-true b₁ z))
 
-      module _ (y₂ : not b₁ ≡ false) {b₂ : Bool} (p₂ : b₂ ≡ all (λ w. ltb w 1) (slice (at + 212 + v) (at + floor_width) t)) where
+      module _ (y₂ : not b₁ ≡ false) {b₂ : Bool} (p₂ : b₂ ≡ all (λ w. ltb w 1) (part (at + 212 + v) (at + floor_width) t)) where
         front : take v (slice (at + 212) (at + floor_width) t) ≡ slice (at + 212) (at + 212 + v) t
         front = let l = most in slice_front t (at + 212) v (at + floor_width) (omega arith)
 
@@ -272,16 +276,17 @@ module _ (t : List ℕ) (at : ℕ) (room : at + floor_width ≤ length t) (head 
             let l = length-pad 65 X in
             refuted padded z (stored_whole t (at + 212) (at + floor_width) (stored books t at room r).list (omega arith) ∙ ap (pad 65) (sym (of_row r))))
 
-        pub list_end : not b₂ ≡ false → {d : Bool} → d ≡ distinct (slice (at + 212) (at + 212 + v) t) → DecidesRow d t at
-        list_end z {d} w books P C =
+        pub list_end : not b₂ ≡ false → {d : Bool} → d ≡ distinct (part (at + 212) (at + 212 + v) t) → DecidesRow d t at
+        list_end z {d} x books P C =
+            let w : d ≡ distinct (slice (at + 212) (at + 212 + v) t) = x ∙ ap distinct (part_slice (at + 212) (at + 212 + v) t) in
             let xs = slice (at + 214) (at + 212 + v) t in
             let s = some in
             let l = most in
-            let e : 0 ≡ f = omega arith in
-            let X : slice (at + 212) (at + 212 + v) t ≡ x_list (get_or t (at + 3) 0) xs = listed ∙ (λ j. sym e j ∷ (sym q₆ ∙ sym y₁ ∙ range) j ∷ xs) in
+            let e : 0 ≡ f = sym y₀ in
+            let X : slice (at + 212) (at + 212 + v) t ≡ x_list (get_or t (at + 3) 0) xs = listed ∙ (λ j. sym e j ∷ (sym q₆ ∙ y₁ ∙ range) j ∷ xs) in
             let long = slice_long t (at + 214) (v - 2) (at + 212 + v) (omega arith) (omega arith) in
             let c = head.count.values in (
-              (λ y. row_made books t at room head P C xs (omega arith) ((λ j. all (λ w. ltb w (sym range j)) xs) ∙ sym p₁ ∙ not-false b₁ y₂) (ap distinct (sym X) ∙ sym w ∙ y) (shown padded z ∙ ap (pad 65) X)),
+              (λ y. row_made books t at room head P C xs (omega arith) ((λ j. all (λ w. ltb w (sym range j)) xs) ∙ sym tested ∙ not-false b₁ y₂) (ap distinct (sym X) ∙ sym w ∙ y) (shown padded z ∙ ap (pad 65) X)),
               (λ r. w ∙ ap distinct (of_row r) ∙ r.valid.rules.different),
             )
 

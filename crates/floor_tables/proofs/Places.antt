@@ -3,14 +3,15 @@
 use Prim.Native.Nat.{ℕ, zero, suc, ◌+◌, ◌-◌, ◌*◌, ◌≤◌, ◌<◌}
 use native.Mathlib.Numerals.{add-one}
 use native.Mathlib.Omega.{arith}
-use borrow.Author.Tests.{lt-ltb, le-ltb, ltb-true}
-use mathlib.Core.Bool.{Bool, true, false, not}
+use borrow.Author.Tests.{ltb-true}
+use mathlib.Core.Bool.{Bool, true, false, not, ◌&&◌}
 use mathlib.Core.List.{List, [], ◌∷◌, ◌++◌}
 use mathlib.Core.Logic.{◌↔◌}
 use mathlib.Core.Path.{◌≡◌, refl, sym, ap, ◌∙◌}
 use lib.Dec.{ltb}
 use lib.ListN.{length, get_or, take, drop, replicate, take-append-drop}
 use lib.Seq.{slice, slice-cons, length-slice, take-take, drop-drop, get_or-drop, get_or-take, ext_get_or}
+use Rattle.std.specs.List.{list_all}
 use Rattle.reading.specs.Lists.{all}
 use Rattle.reading.specs.Pad.{pad}
 use Rattle.reading.specs.Encoding.{Zeros, RowOf, Encodes}
@@ -19,7 +20,6 @@ use Rattle.reading.proofs.Pads.{pad_nil}
 use Rattle.reading.proofs.Parts.{part_slice}
 use Rattle.reading.proofs.Stored.{Stored}
 use Rattle.reading.proofs.Encodes.{refuted, shown, Left, rows_next, rows_stop, rows_end}
-use Rattle.numbers.proofs.NumberLaws.{slice_none}
 
 -- ---- parts of a part
 
@@ -61,21 +61,20 @@ module _ (t : List ℕ) where
       let long = slice_long at (length run) to n (omega arith) in
       ext_get_or 0 (slice at to t) run long (λ i k. get_or-drop at (take to t) i 0 ∙ get_or-take to t (at + i) 0 (omega arith) ∙ l.same i (omega arith))
 
--- ---- numbers below a limit, walked from place i on
+-- ---- numbers below a limit
 
-module _ (t : List ℕ) (limit to i : ℕ) where
-  pub below_end : to ≤ i → true ≡ all (λ v. ltb v limit) (slice i to t)
-  unfolding all
-  below_end h = rw (slice_none i to t h)
+-- the library's test of every number
+pub list_all-all : (f : ℕ → Bool) (l : List ℕ) → list_all f l ≡ all f l
+unfolding all
+list_all-all f [] = refl
+list_all-all f (x ∷ l) = ap (λ (b : Bool). f x && b) (list_all-all f l)
 
-  module _ (h : i < to) (k : to ≤ length t) {v : ℕ} (e : v ≡ get_or t i 0) where
-    pub below_not : limit ≤ v → false ≡ all (λ v. ltb v limit) (slice i to t)
-    unfolding all
-    below_not g = rw (slice-cons i to t 0 h k, ← e, le-ltb v limit g)
+-- a part, as the code cuts it, and the test of its numbers
+abbrev pub part : ℕ → ℕ → List ℕ → List ℕ
+part at to t = take (to - at) (drop at t)
 
-    pub below_later : v < limit → all (λ v. ltb v limit) (slice (i + 1) to t) ≡ all (λ v. ltb v limit) (slice i to t)
-    unfolding all
-    below_later g = rw (slice-cons i to t 0 h k, ← e, lt-ltb v limit g, add-one)
+pub below_part : (limit at to : ℕ) (t : List ℕ) {b : Bool} → b ≡ all (λ v. ltb v limit) (part at to t) → b ≡ all (λ v. ltb v limit) (slice at to t)
+below_part limit at to t e = e ∙ ap (all (λ v. ltb v limit)) (part_slice at to t)
 
 -- ---- zeros behind what fills a part
 
@@ -100,7 +99,10 @@ zeros_after (suc n) [] = ((λ z. refl), (λ e. refl))
 zeros_after (suc n) (x ∷ l) = let b = zeros_after n l in ((λ z. ap (λ (r : List ℕ). x ∷ r) (b.0 z)), (λ e. b.1 (ap (drop 1) e)))
 
 -- as the code tests it, n places behind `at`
-module _ (t : List ℕ) (at n to : ℕ) {b : Bool} (q : b ≡ all (λ v. ltb v 1) (slice (at + n) to t)) where
+module _ (t : List ℕ) (at n to : ℕ) {b : Bool} (p : b ≡ all (λ v. ltb v 1) (part (at + n) to t)) where
+  q : b ≡ all (λ v. ltb v 1) (slice (at + n) to t)
+  q = below_part 1 (at + n) to t p
+
   pub zeros_tested : (b ≡ true) ↔ Zeros (drop n (slice at to t))
   zeros_tested = (
     (λ s. rw (slice_rest t at n to) (below_one (slice (at + n) to t) (sym q ∙ s))),

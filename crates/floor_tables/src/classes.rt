@@ -6,10 +6,8 @@ ghost use Rattle.floor.specs.Layout.{class_width, subclass_books_room, class_row
 ghost use Rattle.floor.specs.Inner.Valid.{ValidClass};
 ghost use Rattle.floor_tables.specs.Inner.Parts.{ValidClassRow, class_of_master, ValidBooks};
 
-use crate::below::{are_below, number};
+use crate::below::are_below;
 use floor::CLASS_WIDTH;
-use reading::buffers;
-use reading::widths::wide_u16;
 
 // Whether there is a master book exactly where there are subclass bits, and it is set up.
 fn is_master(book_count: usize, subclasses: usize, master: usize) -> bool
@@ -20,15 +18,9 @@ fn is_master(book_count: usize, subclasses: usize, master: usize) -> bool
         return false;
     }
     if subclasses == 0 {
-        if master == 0 {
-            return true;
-        }
-        return false;
+        return master == 0;
     }
-    if master < 1 {
-        return false;
-    }
-    true
+    1 <= master
 }
 
 // Whether the subclass books of a class lie from place `at` on, `count` of them, and zeros behind.
@@ -36,13 +28,14 @@ fn are_books(floors: &[u16], at: usize, book_count: usize, count: usize) -> bool
     requires { (at ≤ 65535) × (book_count ≤ 256) × (count ≤ subclass_books_room) × (at + subclass_books_room ≤ length floors.now) }
     ensures { (result ≡ true) ↔ ValidBooks book_count count (slice at (at + subclass_books_room) floors.now) }
 {
-    if !are_below(floors, at, at + count, book_count + 1) {
+    let books = &floors[at..at + count];
+    if !are_below(books, book_count + 1) {
         return false;
     }
-    if !are_below(floors, at, at + count, 256) {
+    if !are_below(books, 256) {
         return false;
     }
-    are_below(floors, at + count, at + 8, 1)
+    are_below(&floors[at + count..at + 8], 1)
 }
 
 // Whether the row of a class begins at place `at`.
@@ -50,26 +43,21 @@ fn is_class(floors: &[u16], at: usize, book_count: usize) -> bool
     requires { (at + class_width ≤ 65535) × (book_count ≤ 256) × (at + class_width ≤ length floors.now) }
     ensures { (result ≡ true) ↔ ValidClassRow book_count floors.now at }
 {
-    let dimensions = number(floors, at);
+    let dimensions = floors[at];
     if dimensions < 1 {
         return false;
     }
     if 8 < dimensions {
         return false;
     }
-    let subclasses = buffers::get_u16(floors, at + 1);
+    let subclasses = floors[at + 1] as usize;
     if 3 < subclasses {
         return false;
     }
-    if !is_master(book_count, wide_u16(subclasses), number(floors, at + 2)) {
+    if !is_master(book_count, subclasses, floors[at + 2] as usize) {
         return false;
     }
-    are_books(
-        floors,
-        at + 3,
-        book_count,
-        wide_u16(numbers::power(subclasses as u32)),
-    )
+    are_books(floors, at + 3, book_count, 1 << subclasses)
 }
 
 // Whether the rows of `count` classes lie from place `at` on. What lies behind them is not looked at.
@@ -78,12 +66,10 @@ pub fn are_classes(floors: &[u16], at: usize, count: usize, book_count: usize) -
     ensures { Encodes class_row (ValidClass book_count) count (slice at (at + classes_room) floors.now)
         ↔ ((result ≡ true) × Zeros (drop (class_width * count) (slice at (at + classes_room) floors.now))) }
 {
-    let mut c: usize = 0;
-    while c < count {
+    for c in 0..count {
         if !is_class(floors, at + CLASS_WIDTH * c, book_count) {
             return false;
         }
-        c = c + 1;
     }
     true
 }

@@ -6,33 +6,27 @@ ghost use Rattle.floor.specs.Inner.Valid.{ValidFloor};
 ghost use Rattle.floor_tables.specs.Inner.Parts.{ValidFloorRow, ValidPartitions, ValidClasses, ValidCount, ValidHead, DecidesRow};
 ghost use Rattle.floor_tables.specs.Inner.Recognised.{FloorsRecognised};
 
-use crate::below::{are_below, number};
+use crate::below::are_below;
 use crate::classes::are_classes;
 use floor::{
     CLASS_WIDTH, CLASSES_PLACE, FLOOR_WIDTH, FLOORS_NEED, PARTITIONS_PLACE, RANGE_PLACE,
     X_LIST_PLACE, X_VALUES_PLACE,
 };
-use reading::buffers;
-use reading::widths::{wide_u16, wide_u32};
 
 // Whether the partitions of the floor at place `at` stand.
 fn are_partitions(floors: &[u16], at: usize) -> bool
     requires { (at + floor_width ≤ floors_need) × (at + floor_width ≤ length floors.now) }
     ensures { (result ≡ true) ↔ ValidPartitions floors.now at }
 {
-    let count = number(floors, at);
+    let count = floors[at] as usize;
     if 31 < count {
         return false;
     }
-    if !are_below(
-        floors,
-        at + PARTITIONS_PLACE,
-        at + PARTITIONS_PLACE + count,
-        16,
-    ) {
+    let end = at + PARTITIONS_PLACE + count;
+    if !are_below(&floors[at + PARTITIONS_PLACE..end], 16) {
         return false;
     }
-    are_below(floors, at + PARTITIONS_PLACE + count, at + CLASSES_PLACE, 1)
+    are_below(&floors[end..at + CLASSES_PLACE], 1)
 }
 
 // Whether its classes stand.
@@ -40,14 +34,14 @@ fn are_named(floors: &[u16], at: usize, book_count: usize) -> bool
     requires { (at + floor_width ≤ floors_need) × (book_count ≤ 256) × (at + floor_width ≤ length floors.now) }
     ensures { (result ≡ true) ↔ ValidClasses book_count floors.now at }
 {
-    let count = number(floors, at + 1);
+    let count = floors[at + 1] as usize;
     if 16 < count {
         return false;
     }
     if count
         != floor_row::counts::class_count(
             &floors[at + PARTITIONS_PLACE..at + CLASSES_PLACE],
-            number(floors, at),
+            floors[at] as usize,
         )
     {
         return false;
@@ -56,9 +50,7 @@ fn are_named(floors: &[u16], at: usize, book_count: usize) -> bool
         return false;
     }
     are_below(
-        floors,
-        at + CLASSES_PLACE + CLASS_WIDTH * count,
-        at + X_LIST_PLACE,
+        &floors[at + CLASSES_PLACE + CLASS_WIDTH * count..at + X_LIST_PLACE],
         1,
     )
 }
@@ -68,7 +60,7 @@ fn is_counted(floors: &[u16], at: usize) -> bool
     requires { (at + floor_width ≤ floors_need) × (at + floor_width ≤ length floors.now) × (get_or floors.now at 0 ≤ partitions_room) }
     ensures { (result ≡ true) ↔ ValidCount floors.now at }
 {
-    let values = number(floors, at + 4);
+    let values = floors[at + 4] as usize;
     if 65 < values {
         return false;
     }
@@ -77,7 +69,7 @@ fn is_counted(floors: &[u16], at: usize) -> bool
     }
     let read = floor_row::counts::value_count(
         &floors[at + PARTITIONS_PLACE..at + CLASSES_PLACE],
-        number(floors, at),
+        floors[at] as usize,
         &floors[at + CLASSES_PLACE..at + X_LIST_PLACE],
     );
     values - 2 == read
@@ -88,14 +80,14 @@ fn is_head(floors: &[u16], at: usize) -> bool
     requires { (at + floor_width ≤ floors_need) × (at + floor_width ≤ length floors.now) × (get_or floors.now at 0 ≤ partitions_room) }
     ensures { (result ≡ true) ↔ ValidHead floors.now at }
 {
-    let multiplier = number(floors, at + 2);
+    let multiplier = floors[at + 2];
     if multiplier < 1 {
         return false;
     }
     if 4 < multiplier {
         return false;
     }
-    if 15 < number(floors, at + 3) {
+    if 15 < floors[at + 3] {
         return false;
     }
     is_counted(floors, at)
@@ -106,21 +98,21 @@ fn is_list(floors: &[u16], at: usize) -> bool
     requires { (at + floor_width ≤ floors_need) × (at + floor_width ≤ length floors.now) × ValidHead floors.now at }
     ensures { DecidesRow result floors.now at }
 {
-    let range = wide_u16(numbers::power(buffers::get_u16(floors, at + 3) as u32));
-    let end = at + X_LIST_PLACE + number(floors, at + 4);
-    if 0 < number(floors, at + X_LIST_PLACE) {
+    let range = 1 << floors[at + 3];
+    let end = at + X_LIST_PLACE + floors[at + 4] as usize;
+    if floors[at + X_LIST_PLACE] != 0 {
         return false;
     }
-    if range != number(floors, at + RANGE_PLACE) {
+    if floors[at + RANGE_PLACE] as usize != range {
         return false;
     }
-    if !are_below(floors, at + X_VALUES_PLACE, end, range) {
+    if !are_below(&floors[at + X_VALUES_PLACE..end], range) {
         return false;
     }
-    if !are_below(floors, end, at + FLOOR_WIDTH, 1) {
+    if !are_below(&floors[end..at + FLOOR_WIDTH], 1) {
         return false;
     }
-    numbers::are_distinct(floors, at + X_LIST_PLACE, end)
+    numbers::are_distinct(&floors[at + X_LIST_PLACE..end])
 }
 
 // Whether the row of a floor begins at place `at`.
@@ -146,12 +138,10 @@ fn are_rows(floors: &[u16], count: usize, book_count: usize) -> bool
     ensures { Encodes floor_row (ValidFloor book_count) count floors.now
         ↔ ((result ≡ true) × Zeros (drop (floor_width * count) floors.now)) }
 {
-    let mut f: usize = 0;
-    while f < count {
+    for f in 0..count {
         if !is_floor(floors, FLOOR_WIDTH * f, book_count) {
             return false;
         }
-        f = f + 1;
     }
     true
 }
@@ -164,8 +154,8 @@ pub fn are_floors(floors: &[u16], count: usize, book_count: u32) -> bool
     if floors.len() < FLOORS_NEED {
         return false;
     }
-    if !are_rows(floors, count, wide_u32(book_count)) {
+    if !are_rows(floors, count, book_count as usize) {
         return false;
     }
-    reading::zeros::zeros_u16(floors, FLOOR_WIDTH * count)
+    reading::zeros::zeros(floors, FLOOR_WIDTH * count)
 }

@@ -1,4 +1,5 @@
 -- `floor_tables::recognise::is_counted` meets its contract. Assumes nothing.
+use mathlib.Core.Path.{refl}
 use native.Mathlib.Omega.{arith}
 use Rattle.reading.proofs.Encodes.{iff_false}
 use Rattle.floor_tables.proofs.FloorLaws.{count_most, count_end}
@@ -11,4 +12,4 @@ pub returns-then-values-lt2 : goal.returns-then-values-lt2
 returns-then-values-lt2 c = iff_false (λ r. let k = r.values in omega arith)
 
 pub returns : goal.returns
-returns c = count_end c.args.floors.now c.args.at c.number-values.ensures.0 (omega arith) (omega arith) c.number.ensures.0 c.value_count-read.ensures
+returns c = count_end c.args.floors.now c.args.at refl (omega arith) (omega arith) refl c.value_count-read.ensures

@@ -10,8 +10,8 @@ returns-then-multiplier-lt1 c = iff_false (λ r. let k = r.carried.multiplier.lo
 pub returns-then-multiplier-gt4 : goal.returns-then-multiplier-gt4
 returns-then-multiplier-gt4 c = iff_false (λ r. let k = r.carried.multiplier.high in omega arith)
 
-pub returns-then-number-gt15 : goal.returns-then-number-gt15
-returns-then-number-gt15 c = iff_false (λ r. let k = r.carried.rangebits in omega arith)
+pub returns-then-floors-at-gt15 : goal.returns-then-floors-at-gt15
+returns-then-floors-at-gt15 c = iff_false (λ r. let k = r.carried.rangebits in omega arith)
 
 pub returns : goal.returns
 returns c =

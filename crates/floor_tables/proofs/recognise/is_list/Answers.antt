@@ -1,25 +1,27 @@
 -- `floor_tables::recognise::is_list` meets its contract. Assumes nothing.
-use Rattle.floor_tables.proofs.FloorLaws.{list_inside, list_first, list_second, list_range, list_trailing, list_end}
-use borrow.Author.Rules.{rules}
+use mathlib.Core.Bool.{not}
+use mathlib.Core.Path.{refl, ap}
+use native.Mathlib.Omega.{arith}
+use Rattle.floor_tables.proofs.FloorLaws.{list_first, list_second, list_range, list_trailing, list_end}
 use Rattle.floor_tables.proofs.recognise.is_list.Goals as goal
 
-pub returns-then-number-gt0 : goal.returns-then-number-gt0
-returns-then-number-gt0 c = search list_first
+pub returns-then-floors-at-ne0 : goal.returns-then-floors-at-ne0
+returns-then-floors-at-ne0 c = list_first c.args.floors.now c.args.at (omega arith) c.requires.2 refl refl refl refl c.if-floors-at-ne0.true
 
-pub returns-then-range-number : goal.returns-then-range-number
-returns-then-range-number c = search list_second
-
-pub are_below-requires : goal.are_below-requires
-are_below-requires c = search (rules, list_inside)
+pub returns-then-floors-at : goal.returns-then-floors-at
+returns-then-floors-at c = list_second c.args.floors.now c.args.at (omega arith) c.requires.2 refl refl refl refl c.if-floors-at-ne0.false refl c.if-floors-at.true
 
 pub returns-then-not-are_below : goal.returns-then-not-are_below
-returns-then-not-are_below c = search list_range
+returns-then-not-are_below c =
+    list_range c.args.floors.now c.args.at (omega arith) c.requires.2 refl refl refl refl c.if-floors-at-ne0.false refl c.if-floors-at.false c.are_below.ensures
+    (ap not c.if-not-are_below.true)
 
 pub returns-then-not-are_below-2 : goal.returns-then-not-are_below-2
-returns-then-not-are_below-2 c = search list_trailing
-
-pub are_distinct-requires : goal.are_distinct-requires
-are_distinct-requires c = search (rules, list_inside)
+returns-then-not-are_below-2 c =
+    list_trailing c.args.floors.now c.args.at (omega arith) c.requires.2 refl refl refl refl c.if-floors-at-ne0.false refl c.if-floors-at.false c.are_below.ensures
+    (ap not c.if-not-are_below.false) c.are_below-2.ensures (ap not c.if-not-are_below-2.true)
 
 pub returns : goal.returns
-returns c = search list_end
+returns c =
+    list_end c.args.floors.now c.args.at (omega arith) c.requires.2 refl refl refl refl c.if-floors-at-ne0.false refl c.if-floors-at.false c.are_below.ensures
+    (ap not c.if-not-are_below.false) c.are_below-2.ensures (ap not c.if-not-are_below-2.false) c.are_distinct.ensures
