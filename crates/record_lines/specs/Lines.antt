@@ -1,6 +1,5 @@
 -- THE TOOL'S LINES (01, the tool), each with the newline that ends it. Assumes nothing.
 use Rattle.std.specs.Prelude.{ℕ, List, ◌++◌}
-use Rattle.identification.specs.declared.Identity.{Identity}
 use Rattle.records.specs.declared.Answer.{Answer}
 use Rattle.records.specs.declared.Answer.TheVariants.{Identified, SetUp, AudioRead, Refused, Unknown, TooLong}
 use Rattle.record_lines.specs.Text.{text, decimal}
