@@ -6,15 +6,15 @@ use mathlib.Core.Bool.{Bool, true, false, not}
 use mathlib.Core.List.{List}
 use mathlib.Core.Logic.{◌↔◌}
 use mathlib.Core.Path.{◌≡◌, subst}
-use lib.ListN.{length, drop, length-drop}
+use lib.ListN.{drop, length-drop}
 use lib.Seq.{drop-drop}
 use Rattle.reading.proofs.Encodes.{iff_false, refuted, shown}
 use Rattle.limits.specs.declared.Limits.{Limits}
-use Rattle.book.specs.Layout.{book_width, books_need}
+use Rattle.book.specs.Layout.{book_width}
 use Rattle.book.specs.Inner.BookBuffers.{BookBuffers}
 use Rattle.book_tables.specs.declared.row.Row.{Row}
 use Rattle.book_tables.specs.Inner.Rules.{row_of, BookRules, Begun}
-use Rattle.book_tables.specs.Inner.Recognised.{Countable, BooksLeft, Clear, BooksRecognised}
+use Rattle.book_tables.specs.Inner.Recognised.{Countable, BooksLeft, Clear}
 use Rattle.book_tables.proofs.Written.{entries_within, values_within}
 use Rattle.book_tables.proofs.BooksLeftLaws.{Room, left_none, left_first, left_cons}
 
@@ -91,13 +91,14 @@ module _ (limits : Limits) (count : ℕ) (books lengths codewords multiplicands 
                   );
             }
 
-    pub progress_end : count ≤ i → {x y z : ℕ} → x ≡ i → y ≡ entries → z ≡ values → {r : Bool}
-        → (r ≡ true) ↔ Clear (drop (book_width * x) books) (drop y lengths) (drop y codewords) (drop z multiplicands)
+    pub progress_end : count ≤ i → {r : Bool} → (r ≡ true) ↔ Clear (drop (book_width * count) books) (drop entries lengths) (drop entries codewords) (drop values multiplicands)
         → (r ≡ true) ↔ BooksLeft limits count 0 0 books lengths codewords multiplicands
-    progress_end h e f g {r} p =
+    progress_end h {r} p =
+        let within = w.within in
+        let e : count ≡ i = omega arith in
         let k : count - i ≡ 0 = omega arith in
         let l : BooksLeft limits count 0 0 books lengths codewords multiplicands ↔ Left limits 0 entries values books lengths codewords multiplicands i = rw k at w.left in
-        let q : (r ≡ true) ↔ Clear (drop (book_width * i) books) (drop entries lengths) (drop entries codewords) (drop values multiplicands) = rw (e, f, g) at p in
+        let q : (r ≡ true) ↔ Clear (drop (book_width * i) books) (drop entries lengths) (drop entries codewords) (drop values multiplicands) = rw (← e) p in
         let z = left_none limits entries values (drop (book_width * i) books) (drop entries lengths) (drop entries codewords) (drop values multiplicands) in
         ((λ t. l.1 (z.1 (q.0 t))), (λ s. q.1 (z.0 (l.0 s))))
 
@@ -109,48 +110,3 @@ module _ (limits : Limits) (count entries values : ℕ) (row : Row) (ls ws ms : 
 
   pub values_fit : values + row.count < 4294967296
   values_fit = let h = values_within limits entries values row ls ws ms (shown p n) in let a = countable.few_values in omega arith
-
--- the whole test
-module _ (limits : Limits) (count : ℕ) (books lengths codewords multiplicands : List ℕ) where
-  pub all_buffers : Countable limits count → books_need ≤ length books → {x y z : ℕ} → x ≡ limits.entries → x ≤ length lengths → y ≡ limits.entries → y ≤ length codewords
-      → z ≡ limits.multiplicands → z ≤ length multiplicands → BookBuffers limits books lengths codewords multiplicands
-  all_buffers countable a e b f c g d =
-      record {
-        books_long = a;
-        lengths_long = omega arith;
-        codewords_long = omega arith;
-        multiplicands_long = omega arith;
-        few_entries = countable.few_entries;
-        few_values = countable.few_values;
-      }
-
-  pub recognised_end : BookBuffers limits books lengths codewords multiplicands → {r : Bool} → (r ≡ true) ↔ BooksLeft limits count 0 0 books lengths codewords multiplicands
-      → (r ≡ true) ↔ BooksRecognised limits count books lengths codewords multiplicands
-  recognised_end buffers p = (
-    (λ t.
-        let h = p.0 t in
-        record {
-          books_room = buffers.books_long;
-          lengths_room = buffers.lengths_long;
-          codewords_room = buffers.codewords_long;
-          multiplicands_room = buffers.multiplicands_long;
-          content = h.content;
-          counted = h.counted;
-          valid = h.valid;
-          book_rows_is = h.book_rows_is;
-          all_lengths_is = h.all_lengths_is;
-          all_codewords_is = h.all_codewords_is;
-          all_multiplicands_is = h.all_multiplicands_is;
-        }),
-    (λ s.
-        p.1
-        (record {
-          content = s.content;
-          counted = s.counted;
-          valid = s.valid;
-          book_rows_is = s.book_rows_is;
-          all_lengths_is = s.all_lengths_is;
-          all_codewords_is = s.all_codewords_is;
-          all_multiplicands_is = s.all_multiplicands_is;
-        })),
-  )

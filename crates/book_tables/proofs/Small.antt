@@ -10,8 +10,7 @@ use lib.Dec.{leb}
 use lib.ListN.{length, get_or}
 use Rattle.reading.specs.Lists.{all}
 use Rattle.reading.proofs.Least.{lt_or_le}
-use Rattle.codeword_assignment.specs.Book.{verdict, ledger_codewords, entry_answer, handed_out_before}
-use Rattle.codeword_assignment.specs.declared.book.Assigned.TheVariants.{Accepted}
+use Rattle.codeword_assignment.specs.Book.{Accepted, verdict, ledger_codewords, entry_answer, handed_out_before}
 use Rattle.codeword_assignment.proofs.Laws.{entry_answer_lem, accepted_none_refused}
 use Rattle.codespace.proofs.Whole.{some_says}
 

@@ -5,7 +5,7 @@ use native.Mathlib.Numerals.{add-one}
 use native.Mathlib.Omega.{arith}
 use borrow.Author.Rules.{rules}
 use borrow.Author.Tests.{lt-ltb, le-ltb, le-leb, leb-true, eq-eqb, eqb-true}
-use mathlib.Core.Bool.{Bool, true, false, not, ◌&&◌}
+use mathlib.Core.Bool.{Bool, true, false, ◌&&◌}
 use mathlib.Core.List.{List}
 use mathlib.Core.Logic.{◌↔◌}
 use mathlib.Core.Path.{◌≡◌, refl, sym, ap, ◌∙◌}
@@ -14,8 +14,7 @@ use lib.ListN.{length, get_or, take, drop, replicate, length-replicate, get_or-r
 use lib.Pow.{shl_exact, pow_pos}
 use lib.Seq.{drop-cons, get_or-drop}
 use Rattle.reading.specs.Lists.{all}
-use Rattle.reading.specs.Encoding.{Zeros}
-use Rattle.reading.proofs.Encodes.{iff_false, iff_true, shown}
+use Rattle.reading.proofs.Encodes.{iff_false}
 use Rattle.limits.specs.declared.Limits.{Limits}
 use Rattle.codeword_assignment.specs.Book.{Coded}
 use Rattle.book.specs.Layout.{book_width}
@@ -23,13 +22,12 @@ use Rattle.book.specs.LookupReading.{value_count}
 use Rattle.book.specs.Carried.{NoLookup, SomeLookup}
 use Rattle.book.proofs.RuleLaws.{rule6_met, rule14_met, some_dimensions, some_entries, few_entries}
 use Rattle.book_tables.specs.declared.row.Row.{Row}
-use Rattle.book_tables.specs.Inner.Recognised.{Clear}
 use Rattle.book_tables.specs.Inner.Rules.{row_of, row_book, head_book, HeadRules, PlaceRules, LookupRules}
 use Rattle.book_tables.proofs.Small.{all_each}
 
 -- a row's numbers
-pub number_at : (t : List ℕ) (i j : ℕ) {x v : ℕ} → x ≡ i → v ≡ get_or t (book_width * x + j) 0 → v ≡ get_or (drop (book_width * i) t) j 0
-number_at t i j {x} e f = f ∙ ap (λ (y : ℕ). get_or t (book_width * y + j) 0) e ∙ sym (get_or-drop (book_width * i) t j 0)
+pub number_at : (t : List ℕ) (i j : ℕ) {v : ℕ} → v ≡ get_or t (book_width * i + j) 0 → v ≡ get_or (drop (book_width * i) t) j 0
+number_at t i j f = f ∙ sym (get_or-drop (book_width * i) t j 0)
 
 pub row_made : (t : List ℕ) {a b c d e f g h i j l : ℕ} → a ≡ get_or t 0 0 → b ≡ get_or t 1 0 → c ≡ get_or t 2 0 → d ≡ get_or t 3 0 → e ≡ get_or t 4 0 → f ≡ get_or t 5 0
     → g ≡ get_or t 6 0 → h ≡ get_or t 7 0 → i ≡ get_or t 8 0 → j ≡ get_or t 9 0 → l ≡ get_or t 10 0
@@ -72,46 +70,40 @@ head_bounds limits entries row = let b = head_book row in let n = zeros_long row
       }),
 )
 
-pub head_end : (limits : Limits) (entries : ℕ) (row : Row) → entries ≤ limits.entries → 1 ≤ row.dimensions → row.dimensions < 65536 → 1 ≤ row.entries → row.entries < 16777216
-    → row.entries ≤ limits.book_entries → row.entries ≤ limits.entries - entries → (true ≡ true) ↔ HeadRules limits entries row
-head_end limits entries row within a b c d e f = iff_true ((head_bounds limits entries row).1 (a, b, c, d, e, omega arith))
+-- the last of the tests, where the others hold
+pub head_end : (limits : Limits) (entries : ℕ) (row : Row) → entries ≤ limits.entries
+    → (1 ≤ row.dimensions) × (row.dimensions < 65536) × (1 ≤ row.entries) × (row.entries < 16777216) × (row.entries ≤ limits.book_entries)
+    → (leb row.entries (limits.entries - entries) ≡ true) ↔ HeadRules limits entries row
+head_end limits entries row within t = (
+  (λ e. let h = leb-true row.entries (limits.entries - entries) e in (head_bounds limits entries row).1 (t.0, t.1, t.2, t.3, t.4, omega arith)),
+  (λ r. let h = (head_bounds limits entries row).0 r in le-leb row.entries (limits.entries - entries) (omega arith)),
+)
 
 -- where its entries and multiplicands begin
 module _ (limits : Limits) (entries values : ℕ) (row : Row) where
   pub place_within : PlaceRules limits entries values row → values + row.count ≤ limits.multiplicands
   place_within r = leb-true _ _ r.values_all
 
-  pub place_end : values ≤ limits.multiplicands → row.first_entry ≡ entries → row.first_value ≡ values → row.count ≤ limits.multiplicands - values
-      → (true ≡ true) ↔ PlaceRules limits entries values row
-  place_end within e f h = iff_true (record { entries_first = e; values_first = f; values_all = le-leb (values + row.count) _ (omega arith) })
-
 -- the lookup: none, or one with multiplicands, by its type
 module _ (row : Row) where
-  pub no_lookup_count : (row.count ≡ 0 → ⊥) → (false ≡ true) ↔ NoLookup (row_book row)
-  no_lookup_count n = iff_false (λ r. n (sym (zeros_long row.count) ∙ ap length r.multiplicands))
-
-  pub no_lookup_end : row.minimum ≡ 0 → row.delta ≡ 0 → row.width ≡ 0 → row.sequence ≡ 0 → row.count ≡ 0 → (true ≡ true) ↔ NoLookup (row_book row)
-  no_lookup_end a b c d e = iff_true (record { minimum = a; delta = b; width = c; sequence = d; multiplicands = ap (λ (n : ℕ). replicate n 0) e })
-
   counts : value_count row.lookup (length {A = ℕ} (replicate row.entries 0)) row.dimensions ≡ value_count row.lookup row.entries row.dimensions
   counts = ap (λ (n : ℕ). value_count row.lookup n row.dimensions) (zeros_long row.entries)
 
-  module _ {n m : ℕ} (e : n ≡ value_count row.lookup row.entries row.dimensions) (f : m ≡ row.count) where
-    pub valued_count : (m ≡ n → ⊥) → (false ≡ true) ↔ SomeLookup (row_book row)
-    valued_count x = iff_false (λ r. x (f ∙ sym (zeros_long row.count) ∙ r.count ∙ counts ∙ sym e))
-
-    pub valued_end : row.minimum < 4294967296 → row.delta < 4294967296 → 1 ≤ row.width → row.width ≤ 16 → row.sequence ≤ 1 → m ≡ n → (true ≡ true) ↔ SomeLookup (row_book row)
-    valued_end a b c d g h =
-        iff_true
-        (record {
+  pub valued_bounds : row.minimum < 4294967296 → row.delta < 4294967296
+      → SomeLookup (row_book row) ↔ ((1 ≤ row.width) × (row.width ≤ 16) × (row.sequence ≤ 1) × (row.count ≡ value_count row.lookup row.entries row.dimensions))
+  valued_bounds a b = (
+    (λ r. (r.width_low, r.width_high, r.sequence, sym (zeros_long row.count) ∙ r.count ∙ counts)),
+    (λ h.
+        record {
           minimum = a;
           delta = b;
-          width_low = c;
-          width_high = d;
-          sequence = g;
-          count = zeros_long row.count ∙ sym f ∙ h ∙ e ∙ sym counts;
+          width_low = h.0;
+          width_high = h.1;
+          sequence = h.2;
+          count = zeros_long row.count ∙ h.3 ∙ sym counts;
           fit = zeros_fit row.count row.width;
-        })
+        }),
+  )
 
   pub lookup_high : 2 < row.lookup → (false ≡ true) ↔ LookupRules row
   lookup_high h = iff_false (λ r. let k = leb-true row.lookup 2 r.known in omega arith)
@@ -125,15 +117,15 @@ module _ (row : Row) where
 pub ruleset lookup_laws = (rules, lookup_high, lookup_none, lookup_some)
 
 -- a part of a table, as the code takes it
-part : (t : List ℕ) (first count : ℕ) {a b : ℕ} → a ≡ first → b ≡ count → take (a + b - a) (drop a t) ≡ take count (drop first t)
-part t first count {a} {b} e f = let n : a + b - a ≡ count = omega arith in rw (n, e)
+part : (t : List ℕ) (first count : ℕ) → take (first + count - first) (drop first t) ≡ take count (drop first t)
+part t first count = let n : first + count - first ≡ count = omega arith in ap (λ (x : ℕ). take x (drop first t)) n
 
-pub coded_part : (ls ws : List ℕ) (first count : ℕ) {a b : ℕ} → a ≡ first → b ≡ count → {r : Bool} → (r ≡ true) ↔ Coded (take (a + b - a) (drop a ls)) (take (a + b - a) (drop a ws))
+pub coded_part : (ls ws : List ℕ) (first count : ℕ) {r : Bool} → (r ≡ true) ↔ Coded (take (first + count - first) (drop first ls)) (take (first + count - first) (drop first ws))
     → (r ≡ true) ↔ Coded (take count (drop first ls)) (take count (drop first ws))
-coded_part ls ws first count e f p = rw (part ls first count e f, part ws first count e f) at p
+coded_part ls ws first count p = rw (part ls first count, part ws first count) at p
 
-pub fit_part : (g : ℕ → Bool) (ms : List ℕ) (first count : ℕ) {a b : ℕ} → a ≡ first → b ≡ count → {r : Bool} → r ≡ all g (take (a + b - a) (drop a ms)) → r ≡ all g (take count (drop first ms))
-fit_part g ms first count e f p = p ∙ ap (all g) (part ms first count e f)
+pub fit_part : (g : ℕ → Bool) (ms : List ℕ) (first count : ℕ) {r : Bool} → r ≡ all g (take (first + count - first) (drop first ms)) → r ≡ all g (take count (drop first ms))
+fit_part g ms first count p = p ∙ ap (all g) (part ms first count)
 
 -- the mark that a row names
 pub marked : {m n k : ℕ} → n ≡ k → (eqb m n ≡ true) ↔ (m ≡ k)
@@ -157,20 +149,12 @@ module _ (part : List ℕ) (width bound : ℕ) where
     unfolding all
     turn h = rw (drop-cons part i 0 h, add-one)
 
-    pub narrow_next : i < length part → {v : ℕ} → v ≡ get_or part i 0 → v < bound → Narrowing part width bound (i + 1)
-    narrow_next h {v} e l = let t = lt-ltb (get_or part i 0) (2 ^ width) (rw (← e, ← w.limit) l) in record { limit = w.limit; rest = rw (turn h, t) at w.rest }
+    pub narrow_next : i < length part → get_or part i 0 < bound → Narrowing part width bound (i + 1)
+    narrow_next h l = let t = lt-ltb (get_or part i 0) (2 ^ width) (rw (← w.limit) l) in record { limit = w.limit; rest = rw (turn h, t) at w.rest }
 
-    pub narrow_stop : i < length part → {v : ℕ} → v ≡ get_or part i 0 → bound ≤ v → false ≡ all (λ v. ltb v (2 ^ width)) part
-    narrow_stop h {v} e l = let t = le-ltb (get_or part i 0) (2 ^ width) (rw (← e, ← w.limit) l) in rw (turn h, t) at w.rest
+    pub narrow_stop : i < length part → bound ≤ get_or part i 0 → false ≡ all (λ v. ltb v (2 ^ width)) part
+    narrow_stop h l = let t = le-ltb (get_or part i 0) (2 ^ width) (rw (← w.limit) l) in rw (turn h, t) at w.rest
 
     pub narrow_end : length part ≤ i → true ≡ all (λ v. ltb v (2 ^ width)) part
     unfolding all
     narrow_end h = rw (drop_of_length-le part h) at w.rest
-
-pub ruleset narrow_laws = (rules, narrow_start, narrow_next, narrow_stop, narrow_end)
-
--- zeros behind all four tables
-pub all_clear : {rs ls ws ms : List ℕ} {b₁ b₂ b₃ b₄ : Bool} → (b₁ ≡ true) ↔ Zeros rs → not b₁ ≡ false → (b₂ ≡ true) ↔ Zeros ls → not b₂ ≡ false
-    → (b₃ ≡ true) ↔ Zeros ws → not b₃ ≡ false → (b₄ ≡ true) ↔ Zeros ms → (b₄ ≡ true) ↔ Clear rs ls ws ms
-all_clear p₁ y₁ p₂ y₂ p₃ y₃ p₄ =
-    ((λ t. record { rows = shown p₁ y₁; lengths = shown p₂ y₂; codewords = shown p₃ y₃; multiplicands = p₄.0 t }), (λ z. p₄.1 z.multiplicands))

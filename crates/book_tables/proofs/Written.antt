@@ -2,7 +2,7 @@
 use Prim.Native.Nat.{ℕ, ◌+◌, ◌^◌, ◌≤◌, ◌<◌}
 use native.Mathlib.Omega.{arith}
 use borrow.Author.Tests.{le-leb}
-use mathlib.Core.Bool.{Bool, true, false, not}
+use mathlib.Core.Bool.{true}
 use mathlib.Core.List.{List}
 use mathlib.Core.Logic.{◌↔◌, ⊎_elim}
 use mathlib.Core.Path.{◌≡◌, refl, sym, ap, ◌∙◌}
@@ -11,7 +11,6 @@ use lib.ListN.{length, take, drop, length-drop}
 use lib.Seq.{length-take-le}
 use Rattle.reading.specs.Lists.{all}
 use Rattle.reading.proofs.Basics.{length_zero}
-use Rattle.reading.proofs.Encodes.{iff_false, refuted, shown}
 use Rattle.reading.proofs.Least.{lt_or_le}
 use Rattle.limits.specs.declared.Limits.{Limits}
 use Rattle.codeword_assignment.specs.Book.{Coded, lone_mark}
@@ -107,69 +106,62 @@ module _ (limits : Limits) (entries values : ℕ) (row : Row) (ls ws ms : List �
       (λ (h : row.lookup ≤ 0). rw (r.valid.carried.no_lookup_is (omega arith)).multiplicands)
       (lt_or_le 0 row.lookup)
 
--- the test of a part failed, and so the whole does not hold
-pub part_refused : {P Q : Type 0} {b : Bool} → not b ≡ true → (b ≡ true) ↔ P → (Q → P) → (false ≡ true) ↔ Q
-part_refused n p f = iff_false (λ q. refuted p n (f q))
-
--- the width is one that a shift takes
-pub width_small : (row : Row) {b : Bool} → (b ≡ true) ↔ LookupRules row → not b ≡ false → row.width < 32
-width_small row p y =
-    ⊎_elim
-    (λ (h : 0 < row.lookup). let k = ((shown p y).some (λ e. omega arith)).width_high in omega arith)
-    (λ (h : row.lookup ≤ 0). let k = ((shown p y).none (omega arith)).width in omega arith)
-    (lt_or_le 0 row.lookup)
-
--- a book that meets each test: its lengths, codewords and multiplicands are all there, and it is written out
+-- a book each of whose parts is right: its lengths, codewords and multiplicands are all there, and it is written out
 module _ (limits : Limits) (entries values : ℕ) (row : Row) (ls ws ms : List ℕ) (begun : Begun limits entries values ls ws ms)
-    {b₁ : Bool} (p₁ : (b₁ ≡ true) ↔ HeadRules limits entries row) (y₁ : not b₁ ≡ false) where
-  pub lengths_inside : entries + row.entries ≤ length ls
-  lengths_inside = let h = (head_bounds limits entries row).0 (shown p₁ y₁) in let r = begun.lengths_room in omega arith
+    (head : HeadRules limits entries row) (place : PlaceRules limits entries values row) where
+  lengths_inside : entries + row.entries ≤ length ls
+  lengths_inside = let h = (head_bounds limits entries row).0 head in let r = begun.lengths_room in omega arith
 
-  pub codewords_inside : entries + row.entries ≤ length ws
-  codewords_inside = let h = (head_bounds limits entries row).0 (shown p₁ y₁) in let r = begun.codewords_room in omega arith
+  values_inside : values + row.count ≤ length ms
+  values_inside = let h = place_within limits entries values row place in let r = begun.values_room in omega arith
 
-  module _ {b₂ : Bool} (p₂ : (b₂ ≡ true) ↔ PlaceRules limits entries values row) (y₂ : not b₂ ≡ false) where
-    pub values_inside : values + row.count ≤ length ms
-    values_inside = let h = place_within limits entries values row (shown p₂ y₂) in let r = begun.values_room in omega arith
+  book_end : LookupRules row → Coded (take row.entries (drop entries ls)) (take row.entries (drop entries ws)) → row.lone ≡ lone_mark (take row.entries (drop entries ls))
+      → all (λ v. ltb v (2 ^ row.width)) (take row.count (drop values ms)) ≡ true → BookRules limits entries values row (drop entries ls) (drop entries ws) (drop values ms)
+  unfolding book_row
+  book_end lookup coded mark fit =
+      let b = book_in row (drop entries ls) (drop values ms) in
+      let i = lengths_inside in
+      let d = length-drop entries ls in
+      let n : length b.lengths ≡ row.entries = length-take-le row.entries (drop entries ls) (omega arith) in
+      let n' = zeros_long row.entries ∙ sym n in
+      let j = values_inside in
+      let e = length-drop values ms in
+      let k : length b.multiplicands ≡ row.count = length-take-le row.count (drop values ms) (omega arith) in
+      let k' = zeros_long row.count ∙ sym k in
+      record {
+        valid = record {
+          carried = record {
+            dimensions = head.carried.dimensions;
+            entries = rw (← n') head.carried.entries;
+            lengths = accepted_small b.lengths coded.accepted;
+            no_lookup_is = λ z. none_same row n' k' (lookup.none z);
+            some_lookup_is = λ z. some_same row n' k' (lookup.some z) fit;
+          };
+          rule6 = record { dimensions = head.rule6.dimensions; entries = rw (← n') head.rule6.entries; lookup = lookup.known };
+          rule7 = rule7_met b coded.accepted;
+          rule8 = rule8_met b coded.accepted;
+          rule14 = rw (← n') head.rule14;
+          entries_all = rw n ((head_bounds limits entries row).0 head).5;
+          values_all = rw k (place_within limits entries values row place);
+        };
+        written = row_made (book_row entries values b) refl (sym n) place.entries_first refl refl refl refl refl (sym k) place.values_first mark;
+        assigned = coded.assigned;
+      }
 
-    pub book_end : {b₃ b₄ b₅ b₆ : Bool} → (b₃ ≡ true) ↔ LookupRules row → not b₃ ≡ false
-        → (b₄ ≡ true) ↔ Coded (take row.entries (drop entries ls)) (take row.entries (drop entries ws)) → not b₄ ≡ false
-        → (b₅ ≡ true) ↔ (row.lone ≡ lone_mark (take row.entries (drop entries ls))) → not b₅ ≡ false
-        → b₆ ≡ all (λ v. ltb v (2 ^ row.width)) (take row.count (drop values ms))
-        → (b₆ ≡ true) ↔ BookRules limits entries values row (drop entries ls) (drop entries ws) (drop values ms)
-    unfolding book_row
-    book_end p₃ y₃ p₄ y₄ p₅ y₅ fit =
-        let b = book_in row (drop entries ls) (drop values ms) in
-        let head = shown p₁ y₁ in
-        let place = shown p₂ y₂ in
-        let coded = shown p₄ y₄ in
-        let i = lengths_inside in
-        let d = length-drop entries ls in
-        let n : length b.lengths ≡ row.entries = length-take-le row.entries (drop entries ls) (omega arith) in
-        let n' = zeros_long row.entries ∙ sym n in
-        let j = values_inside in
-        let e = length-drop values ms in
-        let k : length b.multiplicands ≡ row.count = length-take-le row.count (drop values ms) (omega arith) in
-        let k' = zeros_long row.count ∙ sym k in (
-          (λ t.
-              record {
-                valid = record {
-                  carried = record {
-                    dimensions = head.carried.dimensions;
-                    entries = rw (← n') head.carried.entries;
-                    lengths = accepted_small b.lengths coded.accepted;
-                    no_lookup_is = λ z. none_same row n' k' ((shown p₃ y₃).none z);
-                    some_lookup_is = λ z. some_same row n' k' ((shown p₃ y₃).some z) (sym fit ∙ t);
-                  };
-                  rule6 = record { dimensions = head.rule6.dimensions; entries = rw (← n') head.rule6.entries; lookup = (shown p₃ y₃).known };
-                  rule7 = rule7_met b coded.accepted;
-                  rule8 = rule8_met b coded.accepted;
-                  rule14 = rw (← n') head.rule14;
-                  entries_all = rw n ((head_bounds limits entries row).0 head).5;
-                  values_all = rw k (place_within limits entries values row place);
-                };
-                written = row_made (book_row entries values b) refl (sym n) place.entries_first refl refl refl refl refl (sym k) place.values_first (shown p₅ y₅);
-                assigned = coded.assigned;
-              }),
-          (λ r. fit ∙ fits limits entries values row (drop entries ls) (drop entries ws) (drop values ms) r),
-        )
+-- ONE BOOK BY ITS PARTS: the tables hold a book that meets every rule, written out, exactly where each part is right
+pub book_parts : (limits : Limits) (entries values : ℕ) (row : Row) (ls ws ms : List ℕ) → Begun limits entries values ls ws ms
+    → BookRules limits entries values row (drop entries ls) (drop entries ws) (drop values ms)
+    ↔ (HeadRules limits entries row × PlaceRules limits entries values row × LookupRules row
+    × Coded (take row.entries (drop entries ls)) (take row.entries (drop entries ws)) × (row.lone ≡ lone_mark (take row.entries (drop entries ls)))
+    × (all (λ v. ltb v (2 ^ row.width)) (take row.count (drop values ms)) ≡ true))
+book_parts limits entries values row ls ws ms begun = (
+  (λ r. (
+    has_head _ _ _ _ _ _ _ r,
+    has_place _ _ _ _ _ _ _ r,
+    has_lookup _ _ _ _ _ _ _ r,
+    has_codewords _ _ _ _ _ _ _ r,
+    has_mark _ _ _ _ _ _ _ r,
+    fits _ _ _ _ _ _ _ r,
+  )),
+  (λ h. book_end limits entries values row ls ws ms begun h.0 h.1 h.2 h.3 h.4 h.5),
+)

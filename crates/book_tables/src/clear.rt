@@ -2,6 +2,8 @@
 ghost use Rattle.std.specs.Prelude.{true, ◌↔◌, ◌≡◌, drop};
 ghost use Rattle.book_tables.specs.Inner.Recognised.{Clear};
 
+use reading::zeros::zeros;
+
 // `rows` numbers of rows, and so many entries and multiplicands, are written.
 pub fn are_clear(
     rows: usize,
@@ -16,14 +18,8 @@ pub fn are_clear(
         (drop rows books.now) (drop entries lengths.now)
         (drop entries codewords.now) (drop values multiplicands.now) }
 {
-    if !reading::zeros::zeros_u32(books, rows) {
-        return false;
-    }
-    if !reading::zeros::zeros_u8(lengths, entries) {
-        return false;
-    }
-    if !reading::zeros::zeros_u32(codewords, entries) {
-        return false;
-    }
-    reading::zeros::zeros_u16(multiplicands, values)
+    zeros(books, rows)
+        && zeros(lengths, entries)
+        && zeros(codewords, entries)
+        && zeros(multiplicands, values)
 }

@@ -7,34 +7,22 @@ ghost use Rattle.book.specs.Carried.{NoLookup, SomeLookup};
 ghost use Rattle.book_tables.specs.Inner.Rules.{row_book, HeadRules, PlaceRules, LookupRules, BookRules, Begun};
 
 use crate::row::Row;
+use book_lookup::lookup::value_count;
 use book_row::mark::lone_mark_at;
+use codeword_assignment::book::are_codewords;
 use limits::Limits;
-use reading::widths::{u32_from_u16, u64_from_u32, wide_u32};
 
 // The dimensions and the number of entries (01, refusals 6 and 14). `entries` is how many the books before have.
 fn is_head(limits: Limits, entries: u32, row: Row) -> bool
     requires { entries ≤ limits.entries }
     ensures { (result ≡ true) ↔ HeadRules limits entries row }
 {
-    if row.dimensions < 1 {
-        return false;
-    }
-    if 65536 <= row.dimensions {
-        return false;
-    }
-    if row.entries < 1 {
-        return false;
-    }
-    if 16777216 <= row.entries {
-        return false;
-    }
-    if limits.book_entries < row.entries {
-        return false;
-    }
-    if limits.entries - entries < row.entries {
-        return false;
-    }
-    true
+    1 <= row.dimensions
+        && row.dimensions < 65536
+        && 1 <= row.entries
+        && row.entries < 16777216
+        && row.entries <= limits.book_entries
+        && row.entries <= limits.entries - entries
 }
 
 // Its entries and multiplicands begin where those of the books before end, within the limit.
@@ -42,58 +30,26 @@ fn is_placed(limits: Limits, entries: u32, values: u32, row: Row) -> bool
     requires { values ≤ limits.multiplicands }
     ensures { (result ≡ true) ↔ PlaceRules limits entries values row }
 {
-    if row.first_entry != entries {
-        return false;
-    }
-    if row.first_value != values {
-        return false;
-    }
-    if limits.multiplicands - values < row.count {
-        return false;
-    }
-    true
+    row.first_entry == entries
+        && row.first_value == values
+        && row.count <= limits.multiplicands - values
 }
 
 // No lookup: zeros.
 fn has_no_lookup(row: Row) -> bool
     ensures { (result ≡ true) ↔ NoLookup (row_book row) }
 {
-    if row.minimum != 0 {
-        return false;
-    }
-    if row.delta != 0 {
-        return false;
-    }
-    if row.width != 0 {
-        return false;
-    }
-    if row.sequence != 0 {
-        return false;
-    }
-    if row.count != 0 {
-        return false;
-    }
-    true
+    row.minimum == 0 && row.delta == 0 && row.width == 0 && row.sequence == 0 && row.count == 0
 }
 
 // A lookup with multiplicands: their number is what its type, entries and dimensions say.
 fn is_valued(row: Row) -> bool
     ensures { (result ≡ true) ↔ SomeLookup (row_book row) }
 {
-    if row.width < 1 {
-        return false;
-    }
-    if 16 < row.width {
-        return false;
-    }
-    if 1 < row.sequence {
-        return false;
-    }
-    let count = book_lookup::lookup::value_count(row.lookup, row.entries, row.dimensions);
-    if u64_from_u32(row.count) != count {
-        return false;
-    }
-    true
+    1 <= row.width
+        && row.width <= 16
+        && row.sequence <= 1
+        && row.count as u64 == value_count(row.lookup, row.entries, row.dimensions)
 }
 
 fn is_lookup(row: Row) -> bool
@@ -113,9 +69,9 @@ fn is_coded(lengths: &[u8], codewords: &[u32], first: u32, count: u32) -> bool
     requires { (first + count ≤ length lengths.now) × (first + count ≤ length codewords.now) }
     ensures { (result ≡ true) ↔ Coded (take count (drop first lengths.now)) (take count (drop first codewords.now)) }
 {
-    let start = wide_u32(first);
-    let end = start + wide_u32(count);
-    codeword_assignment::book::are_codewords(&lengths[start..end], &codewords[start..end])
+    let start = first as usize;
+    let end = start + count as usize;
+    are_codewords(&lengths[start..end], &codewords[start..end])
 }
 
 // The row names the sole used entry of length 1 of the lengths from `first` on, or none where they have none.
@@ -127,25 +83,16 @@ fn is_marked(lengths: &[u8], first: u32, row: Row) -> bool
     row.lone == mark
 }
 
-fn power(exponent: u32) -> u32
-    requires { exponent < 32 }
-    ensures { result ≡ 2 ^ exponent }
-{
-    1 << exponent
-}
-
 // Every multiplicand has no more than `width` bits.
 fn are_narrow(part: &[u16], width: u32) -> bool
     requires { width < 32 }
     ensures { result ≡ all (λ v. ltb v (2 ^ width)) part.now }
 {
-    let bound = power(width);
-    let mut i = 0;
-    while i < part.len() {
-        if bound <= u32_from_u16(part[i]) {
+    let bound = 1u32 << width;
+    for multiplicand in part {
+        if bound <= *multiplicand as u32 {
             return false;
         }
-        i = i + 1;
     }
     true
 }
@@ -155,12 +102,13 @@ fn is_fit(multiplicands: &[u16], first: u32, count: u32, width: u32) -> bool
     requires { (first + count ≤ length multiplicands.now) × (width < 32) }
     ensures { result ≡ all (λ v. ltb v (2 ^ width)) (take count (drop first multiplicands.now)) }
 {
-    let start = wide_u32(first);
-    let end = start + wide_u32(count);
+    let start = first as usize;
+    let end = start + count as usize;
     are_narrow(&multiplicands[start..end], width)
 }
 
 // The book of a row, behind books of so many entries and multiplicands.
+#[tactic(auto, using(crate::proofs::Written::book_parts))]
 pub fn is_book(
     limits: Limits,
     entries: u32,
@@ -174,20 +122,10 @@ pub fn is_book(
     ensures { (result ≡ true) ↔ BookRules limits entries values row
         (drop entries lengths.now) (drop entries codewords.now) (drop values multiplicands.now) }
 {
-    if !is_head(limits, entries, row) {
-        return false;
-    }
-    if !is_placed(limits, entries, values, row) {
-        return false;
-    }
-    if !is_lookup(row) {
-        return false;
-    }
-    if !is_coded(lengths, codewords, entries, row.entries) {
-        return false;
-    }
-    if !is_marked(lengths, entries, row) {
-        return false;
-    }
-    is_fit(multiplicands, values, row.count, row.width)
+    is_head(limits, entries, row)
+        && is_placed(limits, entries, values, row)
+        && is_lookup(row)
+        && is_coded(lengths, codewords, entries, row.entries)
+        && is_marked(lengths, entries, row)
+        && is_fit(multiplicands, values, row.count, row.width)
 }

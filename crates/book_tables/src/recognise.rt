@@ -6,8 +6,8 @@ ghost use Rattle.book_tables.specs.Inner.Recognised.{Countable, BooksLeft, Books
 use crate::clear::are_clear;
 use crate::judge::is_book;
 use crate::row::row_at;
+use book::{NEED, WIDTH};
 use limits::Limits;
-use reading::widths::wide_u32;
 
 // The books one after the other, with how many entries and multiplicands those before have; then zeros.
 fn are_rows(
@@ -24,8 +24,7 @@ fn are_rows(
 {
     let mut entries: u32 = 0;
     let mut values: u32 = 0;
-    let mut i: u32 = 0;
-    while i < count {
+    for i in 0..count {
         let row = row_at(books, i);
         if !is_book(
             limits,
@@ -38,14 +37,13 @@ fn are_rows(
         ) {
             return false;
         }
-        entries = entries + row.entries;
-        values = values + row.count;
-        i = i + 1;
+        entries += row.entries;
+        values += row.count;
     }
     are_clear(
-        book::WIDTH * wide_u32(i),
-        wide_u32(entries),
-        wide_u32(values),
+        WIDTH * count as usize,
+        entries as usize,
+        values as usize,
         books,
         lengths,
         codewords,
@@ -67,17 +65,9 @@ pub fn are_books(
         books.now lengths.now codewords.now multiplicands.now }
     ensures one_content { OneContent limits count books.now lengths.now codewords.now multiplicands.now }
 {
-    if books.len() < book::NEED {
-        return false;
-    }
-    if lengths.len() < wide_u32(limits.entries) {
-        return false;
-    }
-    if codewords.len() < wide_u32(limits.entries) {
-        return false;
-    }
-    if multiplicands.len() < wide_u32(limits.multiplicands) {
-        return false;
-    }
-    are_rows(count, limits, books, lengths, codewords, multiplicands)
+    NEED <= books.len()
+        && limits.entries as usize <= lengths.len()
+        && limits.entries as usize <= codewords.len()
+        && limits.multiplicands as usize <= multiplicands.len()
+        && are_rows(count, limits, books, lengths, codewords, multiplicands)
 }

@@ -3,7 +3,8 @@ ghost use Rattle.std.specs.Prelude.{◌≡◌, ◌*◌, ◌<◌, get_or, drop};
 ghost use Rattle.book.specs.Layout.{book_width};
 ghost use Rattle.book_tables.specs.Inner.Rules.{row_of};
 
-use reading::widths::wide_u32;
+use book::WIDTH;
+use reading::buffers::get;
 
 #[derive(Clone, Copy)]
 pub struct Row {
@@ -28,36 +29,24 @@ fn number(books: &[u32], index: u32, column: usize) -> u32
     requires { column < book_width }
     ensures { result ≡ get_or (drop (book_width * index) books.now) column 0 }
 {
-    let place = book::WIDTH * wide_u32(index) + column;
-    reading::buffers::get_u32(books, place)
+    get(books, WIDTH * index as usize + column)
 }
 
 // All eleven.
 pub fn row_at(books: &[u32], index: u32) -> Row
     ensures { result ≡ row_of (drop (book_width * index) books.now) }
 {
-    let dimensions = number(books, index, 0);
-    let entries = number(books, index, 1);
-    let first_entry = number(books, index, 2);
-    let lookup = number(books, index, 3);
-    let minimum = number(books, index, 4);
-    let delta = number(books, index, 5);
-    let width = number(books, index, 6);
-    let sequence = number(books, index, 7);
-    let count = number(books, index, 8);
-    let first_value = number(books, index, 9);
-    let lone = number(books, index, 10);
     Row {
-        dimensions,
-        entries,
-        first_entry,
-        lookup,
-        minimum,
-        delta,
-        width,
-        sequence,
-        count,
-        first_value,
-        lone,
+        dimensions: number(books, index, 0),
+        entries: number(books, index, 1),
+        first_entry: number(books, index, 2),
+        lookup: number(books, index, 3),
+        minimum: number(books, index, 4),
+        delta: number(books, index, 5),
+        width: number(books, index, 6),
+        sequence: number(books, index, 7),
+        count: number(books, index, 8),
+        first_value: number(books, index, 9),
+        lone: number(books, index, 10),
     }
 }

@@ -1,21 +1,11 @@
 -- `book_tables::judge::is_valued` meets its contract. Assumes nothing.
-use native.Mathlib.Omega.{arith}
-use Rattle.reading.proofs.Encodes.{iff_false}
-use Rattle.book_tables.proofs.TestLaws.{valued_count, valued_end}
-use borrow.Author.Rules.{rules}
+use Rattle.std.proofs.Common.{arith}
+use Rattle.std.proofs.lemmas.Bool.Decides.{nat_tests}
+use Rattle.book_tables.proofs.TestLaws.{valued_bounds}
 use Rattle.book_tables.proofs.judge.is_valued.Goals as goal
 
-pub returns-then-row-lt1 : goal.returns-then-row-lt1
-returns-then-row-lt1 c = iff_false (λ r. let k = r.width_low in let t = c.if-row-lt1.true in omega arith)
-
-pub returns-then-row-gt16 : goal.returns-then-row-gt16
-returns-then-row-gt16 c = iff_false (λ r. let k = r.width_high in let t = c.if-row-gt16.true in omega arith)
-
-pub returns-then-row-gt1 : goal.returns-then-row-gt1
-returns-then-row-gt1 c = iff_false (λ r. let k = r.sequence in let t = c.if-row-gt1.true in omega arith)
-
-pub returns-then-u64_from_u32-count : goal.returns-then-u64_from_u32-count
-returns-then-u64_from_u32-count c = search (rules, valued_count)
-
-pub returns : goal.returns
-returns c = search (rules, valued_end)
+pub returns-then-row-le1 : goal.returns-then-row-le1
+returns-then-row-le1 c =
+    let k = valued_bounds c.args.row (omega arith) (omega arith) in
+    let t = c.if-row-le1.true in
+    ((λ e. k.1 (t.0, t.1, t.2, grind (arith, nat_tests))), (λ r. let h = k.0 r in grind (arith, nat_tests)))

@@ -1,7 +1,6 @@
 -- `book_tables::recognise::are_rows` meets its contract. Assumes nothing.
 use mathlib.Core.Bool.{not}
 use mathlib.Core.Path.{ap}
-use Prim.Native.Nat.{◌-◌}
 use Rattle.book_tables.proofs.RecogniseLaws.{progress_start, progress_stop, progress_next, progress_end, entries_fit, values_fit}
 use borrow.Author.Rules.{rules}
 use Rattle.book_tables.proofs.recognise.are_rows.Goals as goal
@@ -26,4 +25,6 @@ loop-i-preserved c =
     (v.0, v.1, progress_next _ _ _ _ _ _ v.1 v.0 _ _ _ v.2 (search rules) r b (ap not c.if-not-is_book.false))
 
 pub returns : goal.returns
-returns c = search (rules, progress_end)
+returns c =
+    let v = c.loop-i.invariant in
+    progress_end _ _ _ _ _ _ v.1 v.0 _ _ _ v.2 c.loop-i-test.false c.are_clear.ensures
