@@ -1,5 +1,6 @@
 -- Laws of the loop that reads a value for each dimension of a class: what is left to read, written into the list as it is, is the whole.
 -- Assumes nothing.
+use Rattle.std.specs.Prelude.{Result, Ok, Err}
 use Prim.Native.Nat.{ℕ, zero, suc, ◌+◌, ◌-◌, ◌*◌, ◌/◌, ◌%◌, ◌^◌, ◌≤◌, ◌<◌}
 use native.Mathlib.Nat.{add-zero, sub-zero, mod-lt}
 use native.Mathlib.Omega.{arith}
@@ -17,12 +18,11 @@ use Rattle.reading.specs.Inner.Table.{Table, table, put_row}
 use Rattle.reading.proofs.Readers.{each_done, each-bad, each_next, mapped_ok, mapped_bad}
 use Rattle.reading.proofs.EachLaws.{all_at}
 use Rattle.bits.specs.declared.Cursor.{Cursor}
-use Rattle.bits.specs.declared.Refusal.{Refusal}
-use Rattle.bits.specs.declared.Step.{Step}
-use Rattle.bits.specs.declared.Step.TheVariants.{Next, Refused}
+use Rattle.bits.specs.declared.refusal.Refusal.{Refusal}
 use Rattle.bits.specs.Inner.Cursors.{position, refusal_of, Wrote}
 use Rattle.bits.proofs.Steps.{wrote_refused, wrote_next, wrote_bad, wrote_ok}
 use Rattle.numbers.specs.Inner.Cell.{cell}
+use Rattle.numbers.proofs.NumberLaws.{one_shifted}
 use Rattle.floor.specs.Content.{Class}
 use Rattle.floor.specs.Inner.Decode.{class_at}
 use Rattle.floor_partition.specs.Partition.{chosen, value}
@@ -73,18 +73,17 @@ pub record Choosing (s floors books lengths codewords : List ℕ) (n c v : ℕ) 
   pub stored : ClassStored floors books lengths codewords n c
   pub counted : count ≡ (class_in floors n c).dimensions
   pub based : base ≡ 2 ^ (class_in floors n c).subclasses
-  pub within : i ≤ count
   pub long : length now ≡ length entry
   pub rest : into (put_row cell) (each (value (lengths_in books lengths)) (chosen (class_in floors n c) left (count - i)) s (position next)) (table now (at + i))
       ≡ into (put_row cell) (each (value (lengths_in books lengths)) (chosen (class_in floors n c) v (class_in floors n c).dimensions) s (position from)) (table entry at)
 
 module _ {s floors books lengths codewords : List ℕ} {n c v : ℕ} {entry : List ℕ} {at : ℕ} {from : Cursor} {count base : ℕ} where
-  pub choose_start : at ≤ 65535 → ClassStored floors books lengths codewords n c → {d sub : ℕ} → d ≡ get_or floors (floor_width * n + 36 + 11 * c) 0 → count ≡ d
-      → sub ≡ get_or floors (floor_width * n + 36 + 11 * c + 1) 0 → base ≡ 2 ^ sub → Choosing s floors books lengths codewords n c v entry at from count base entry from v 0
-  choose_start h l {d} {sub} e₁ e₂ e₃ e₄ =
-      let f : count ≡ (class_in floors n c).dimensions = unfold class_in class_at in (e₂ ∙ e₁) in
-      let g : base ≡ 2 ^ (class_in floors n c).subclasses = unfold class_in class_at in (e₄ ∙ ap (λ (x : ℕ). 2 ^ x) e₃) in
-      record { place_few = h; stored = l; counted = f; based = g; within = omega arith; long = refl; rest = rw (sub-zero, add-zero, f) }
+  pub choose_start : at ≤ 65535 → ClassStored floors books lengths codewords n c → {sub : ℕ} → count ≡ get_or floors (floor_width * n + 36 + 11 * c) 0
+      → sub ≡ get_or floors (floor_width * n + 36 + 11 * c + 1) 0 → base ≡ (1 * 2 ^ sub) % 4294967296 → Choosing s floors books lengths codewords n c v entry at from count base entry from v 0
+  choose_start h l {sub} e₁ e₃ e₄ =
+      let f : count ≡ (class_in floors n c).dimensions = unfold class_in class_at in e₁ in
+      let g : base ≡ 2 ^ (class_in floors n c).subclasses = unfold class_in class_at in (e₄ ∙ one_shifted 32 sub (let few = subclasses_few l e₃ in omega arith) ∙ ap (λ (x : ℕ). 2 ^ x) e₃) in
+      record { place_few = h; stored = l; counted = f; based = g; long = refl; rest = rw (sub-zero, add-zero, f) }
 
   module _ {now : List ℕ} {next : Cursor} {left i : ℕ} (w : Choosing s floors books lengths codewords n c v entry at from count base now next left i) where
     pub base_low : 0 < base
@@ -111,18 +110,18 @@ module _ {s floors books lengths codewords : List ℕ} {n c v : ℕ} {entry : Li
         pub place_stored : PlaceStored books lengths codewords p
         place_stored = rw (place, ← book_is w.stored j j_low) (book_stored w.stored j j_low)
 
-        module _ (h : i < count) {st : Step} {now' : List ℕ} (one : Wrote (into1 (put_row cell) (value (lengths_in books lengths) p s (position next)) (table now (at + i))) st (table now' (at + i + 1))) where
+        module _ (h : i < count) {st : Result Cursor Refusal} {now' : List ℕ} (one : Wrote (into1 (put_row cell) (value (lengths_in books lengths) p s (position next)) (table now (at + i))) st (table now' (at + i + 1))) where
           more : count - i ≡ suc (count - (i + 1))
           more = omega arith
 
-          pub choose_refused : {z : Refusal} → st ≡ Refused z → (u : Table)
-              → Wrote (into (put_row cell) (each (value (lengths_in books lengths)) (chosen (class_in floors n c) v (class_in floors n c).dimensions) s (position from)) (table entry at)) (Refused z) u
+          pub choose_refused : {z : Refusal} → st ≡ Err z → (u : Table)
+              → Wrote (into (put_row cell) (each (value (lengths_in books lengths)) (chosen (class_in floors n c) v (class_in floors n c).dimensions) s (position from)) (table entry at)) (Err z) u
           unfolding into1
           choose_refused {z} q u =
               let b = mapped_bad (λ a. put_row cell a (table now (at + i))) (value (lengths_in books lengths) p s (position next)) (wrote_bad one q) in
               wrote_refused u (sym w.rest ∙ rw more (turn_bad (lengths_in books lengths) (class_in floors n c) s left (count - (i + 1)) (position next) (table now (at + i)) (refusal_of z) (rw (← place_is) b)))
 
-          pub choose_next : {after : Cursor} → st ≡ Next after → length now' ≡ length now
+          pub choose_next : {after : Cursor} → st ≡ Ok after → length now' ≡ length now
               → Choosing s floors books lengths codewords n c v entry at from count base now' after (left / base) (i + 1)
           unfolding into1
           choose_next {after} q e =
@@ -134,16 +133,14 @@ module _ {s floors books lengths codewords : List ℕ} {n c v : ℕ} {entry : Li
                 stored = w.stored;
                 counted = w.counted;
                 based = w.based;
-                within = omega arith;
                 long = e ∙ w.long;
                 rest = rw (w.based, f, ← m.2) (sym t ∙ rw (← more) w.rest);
               }
 
-    pub choose_done : count ≤ i
+    pub choose_done : i ≤ count → count ≤ i
         → Wrote (into (put_row cell) (each (value (lengths_in books lengths)) (chosen (class_in floors n c) v (class_in floors n c).dimensions) s (position from)) (table entry at))
-        (Next next) (table now (at + (class_in floors n c).dimensions))
-    choose_done h =
-        let within = w.within in
+        (Ok next) (table now (at + (class_in floors n c).dimensions))
+    choose_done within h =
         let z : count - i ≡ 0 = omega arith in
         let e : i ≡ (class_in floors n c).dimensions = let f = w.counted in omega arith in
         let d = no_turn (lengths_in books lengths) (class_in floors n c) s left (position next) (table now (at + i)) in

@@ -1,4 +1,5 @@
 -- Laws of reading one partition, as the code asks them. Assumes nothing.
+use Rattle.std.specs.Prelude.{Result, Ok, Err}
 use Prim.Native.Nat.{ℕ, ◌+◌}
 use mathlib.Core.List.{List}
 use mathlib.Core.Path.{◌≡◌, refl, ap, ◌∙◌}
@@ -9,11 +10,7 @@ use Rattle.reading.specs.Reader.{each, mapped, into, into1}
 use Rattle.reading.specs.Inner.Table.{Table, table, put_row}
 use Rattle.reading.proofs.Tables.{puts-rows}
 use Rattle.bits.specs.declared.Cursor.{Cursor}
-use Rattle.bits.specs.declared.Refusal.{Refusal}
-use Rattle.bits.specs.declared.Field.{Field}
-use Rattle.bits.specs.declared.Field.TheVariants.{Value, Refused}
-use Rattle.bits.specs.declared.Step.{Step}
-use Rattle.bits.specs.declared.Step.TheVariants as S
+use Rattle.bits.specs.declared.refusal.Refusal.{Refusal}
 use Rattle.bits.specs.Inner.Cursors.{position, outcome, Wrote}
 use Rattle.bits.proofs.Answers.{value_is, refused_is}
 use Rattle.bits.proofs.Steps.{wrote_refused}
@@ -29,12 +26,12 @@ as_run (ok x) l i = ap (λ (t : Table). ok (t, x.1)) (puts-rows cell x.0 l i ∙
 as_run (bad z) l i = refl
 
 -- one partition
-module _ (lengths_of : ℕ → List ℕ) (c : Class) (s : List ℕ) (k : Cursor) (list : List ℕ) (at : ℕ) (r : Field) (p : outcome r ≡ class_value lengths_of c s (position k)) where
-  pub partition_cut : {z : Refusal} → r ≡ Refused z → (u : Table) → Wrote (into1 (put_row whole) (partition lengths_of c s (position k)) (table list at)) (S.Refused z) u
+module _ (lengths_of : ℕ → List ℕ) (c : Class) (s : List ℕ) (k : Cursor) (list : List ℕ) (at : ℕ) (r : Result (ℕ × Cursor) Refusal) (p : outcome r ≡ class_value lengths_of c s (position k)) where
+  pub partition_cut : {z : Refusal} → r ≡ Err z → (u : Table) → Wrote (into1 (put_row whole) (partition lengths_of c s (position k)) (table list at)) (Err z) u
   unfolding into1 mapped partition
   partition_cut q u = wrote_refused u (rw (refused_is p q))
 
-  pub partition_read : {v : ℕ} {k₁ : Cursor} → r ≡ Value v k₁ → {st : Step} {u : Table}
+  pub partition_read : {v : ℕ} {k₁ : Cursor} → r ≡ Ok (v, k₁) → {st : Result Cursor Refusal} {u : Table}
       → Wrote (into (put_row cell) (each (value lengths_of) (chosen c v c.dimensions) s (position k₁)) (table list at)) st u
       → Wrote (into1 (put_row whole) (partition lengths_of c s (position k)) (table list at)) st u
   unfolding partition

@@ -9,8 +9,8 @@ class_subclasses-requires c = (c.requires.floor_few, c.requires.class_few)
 pub returns-then-class_subclasses-eq0 : goal.returns-then-class_subclasses-eq0
 returns-then-class_subclasses-eq0 c = search (rules, class_none)
 
-pub class_master-requires : goal.class_master-requires
-class_master-requires c = (c.requires.floor_few, c.requires.class_few)
+pub class_master-master-requires : goal.class_master-master-requires
+class_master-master-requires c = (c.requires.floor_few, c.requires.class_few)
 
 pub overflow_sub-master : goal.overflow_sub-master
 overflow_sub-master c = search (rules, master_low)
@@ -19,4 +19,4 @@ pub read_entry-requires : goal.read_entry-requires
 read_entry-requires c = search (rules, master_stored)
 
 pub returns : goal.returns
-returns c = class_read c.requires c.class_subclasses.ensures c.if-class_subclasses-eq0.false c.class_master.ensures c.u32_from_u16-master.ensures _ _ _ c.read_entry.ensures.result_value
+returns c = class_read c.requires c.class_subclasses.ensures c.if-class_subclasses-eq0.false c.class_master-master.ensures _ _ _ c.read_entry.ensures.result_value
