@@ -10,7 +10,7 @@ use mathlib.Core.Logic.{◌↔◌, ⊎_elim}
 use mathlib.Core.Path.{◌≡◌, refl, sym, ap, subst, ◌∙◌}
 use lib.Dec.{leb}
 use lib.ListN.{length, get_or, take, drop, replicate, length-drop, length-replicate, take-append-drop}
-use lib.Seq.{drop-cons, drop-drop, take_all, length-take-le}
+use lib.Seq.{get_or-take, drop-cons, drop-drop, take_all, length-take-le}
 use Rattle.reading.specs.Lists.{rows}
 use Rattle.reading.specs.Pad.{pad}
 use Rattle.reading.specs.Encoding.{Zeros, Each, RowOf, Encodes}
@@ -66,20 +66,23 @@ module _ (submaps n : ℕ) (cells : List ℕ) where
   numbers_start h = record { within = omega arith; room = h; left = rows_start multiplex_row (ValidMultiplex submaps) 1 multiplex_wide n cells }
 
   module _ (i : ℕ) (f : Numbers submaps n cells i) where
-    module _ (h : i < n) {r : Bool} (said : (r ≡ true) ↔ RowOf multiplex_row (ValidMultiplex submaps) (get_or cells i 0 ∷ [])) where
-      single : take 1 (drop (1 * i) cells) ≡ get_or cells i 0 ∷ []
-      single = let g = f.room in let l : i < length cells = omega arith in ap (λ (k : ℕ). take 1 (drop k cells)) (one-mul i) ∙ ap (take 1) (drop-cons cells i 0 l)
+    module _ (h : i < n) {r : Bool} (said : (r ≡ true) ↔ RowOf multiplex_row (ValidMultiplex submaps) (get_or (take n cells) i 0 ∷ [])) where
+      single : take 1 (drop (1 * i) cells) ≡ get_or (take n cells) i 0 ∷ []
+      single =
+          let g = f.room in
+          let l : i < length cells = omega arith in
+          ap (λ (k : ℕ). take 1 (drop k cells)) (one-mul i) ∙ ap (take 1) (drop-cons cells i 0 l) ∙ ap (λ (v : ℕ). v ∷ []) (sym (get_or-take n cells i 0 h))
 
-      pub numbers_stop : not r ≡ true → (false ≡ true) ↔ Encodes multiplex_row (ValidMultiplex submaps) n cells
-      numbers_stop e = rows_stop multiplex_row (ValidMultiplex submaps) 1 multiplex_wide n cells i f.left h (λ x. not_said said (not-true r e) (subst (RowOf multiplex_row (ValidMultiplex submaps)) single x))
+      pub numbers_stop : r ≡ false → (false ≡ true) ↔ Encodes multiplex_row (ValidMultiplex submaps) n cells
+      numbers_stop e = rows_stop multiplex_row (ValidMultiplex submaps) 1 multiplex_wide n cells i f.left h (λ x. not_said said e (subst (RowOf multiplex_row (ValidMultiplex submaps)) single x))
 
-      pub numbers_next : not r ≡ false → Numbers submaps n cells (i + 1)
+      pub numbers_next : r ≡ true → Numbers submaps n cells (i + 1)
       numbers_next e =
           let g = f.room in
           record {
             within = omega arith;
             room = f.room;
-            left = rows_next multiplex_row (ValidMultiplex submaps) 1 multiplex_wide n cells i f.left h (omega arith) (subst (RowOf multiplex_row (ValidMultiplex submaps)) (sym single) (said.0 (not-false r e)));
+            left = rows_next multiplex_row (ValidMultiplex submaps) 1 multiplex_wide n cells i f.left h (omega arith) (subst (RowOf multiplex_row (ValidMultiplex submaps)) (sym single) (said.0 e));
           }
 
     pub numbers_end : n ≤ i → {r : Bool} → (r ≡ true) ↔ Zeros (drop n cells) → (r ≡ true) ↔ Encodes multiplex_row (ValidMultiplex submaps) n cells
@@ -87,8 +90,6 @@ module _ (submaps n : ℕ) (cells : List ℕ) where
         let s = rows_end multiplex_row (ValidMultiplex submaps) 1 multiplex_wide n cells i f.left f.within h in
         let e : drop (1 * n) cells ≡ drop n cells = ap (λ (k : ℕ). drop k cells) (one-mul n) in
         ((λ a. s.1 (subst Zeros (sym e) (said.0 a))), (λ b. said.1 (subst Zeros e (s.0 b))))
-
-pub ruleset multiplex_recognise_laws = (rules, numbers_short, numbers_start, numbers_stop, numbers_next, numbers_end)
 
 -- how many multiplex numbers there are
 module _ (submaps channels : ℕ) where

@@ -46,8 +46,8 @@ fn are_multiplexes(part: &[u8], count: usize, submaps: u8) -> bool
     if part.len() < count {
         return false;
     }
-    for i in 0..count {
-        if !is_multiplex(part[i], submaps) {
+    for number in &part[..count] {
+        if !is_multiplex(*number, submaps) {
             return false;
         }
     }
