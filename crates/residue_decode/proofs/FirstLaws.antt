@@ -1,4 +1,5 @@
 -- Laws of pass 0, chunk by chunk, as the code asks them. Assumes nothing.
+use Rattle.std.specs.Prelude.{Result, Ok, Err}
 use Prim.Native.Nat.{ℕ, ◌+◌, ◌-◌, ◌*◌, ◌/◌, ◌≤◌, ◌<◌}
 use native.Mathlib.Omega.{arith}
 use borrow.Author.Rules.{rules}
@@ -17,11 +18,10 @@ use Rattle.requests.proofs.Laws.{run_bind}
 use Rattle.residue_requests.specs.Inner.Unplaced.{flat_first_pass}
 use Rattle.residue_requests.proofs.FirstPassLaws.{classes_before, whole_words}
 use Rattle.codeword_list.specs.declared.Progress.{Progress}
-use Rattle.codeword_list.specs.declared.ListRead.{ListRead}
-use Rattle.codeword_list.specs.declared.ListRead.TheVariants.{Whole, Cut, Full}
+use Rattle.codeword_list.specs.declared.Stop.{Stop}
 use Rattle.codeword_list.specs.Inner.ListRead.{ReadIntoList}
 use Rattle.codeword_list.specs.Inner.WordsRun.{words_run}
-use Rattle.codeword_list.proofs.Laws.{ReadSoFar, sofar_start, sofar_next, sofar_last, sofar_fits, joined_cut, joined_full, read_nothing, read_length}
+use Rattle.codeword_list.proofs.Laws.{ReadSoFar, sofar_start, sofar_next, sofar_last, sofar_fits, joined_stop, read_nothing, read_length}
 use Rattle.residue_pass.specs.Inner.Readable.{residue_by, PassReadable}
 use Rattle.residue_pass.specs.Inner.PassRuns.{first_pass_run}
 use Rattle.residue_decode.specs.Inner.Parts.{Chunk}
@@ -76,11 +76,11 @@ module _ {s books lengths codewords plans : List ℕ} {n : ℕ} {h : Head} {live
     pub first_digits : 1 ≤ digits
     first_digits = let x = g.readable.digits_are in let y = g.readable.readable.class_dimensions in omega arith
 
-    pub first_done : left ≤ 0 → ReadIntoList (first_pass_run books lengths plans n h live partitions 0 [] s (position from.at)) entered from.count (Whole next) out
+    pub first_done : left ≤ 0 → ReadIntoList (first_pass_run books lengths plans n h live partitions 0 [] s (position from.at)) entered from.count (Ok next) out
     unfolding flat_first_pass run
     first_done z = let y : left ≡ 0 = omega arith in sofar_last (rw y at g.sofar) (read_nothing refl first_fits refl)
 
-    module _ {c : ℕ} (x : Chunk digits left c) {r : ListRead} {exit : List ℕ}
+    module _ {c : ℕ} (x : Chunk digits left c) {r : Result Progress Stop} {exit : List ℕ}
         (w : ReadIntoList (first_pass_run books lengths plans n h live c 0 [] s (position next.at)) out next.count r exit) where
       abbrev after_chunk : List ℕ → ℕ → Run (List ℕ)
       after_chunk cs m = words_run books lengths (flat_first_pass (dimensions_in books) (residue_by h plans n) live (left - c) 0 [] (g.acc ++ cs)) s m
@@ -94,16 +94,13 @@ module _ {s books lengths codewords plans : List ℕ} {n : ℕ} {h : Head} {live
           ap (λ (t : Requests (List ℕ)). words_run books lengths t s (position next.at)) y
           ∙ run_bind (read (lengths_in books lengths)) s (flat_first_pass (dimensions_in books) (residue_by h plans n) live c 0 [] []) (λ cs. flat_first_pass (dimensions_in books) (residue_by h plans n) live (left - c) 0 [] (g.acc ++ cs)) (position next.at)
 
-      pub chunk_cut : {m : Progress} → r ≡ Cut m
-          → ReadIntoList (first_pass_run books lengths plans n h live partitions 0 [] s (position from.at)) entered from.count (Cut m) exit
-      chunk_cut q = sofar_last (rw chunk_joined at g.sofar) (joined_cut after_chunk w q)
+      pub chunk_stop : {e : Stop} → r ≡ Err e
+          → ReadIntoList (first_pass_run books lengths plans n h live partitions 0 [] s (position from.at)) entered from.count (Err e) exit
+      chunk_stop q = sofar_last (rw chunk_joined at g.sofar) (joined_stop after_chunk w _ q)
 
-      pub chunk_full : r ≡ Full → ReadIntoList (first_pass_run books lengths plans n h live partitions 0 [] s (position from.at)) entered from.count Full exit
-      chunk_full q = sofar_last (rw chunk_joined at g.sofar) (joined_full after_chunk w q)
-
-      pub chunk_next : {m : Progress} → r ≡ Whole m → FirstLeft s books lengths codewords plans n h live digits top partitions entered from exit m (left - c)
+      pub chunk_next : {m : Progress} → r ≡ Ok m → FirstLeft s books lengths codewords plans n h live digits top partitions entered from exit m (left - c)
       chunk_next q =
           let y = sofar_next g.sofar after_chunk chunk_joined w q in
           record { readable = g.readable; long = read_length w ∙ g.long; acc = g.acc ++ y.0; sofar = y.2 }
 
-pub ruleset asked = (rules, chunk_all, chunk_part, first_start, first_fits, first_digits, first_done, chunk_cut, chunk_full, chunk_next)
+pub ruleset asked = (rules, chunk_all, chunk_part, first_start, first_fits, first_digits, first_done, chunk_stop, chunk_next)

@@ -1,5 +1,6 @@
 -- Laws of a later pass, as the code asks them: the next class word, a group of classes found again, and the pass. Assumes nothing.
-use Prim.Native.Nat.{ℕ, zero, suc, ◌+◌, ◌-◌, ◌%◌, ◌≤◌, ◌<◌, min}
+use Rattle.std.specs.Prelude.{Result, Ok, Err}
+use Prim.Native.Nat.{ℕ, zero, suc, ◌+◌, ◌-◌, ◌%◌, ◌≤◌, ◌<◌, min, max}
 use native.Mathlib.Omega.{arith}
 use borrow.Author.Rules.{rules}
 use borrow.Author.Tests.{eq-eqb, ne_eqb}
@@ -21,11 +22,10 @@ use Rattle.residue_requests.specs.Inner.Again.{odd_front, entries_from, next_cla
 use Rattle.residue_requests.proofs.AgainLaws.{numbers, next_same, entries_same}
 use Rattle.residue_requests.proofs.PassLaws.{partitions_append}
 use Rattle.codeword_list.specs.declared.Progress.{Progress}
-use Rattle.codeword_list.specs.declared.ListRead.{ListRead}
-use Rattle.codeword_list.specs.declared.ListRead.TheVariants.{Whole, Cut, Full}
+use Rattle.codeword_list.specs.declared.Stop.{Stop}
 use Rattle.codeword_list.specs.Inner.ListRead.{ReadIntoList}
 use Rattle.codeword_list.specs.Inner.WordsRun.{words_run}
-use Rattle.codeword_list.proofs.Laws.{ReadSoFar, sofar_start, sofar_next, sofar_last, sofar_fits, joined_cut, joined_full, read_nothing, read_length}
+use Rattle.codeword_list.proofs.Laws.{ReadSoFar, sofar_start, sofar_next, sofar_last, sofar_fits, joined_stop, read_nothing, read_length}
 use Rattle.residue_pass.specs.Inner.Readable.{residue_by, group_classes, ResidueReadable, PassReadable}
 use Rattle.residue_pass.proofs.PartitionLaws.{get_before}
 use Rattle.residue_pass.specs.Inner.PassRuns.{partitions_run}
@@ -53,20 +53,26 @@ module _ (l : List ℕ) (at : ℕ) where
   next_end h = rw (drop_of_length-le l h) (omega arith)
 
 pub record Seeking (l : List ℕ) (from at : ℕ) : Type 0 where
+  pub low : from ≤ at
+  pub within : at ≤ max from (length l)
   pub same : next_class l from ≡ next_class l at
 
 pub seek_start : {l : List ℕ} {from : ℕ} → Seeking l from from
-seek_start = record { same = refl }
+seek_start = record { low = omega arith; within = omega arith; same = refl }
 
 module _ {l : List ℕ} {from at : ℕ} (s : Seeking l from at) where
   pub seek_found : at < length l → get_or l at 0 % 2 ≡ 0 → at ≡ next_class l from
   seek_found h e = sym (s.same ∙ next_here l at h e)
 
   pub seek_next : at < length l → (get_or l at 0 % 2 ≡ 0 → ⊥) → Seeking l from (at + 1)
-  seek_next h n = record { same = s.same ∙ next_later l at h n }
+  seek_next h n = record { low = let w = s.low in omega arith; within = omega arith; same = s.same ∙ next_later l at h n }
 
-  pub seek_end : length l ≤ at → at ≡ next_class l from
-  seek_end h = sym (s.same ∙ next_end l at h)
+  pub seek_end : length l ≤ at → max from (length l) ≡ next_class l from
+  seek_end h =
+      let a = s.low in
+      let b = s.within in
+      let e : max from (length l) ≡ at = omega arith in
+      e ∙ sym (s.same ∙ next_end l at h)
 
 -- A GROUP OF CLASSES, FOUND AGAIN
 module _ (d : ℕ) (r : Residue) (live : ℕ) (l : List ℕ) where
@@ -165,7 +171,7 @@ module _ {s books lengths codewords plans : List ℕ} {n : ℕ} {h : Head} {star
     later_readable = g.readable.readable
 
     pub later_done : left ≤ 0
-        → ReadIntoList (partitions_run books lengths plans n h pass (classes_in plans n h digits live entered partitions start) s (position from.at)) entered from.count (Whole next) out
+        → ReadIntoList (partitions_run books lengths plans n h pass (classes_in plans n h digits live entered partitions start) s (position from.at)) entered from.count (Ok next) out
     unfolding flat_partitions again run
     later_done z = let y : left ≡ 0 = omega arith in sofar_last (rw y at g.sofar) (read_nothing refl later_fits refl)
 
@@ -196,7 +202,7 @@ module _ {s books lengths codewords plans : List ℕ} {n : ℕ} {h : Head} {star
           let f : entries_from out at live ≡ entries_from entered (next_class entered place) live = ap (λ (i : ℕ). entries_from out i live) at_is ∙ words in
           rw (f, at_is) (again_group digits (residue_by h plans n) live entered rows left place digits_some more e)
 
-      module _ {r : ListRead} {exit : List ℕ}
+      module _ {r : Result Progress Stop} {exit : List ℕ}
           (x : ReadIntoList (partitions_run books lengths plans n h pass (group_classes (residue_by h plans n) digits (entries_from out at live) rows) s (position next.at)) out next.count r exit) where
         abbrev following : Unit {0} → ℕ → Run (Unit {0})
         following _ m = partitions_run books lengths plans n h pass (classes_in plans n h digits live entered (left - rows) (at + live)) s m
@@ -210,15 +216,11 @@ module _ {s books lengths codewords plans : List ℕ} {n : ℕ} {h : Head} {star
             ∙ ap (λ (t : Requests (Unit {0})). words_run books lengths t s (position next.at)) (partitions_append (dimensions_in books) (residue_by h plans n) pass these rest)
             ∙ run_bind (read (lengths_in books lengths)) s (flat_partitions (dimensions_in books) (residue_by h plans n) pass these) (λ _. flat_partitions (dimensions_in books) (residue_by h plans n) pass rest) (position next.at)
 
-        pub later_cut : {m : Progress} → r ≡ Cut m
-            → ReadIntoList (partitions_run books lengths plans n h pass (classes_in plans n h digits live entered partitions start) s (position from.at)) entered from.count (Cut m) exit
-        later_cut q = sofar_last (rw later_joined at g.sofar) (joined_cut following x q)
+        pub later_stop : {e : Stop} → r ≡ Err e
+            → ReadIntoList (partitions_run books lengths plans n h pass (classes_in plans n h digits live entered partitions start) s (position from.at)) entered from.count (Err e) exit
+        later_stop q = sofar_last (rw later_joined at g.sofar) (joined_stop following x _ q)
 
-        pub later_full : r ≡ Full
-            → ReadIntoList (partitions_run books lengths plans n h pass (classes_in plans n h digits live entered partitions start) s (position from.at)) entered from.count Full exit
-        later_full q = sofar_last (rw later_joined at g.sofar) (joined_full following x q)
-
-        pub later_next : {m : Progress} → r ≡ Whole m
+        pub later_next : {m : Progress} → r ≡ Ok m
             → LaterLeft s books lengths codewords plans n h start live digits top partitions pass entered from exit m (at + live) (left - rows)
         later_next q =
             let y = sofar_next g.sofar following later_joined x q in
@@ -226,4 +228,4 @@ module _ {s books lengths codewords plans : List ℕ} {n : ℕ} {h : Head} {star
 
 pub ruleset seeking = (rules, seek_start, seek_found, seek_next, seek_end)
 
-pub ruleset asked = (rules, later_start, later_fits, later_readable, later_done, later_there, later_cut, later_full, later_next)
+pub ruleset asked = (rules, later_start, later_fits, later_readable, later_done, later_there, later_stop, later_next)

@@ -1,4 +1,5 @@
 -- Laws of the later passes and of a whole residue, as the code asks them. Assumes nothing.
+use Rattle.std.specs.Prelude.{Result, Ok, Err}
 use Prim.Native.Nat.{ℕ, zero, suc, ◌+◌, ◌-◌, ◌≤◌, ◌<◌}
 use native.Mathlib.Omega.{arith}
 use borrow.Author.Rules.{rules}
@@ -21,10 +22,9 @@ use Rattle.residue_requests.proofs.AgainLaws.{numbers, numbers_long, ListedFrom,
 use Rattle.residue_requests.proofs.FirstPassLaws.{no_vectors}
 use Rattle.residue_requests.proofs.PassLaws.{bookless_passes}
 use Rattle.codeword_list.specs.declared.Progress.{Progress}
-use Rattle.codeword_list.specs.declared.ListRead.{ListRead}
-use Rattle.codeword_list.specs.declared.ListRead.TheVariants.{Whole, Cut, Full}
+use Rattle.codeword_list.specs.declared.Stop.{Stop}
 use Rattle.codeword_list.specs.Inner.ListRead.{ReadIntoList}
-use Rattle.codeword_list.proofs.Laws.{ReadSoFar, sofar_start, sofar_next, sofar_last, sofar_fits, joined_cut, joined_full, read_nothing, read_length, read_whole}
+use Rattle.codeword_list.proofs.Laws.{ReadSoFar, sofar_start, sofar_next, sofar_last, sofar_fits, joined_stop, read_nothing, read_length, read_whole}
 use Rattle.residue_pass.specs.Inner.Readable.{residue_by, PassReadable}
 use Rattle.residue_pass.proofs.PartitionLaws.{get_before}
 use Rattle.residue_pass.specs.Inner.PassRuns.{partitions_run, first_pass_run}
@@ -37,10 +37,6 @@ unfolding ClassWordsBefore
 before_further d live e f l zero unused at h x = tt
 before_further d live e f l (suc left) (suc unused) at h x = before_further d live e f l left unused at h x
 before_further d live e f l (suc left) zero at h x = let y = x.0 in (omega arith, before_further d live e f l left (d - 1) (next_class l at + live) h x.1)
-
-pub classes_few : {books lengths codewords plans : List ℕ} {n : ℕ} {h : Head} {digits top classes : ℕ} → PassReadable books lengths codewords plans n h digits top
-    → classes ≡ h.classifications → classes ≤ 64
-classes_few l e = let x = l.readable.classes_high in omega arith
 
 -- passes from `pass` on are left, of which those after `last` have no book
 pub record PassesLeft (s books lengths codewords plans : List ℕ) (n : ℕ) (h : Head) (start live digits top partitions last : ℕ) (entered : List ℕ) (from : Progress) (out : List ℕ)
@@ -56,11 +52,11 @@ pub record PassesLeft (s books lengths codewords plans : List ℕ) (n : ℕ) (h 
       out next.count
 
 module _ {s books lengths codewords plans : List ℕ} {n : ℕ} {h : Head} {start live digits top partitions last : ℕ} {entered : List ℕ} {from : Progress} where
-  pub passes_start : {classes : ℕ} → classes ≡ h.classifications → LastPass plans n classes last → PassReadable books lengths codewords plans n h digits top → 1 ≤ live
+  pub passes_start : LastPass plans n h.classifications last → PassReadable books lengths codewords plans n h digits top → 1 ≤ live
       → from.count ≤ length entered → ClassWordsBefore digits live from.count entered partitions 0 start
       → PassesLeft s books lengths codewords plans n h start live digits top partitions last entered from entered from 1
-  passes_start e p l o r d =
-      record { readable = l; last_is = rw e at p; within = (omega arith, omega arith); live_some = o; long = refl; class_words_is = d; sofar = sofar_start r }
+  passes_start p l o r d =
+      record { readable = l; last_is = p; within = (omega arith, omega arith); live_some = o; long = refl; class_words_is = d; sofar = sofar_start r }
 
   module _ {out : List ℕ} {next : Progress} {pass : ℕ} (g : PassesLeft s books lengths codewords plans n h start live digits top partitions last entered from out next pass) where
     pub passes_fits : next.count ≤ length out
@@ -76,7 +72,7 @@ module _ {s books lengths codewords plans : List ℕ} {n : ℕ} {h : Head} {star
         before_further digits live from.count next.count out partitions 0 start (omega arith) same
 
     pub passes_done : last < pass
-        → ReadIntoList (later_passes_run books lengths plans n h 1 7 (classes_in plans n h digits live entered partitions start) s (position from.at)) entered from.count (Whole next) out
+        → ReadIntoList (later_passes_run books lengths plans n h 1 7 (classes_in plans n h digits live entered partitions start) s (position from.at)) entered from.count (Ok next) out
     unfolding run
     passes_done z =
         let most = g.within.1 in
@@ -88,7 +84,7 @@ module _ {s books lengths codewords plans : List ℕ} {n : ℕ} {h : Head} {star
     pub passes_few : pass ≤ last → pass < 8
     passes_few z = let w = g.last_is.within in omega arith
 
-    module _ (more : pass ≤ last) {r : ListRead} {exit : List ℕ}
+    module _ (more : pass ≤ last) {r : Result Progress Stop} {exit : List ℕ}
         (x : ReadIntoList (partitions_run books lengths plans n h pass (classes_in plans n h digits live out partitions start) s (position next.at)) out next.count r exit) where
       abbrev after_pass : Unit {0} → ℕ → Run (Unit {0})
       after_pass _ m =
@@ -107,15 +103,11 @@ module _ {s books lengths codewords plans : List ℕ} {n : ℕ} {h : Head} {star
           (run_bind (read (lengths_in books lengths)) s (flat_partitions (dimensions_in books) (residue_by h plans n) pass classes)
           (λ _. flat_later_passes (dimensions_in books) (residue_by h plans n) (pass + 1) (8 - (pass + 1)) classes) (position next.at))
 
-      pub passes_cut : {m : Progress} → r ≡ Cut m
-          → ReadIntoList (later_passes_run books lengths plans n h 1 7 (classes_in plans n h digits live entered partitions start) s (position from.at)) entered from.count (Cut m) exit
-      passes_cut q = sofar_last (rw passes_joined at g.sofar) (joined_cut after_pass x q)
+      pub passes_stop : {e : Stop} → r ≡ Err e
+          → ReadIntoList (later_passes_run books lengths plans n h 1 7 (classes_in plans n h digits live entered partitions start) s (position from.at)) entered from.count (Err e) exit
+      passes_stop q = sofar_last (rw passes_joined at g.sofar) (joined_stop after_pass x _ q)
 
-      pub passes_full : r ≡ Full
-          → ReadIntoList (later_passes_run books lengths plans n h 1 7 (classes_in plans n h digits live entered partitions start) s (position from.at)) entered from.count Full exit
-      passes_full q = sofar_last (rw passes_joined at g.sofar) (joined_full after_pass x q)
-
-      pub passes_next : {m : Progress} → r ≡ Whole m → PassesLeft s books lengths codewords plans n h start live digits top partitions last entered from exit m (pass + 1)
+      pub passes_next : {m : Progress} → r ≡ Ok m → PassesLeft s books lengths codewords plans n h start live digits top partitions last entered from exit m (pass + 1)
       passes_next q =
           let y = sofar_next g.sofar after_pass passes_joined x q in
           let few = passes_few more in
@@ -131,7 +123,7 @@ module _ {s books lengths codewords plans : List ℕ} {n : ℕ} {h : Head} {star
 
 -- THE WHOLE RESIDUE
 -- the codewords that were read last stand last in the list
-listed_last : {A : Type 0} (h : Run A) (out : List ℕ) (c : ℕ) {r : ListRead} {exit : List ℕ} {m : Progress} → ReadIntoList h out c r exit → r ≡ Whole m
+listed_last : {A : Type 0} (h : Run A) (out : List ℕ) (c : ℕ) {r : Result Progress Stop} {exit : List ℕ} {m : Progress} → ReadIntoList h out c r exit → r ≡ Ok m
     → (drop c exit ≡ numbers h.items ++ drop (c + length (numbers h.items)) out) × (c + length h.items ≡ m.count)
 listed_last h out c {exit = exit} {m = m} w q =
     let x = read_whole q w.ending in
@@ -150,20 +142,17 @@ module _ {books lengths codewords plans : List ℕ} {n : ℕ} {h : Head} {digits
   residue_joined =
       run_bind (read (lengths_in books lengths)) s (flat_first_pass (dimensions_in books) (residue_by h plans n) live partitions 0 [] []) (λ cs. flat_later_passes (dimensions_in books) (residue_by h plans n) 1 7 cs) (position from.at)
 
-  pub residue_none : live ≡ 0 → ReadIntoList (residue_run books lengths plans n h live partitions s (position from.at)) out from.count (Whole from) out
+  pub residue_none : live ≡ 0 → ReadIntoList (residue_run books lengths plans n h live partitions s (position from.at)) out from.count (Ok from) out
   unfolding run
   residue_none z = rw (z, no_vectors (dimensions_in books) (residue_by h plans n) partitions) (read_nothing refl room refl)
 
-  module _ {r : ListRead} {exit : List ℕ}
+  module _ {r : Result Progress Stop} {exit : List ℕ}
       (x : ReadIntoList (first_pass_run books lengths plans n h live partitions 0 [] s (position from.at)) out from.count r exit) where
-    pub residue_cut : {m : Progress} → r ≡ Cut m
-        → ReadIntoList (residue_run books lengths plans n h live partitions s (position from.at)) out from.count (Cut m) exit
-    residue_cut q = rw residue_joined (joined_cut (λ cs m. later_passes_run books lengths plans n h 1 7 cs s m) x q)
+    pub residue_stop : {e : Stop} → r ≡ Err e
+        → ReadIntoList (residue_run books lengths plans n h live partitions s (position from.at)) out from.count (Err e) exit
+    residue_stop q = rw residue_joined (joined_stop (λ cs m. later_passes_run books lengths plans n h 1 7 cs s m) x _ q)
 
-    pub residue_full : r ≡ Full → ReadIntoList (residue_run books lengths plans n h live partitions s (position from.at)) out from.count Full exit
-    residue_full q = rw residue_joined (joined_full (λ cs m. later_passes_run books lengths plans n h 1 7 cs s m) x q)
-
-    module _ (more : live ≡ 0 → ⊥) {m : Progress} (q : r ≡ Whole m) where
+    module _ (more : live ≡ 0 → ⊥) {m : Progress} (q : r ≡ Ok m) where
       abbrev first : ℕ → Run (List ℕ)
       first live = first_pass_run books lengths plans n h live partitions 0 [] s (position from.at)
 
@@ -194,11 +183,11 @@ module _ {books lengths codewords plans : List ℕ} {n : ℕ} {h : Head} {digits
       pub residue_class_words : ClassWordsBefore digits live m.count exit partitions 0 from.count
       residue_class_words = let y = read_whole q x.ending in (found_again y.value y.came).1
 
-      pub residue_then : {r₂ : ListRead} {exit₂ : List ℕ}
+      pub residue_then : {r₂ : Result Progress Stop} {exit₂ : List ℕ}
           → ReadIntoList (later_passes_run books lengths plans n h 1 7 (classes_in plans n h digits live exit partitions from.count) s (position m.at)) exit m.count r₂ exit₂
           → ReadIntoList (residue_run books lengths plans n h live partitions s (position from.at)) out from.count r₂ exit₂
       residue_then w =
           let y = sofar_next (sofar_start room) (λ cs m. later_passes_run books lengths plans n h 1 7 cs s m) residue_joined x q in
           sofar_last y.2 (rw (found_again y.0 y.1).0 w)
 
-pub ruleset passed = (rules, classes_few, passes_start, passes_fits, passes_class_words, passes_few, passes_done, passes_cut, passes_full, passes_next)
+pub ruleset passed = (rules, passes_start, passes_fits, passes_class_words, passes_few, passes_done, passes_stop, passes_next)

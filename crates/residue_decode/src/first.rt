@@ -6,7 +6,8 @@ ghost use Rattle.residue_pass.specs.Inner.Readable.{PassReadable};
 ghost use Rattle.residue_pass.specs.Inner.PassRuns.{first_pass_run};
 ghost use Rattle.residue_decode.specs.Inner.Parts.{Chunk};
 
-use codeword_list::{ListRead, Progress};
+use book_codeword::Codebooks;
+use codeword_list::{Progress, Stop};
 use residue::head::Head;
 
 // How many partitions the cycle takes at a time: all, or as many as 16 class words have digits. So it is never more than 32 groups deep, whatever the packet
@@ -32,34 +33,21 @@ pub fn first_pass(
     top: u32,
     partitions: u32,
     plans: &[u16],
-    books: &[u32],
-    lengths: &[u8],
-    codewords: &[u32],
+    codebooks: Codebooks,
     out: &mut [u32],
-) -> ListRead
-    requires { (from.count ≤ length out.old) × PassReadable books.now lengths.now codewords.now plans.now residue head digits top }
-    ensures { ReadIntoList (first_pass_run books.now lengths.now plans.now residue head live partitions 0 []
+) -> Result<Progress, Stop>
+    requires { (from.count ≤ length out.old) × PassReadable codebooks.books.now codebooks.lengths.now codebooks.codewords.now plans.now residue head digits top }
+    ensures { ReadIntoList (first_pass_run codebooks.entry.books.now codebooks.entry.lengths.now plans.now residue head live partitions 0 []
         packet.now (position from.at)) out.old from.count result out.new }
 {
     let mut next = from;
     let mut left = partitions;
     while 0 < left {
         let some = chunk(digits, left);
-        match residue_pass::cycle::class_word(
-            packet, next, head, residue, live, digits, top, some, plans, books, lengths, codewords,
-            out,
-        ) {
-            ListRead::Whole(progress) => {
-                next = progress;
-            }
-            ListRead::Cut(progress) => {
-                return ListRead::Cut(progress);
-            }
-            ListRead::Full => {
-                return ListRead::Full;
-            }
-        }
-        left = left - some;
+        next = residue_pass::cycle::class_word(
+            packet, next, head, residue, live, digits, top, some, plans, codebooks, out,
+        )?;
+        left -= some;
     }
-    ListRead::Whole(next)
+    Ok(next)
 }

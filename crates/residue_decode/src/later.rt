@@ -7,22 +7,20 @@ ghost use Rattle.residue_pass.specs.Inner.Readable.{PassReadable};
 ghost use Rattle.residue_pass.specs.Inner.PassRuns.{partitions_run};
 ghost use Rattle.residue_decode.specs.Inner.Parts.{classes_in};
 
-use codeword_list::{ListRead, Progress};
-use reading::lower::lower_u32;
+use book_codeword::Codebooks;
+use codeword_list::{Progress, Stop};
 use residue::head::Head;
 
 // The place of the next class word in the list, from a place on: every other codeword is odd.
 pub fn next_class(list: &[u32], from: usize) -> usize
     ensures { result ≡ next_class list.now from }
 {
-    let mut at = from;
-    while at < list.len() {
+    for at in from..list.len() {
         if list[at] % 2 == 0 {
             return at;
         }
-        at = at + 1;
     }
-    at
+    from.max(list.len())
 }
 
 // A pass over so many partitions of each vector, whose class words stand in the list from place `start` on.
@@ -38,14 +36,12 @@ pub fn later_pass(
     partitions: u32,
     pass: u32,
     plans: &[u16],
-    books: &[u32],
-    lengths: &[u8],
-    codewords: &[u32],
+    codebooks: Codebooks,
     out: &mut [u32],
-) -> ListRead
-    requires { (from.count ≤ length out.old) × PassReadable books.now lengths.now codewords.now plans.now residue head digits top
+) -> Result<Progress, Stop>
+    requires { (from.count ≤ length out.old) × PassReadable codebooks.books.now codebooks.lengths.now codebooks.codewords.now plans.now residue head digits top
         × (pass < 8) × (1 ≤ live) × ClassWordsBefore digits live from.count out.old partitions 0 start }
-    ensures { ReadIntoList (partitions_run books.now lengths.now plans.now residue head pass
+    ensures { ReadIntoList (partitions_run codebooks.entry.books.now codebooks.entry.lengths.now plans.now residue head pass
         (classes_in plans.now residue head digits live out.old partitions start)
         packet.now (position from.at)) out.old from.count result out.new }
 {
@@ -54,24 +50,12 @@ pub fn later_pass(
     let mut left = partitions;
     while 0 < left {
         let at = next_class(out, place);
-        let rows = lower_u32(digits, left);
-        let after = at + live;
-        match residue_pass::partition::read_rows(
-            packet, next, head, residue, at, live, digits, top, rows, pass, plans, books, lengths,
-            codewords, out,
-        ) {
-            ListRead::Whole(progress) => {
-                next = progress;
-            }
-            ListRead::Cut(progress) => {
-                return ListRead::Cut(progress);
-            }
-            ListRead::Full => {
-                return ListRead::Full;
-            }
-        }
-        place = after;
-        left = left - rows;
+        let rows = digits.min(left);
+        next = residue_pass::partition::read_rows(
+            packet, next, head, residue, at, live, digits, top, rows, pass, plans, codebooks, out,
+        )?;
+        place = at + live;
+        left -= rows;
     }
-    ListRead::Whole(next)
+    Ok(next)
 }

@@ -6,7 +6,8 @@ ghost use Rattle.codeword_list.specs.Inner.ListRead.{ReadIntoList};
 ghost use Rattle.residue_pass.specs.Inner.Readable.{PassReadable};
 ghost use Rattle.residue_decode.specs.Inner.Parts.{later_passes_run, residue_run, classes_in};
 
-use codeword_list::{ListRead, Progress};
+use book_codeword::Codebooks;
+use codeword_list::{Progress, Stop};
 use residue::head::Head;
 
 // Passes 1 to 7, as far as there is a book.
@@ -21,39 +22,24 @@ pub fn later_passes(
     top: u32,
     partitions: u32,
     plans: &[u16],
-    books: &[u32],
-    lengths: &[u8],
-    codewords: &[u32],
+    codebooks: Codebooks,
     out: &mut [u32],
-) -> ListRead
-    requires { (from.count ≤ length out.old) × PassReadable books.now lengths.now codewords.now plans.now residue head digits top
+) -> Result<Progress, Stop>
+    requires { (from.count ≤ length out.old) × PassReadable codebooks.books.now codebooks.lengths.now codebooks.codewords.now plans.now residue head digits top
         × (1 ≤ live) × ClassWordsBefore digits live from.count out.old partitions 0 start }
-    ensures { ReadIntoList (later_passes_run books.now lengths.now plans.now residue head 1 7
+    ensures { ReadIntoList (later_passes_run codebooks.entry.books.now codebooks.entry.lengths.now plans.now residue head 1 7
         (classes_in plans.now residue head digits live out.old partitions start)
         packet.now (position from.at)) out.old from.count result out.new }
 {
-    let classes = head.classifications;
-    let last = super::last::last_pass(plans, residue, classes);
+    let last = super::last::last_pass(plans, residue, head.classifications);
     let mut next = from;
-    let mut pass: u32 = 1;
-    while pass <= last {
-        match super::later::later_pass(
-            packet, next, head, residue, start, live, digits, top, partitions, pass, plans, books,
-            lengths, codewords, out,
-        ) {
-            ListRead::Whole(progress) => {
-                next = progress;
-            }
-            ListRead::Cut(progress) => {
-                return ListRead::Cut(progress);
-            }
-            ListRead::Full => {
-                return ListRead::Full;
-            }
-        }
-        pass = pass + 1;
+    for pass in 1..=last {
+        next = super::later::later_pass(
+            packet, next, head, residue, start, live, digits, top, partitions, pass, plans,
+            codebooks, out,
+        )?;
     }
-    ListRead::Whole(next)
+    Ok(next)
 }
 
 // All codewords of a residue: of `live` vectors of so many partitions. `digits` is the dimensions of its class book, `top` what a class word's first digit is
@@ -68,28 +54,21 @@ pub fn read_residue(
     top: u32,
     partitions: u32,
     plans: &[u16],
-    books: &[u32],
-    lengths: &[u8],
-    codewords: &[u32],
+    codebooks: Codebooks,
     out: &mut [u32],
-) -> ListRead
-    requires { (from.count ≤ length out.old) × PassReadable books.now lengths.now codewords.now plans.now residue head digits top }
-    ensures { ReadIntoList (residue_run books.now lengths.now plans.now residue head live partitions
+) -> Result<Progress, Stop>
+    requires { (from.count ≤ length out.old) × PassReadable codebooks.books.now codebooks.lengths.now codebooks.codewords.now plans.now residue head digits top }
+    ensures { ReadIntoList (residue_run codebooks.entry.books.now codebooks.entry.lengths.now plans.now residue head live partitions
         packet.now (position from.at)) out.old from.count result out.new }
 {
     if live == 0 {
-        return ListRead::Whole(from);
+        return Ok(from);
     }
-    let start = from.count;
-    match super::first::first_pass(
-        packet, from, head, residue, live, digits, top, partitions, plans, books, lengths,
-        codewords, out,
-    ) {
-        ListRead::Whole(progress) => later_passes(
-            packet, progress, head, residue, start, live, digits, top, partitions, plans, books,
-            lengths, codewords, out,
-        ),
-        ListRead::Cut(progress) => ListRead::Cut(progress),
-        ListRead::Full => ListRead::Full,
-    }
+    let next = super::first::first_pass(
+        packet, from, head, residue, live, digits, top, partitions, plans, codebooks, out,
+    )?;
+    later_passes(
+        packet, next, head, residue, from.count, live, digits, top, partitions, plans, codebooks,
+        out,
+    )
 }

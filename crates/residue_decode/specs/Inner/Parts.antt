@@ -28,12 +28,6 @@ pub record Chunk (digits left r : ℕ) : Type 0 where
   pub low : r ≤ left
   pub whole : (r ≡ left) ⊎ (r ≡ 16 * digits)
 
--- the later of two passes, where the plan has a book for the second; the first where it has none
-pub record LaterOf (last place pass r : ℕ) : Type 0 where
-  pub kept : last ≤ r
-  pub found : (place ≡ 0 → ⊥) → pass ≤ r
-  pub within : last ≤ 7 → pass ≤ 7 → r ≤ 7
-
 -- no class has a book in a pass after `last`
 pub record LastPass (plans : List ℕ) (n classes last : ℕ) : Type 0 where
   pub within : last ≤ 7
