@@ -1,17 +1,18 @@
 -- Laws of recognising the rows of one residue, as the code asks them. Assumes nothing.
 use Prim.Native.Nat.{ℕ, zero, suc, ◌+◌, ◌-◌, ◌*◌, ◌^◌, ◌≤◌, ◌<◌}
 use native.Mathlib.Omega.{arith}
-use borrow.Author.Tests.{le-leb, lt-ltb, leb-true, ltb-true}
-use mathlib.Core.Bool.{Bool, true, false, not, ◌&&◌}
+use borrow.Author.Tests.{le-leb, lt-ltb}
+use mathlib.Core.Bool.{Bool, true, false, ◌&&◌}
 use mathlib.Core.List.{List, ◌++◌}
 use mathlib.Core.Logic.{◌↔◌}
 use mathlib.Core.Path.{◌≡◌, refl, sym, ap, subst, ◌∙◌}
 use lib.Dec.{leb}
 use lib.ListN.{length, take, drop, replicate, length-drop, length-replicate}
+use Rattle.std.proofs.lemmas.List.{take-take}
 use lib.Seq.{drop_at, take-add, length-take-le}
 use Rattle.reading.specs.Lists.{all, rows}
 use Rattle.reading.specs.Encoding.{Zeros}
-use Rattle.reading.proofs.Encodes.{iff_false, refuted, shown}
+use Rattle.reading.proofs.Encodes.{iff_false, not_said}
 use Rattle.reading.proofs.Least.{and_split}
 use Rattle.reading.proofs.Pads.{pad_nil}
 use Rattle.reading.proofs.Parts.{part_slice}
@@ -72,32 +73,8 @@ empty_fits : (books : Books) (size n : ℕ) → all (place_fits books size) (row
 unfolding place_fits
 empty_fits books size n = empty_all (place_fits books size) refl n
 
--- the fields before the plan, one law for each way out
+-- the fields before the plan
 module _ (count : ℕ) (t : List ℕ) (h : D.Head) where
-  pub type_over : 2 < h.kind → (false ≡ true) ↔ ValidHead (books_of count t) (head_of h)
-  type_over x = iff_false (λ v. let e = leb-true h.kind 2 v.valid.rule10 in omega arith)
-
-  pub begin_over : 2 ^ 24 ≤ h.begin → (false ≡ true) ↔ ValidHead (books_of count t) (head_of h)
-  begin_over x = iff_false (λ v. let e = v.valid.carried.begin in omega arith)
-
-  pub end_over : 2 ^ 24 ≤ h.end → (false ≡ true) ↔ ValidHead (books_of count t) (head_of h)
-  end_over x = iff_false (λ v. let e = v.valid.carried.end in omega arith)
-
-  pub size_none : h.size < 1 → (false ≡ true) ↔ ValidHead (books_of count t) (head_of h)
-  size_none x = iff_false (λ v. let e = v.valid.carried.size.low in omega arith)
-
-  pub size_over : 2 ^ 24 < h.size → (false ≡ true) ↔ ValidHead (books_of count t) (head_of h)
-  size_over x = iff_false (λ v. let e = v.valid.carried.size.high in omega arith)
-
-  pub classes_none : h.classifications < 1 → (false ≡ true) ↔ ValidHead (books_of count t) (head_of h)
-  classes_none x = iff_false (λ v. let e = v.valid.carried.classifications.low in omega arith)
-
-  pub classes_over : 64 < h.classifications → (false ≡ true) ↔ ValidHead (books_of count t) (head_of h)
-  classes_over x = iff_false (λ v. let e = v.valid.carried.classifications.high in omega arith)
-
-  pub classbook_over : count ≤ h.classbook → (false ≡ true) ↔ ValidHead (books_of count t) (head_of h)
-  classbook_over x = iff_false (λ v. let e = ltb-true h.classbook count v.valid.rule11.classbook in omega arith)
-
   pub head_judged : h.kind ≤ 2 → h.begin < 2 ^ 24 → h.end < 2 ^ 24 → 1 ≤ h.size → h.size ≤ 2 ^ 24 → 1 ≤ h.classifications → h.classifications ≤ 64
       → h.classbook < count → {r : Bool} → r ≡ head_fits (books_of 0 t) (head_of h) → (r ≡ true) ↔ ValidHead (books_of count t) (head_of h)
   head_judged a b c d e f g i {r} p = (
@@ -219,37 +196,42 @@ module _ (count : ℕ) (t residues plans : List ℕ) (i : ℕ) (at : (i ≤ 63) 
       )
 
   module _ {rh : Bool} (head : (rh ≡ true) ↔ ValidHead (books_of count t) (head_of h)) where
-    pub head_fails : not rh ≡ true → (false ≡ true) ↔ ValidRows (books_of count t) (drop (6 * i) residues) (drop (plan_width * i) plans)
-    head_fails q = iff_false (λ w. refuted head q (parts.0 w).head)
+    pub head_fails : rh ≡ false → (false ≡ true) ↔ ValidRows (books_of count t) (drop (6 * i) residues) (drop (plan_width * i) plans)
+    head_fails q = iff_false (λ w. not_said head q (parts.0 w).head)
 
-    -- w and c are the residue's number and its classifications as the code has widened them
-    module _ {w c : ℕ} (ew : w ≡ i) (ec : c ≡ h.classifications) where
-      -- the places in use
-      places : take (plan_width * w + 8 * c - plan_width * w) (drop (plan_width * w) plans) ≡ take (8 * h.classifications) (drop (plan_width * i) plans)
-      places = let a : plan_width * w + 8 * c - plan_width * w ≡ 8 * c = omega arith in rw (a, ew, ec)
+    module _ (qh : rh ≡ true) where
+      -- the part of the table that is the residue's, and the places in use
+      abbrev its_plan : List ℕ
+      its_plan = take (plan_width * i + plan_width - plan_width * i) (drop (plan_width * i) plans)
 
-      tested : (f : ℕ → Bool) {r : Bool} → r ≡ all f (take (plan_width * w + 8 * c - plan_width * w) (drop (plan_width * w) plans))
-          → (r ≡ true) ↔ (all f (take (8 * h.classifications) (drop (plan_width * i) plans)) ≡ true)
+      abbrev in_use : ℕ
+      in_use = 8 * h.classifications
+
+      plan_is : its_plan ≡ take plan_width (drop (plan_width * i) plans)
+      plan_is = let a : plan_width * i + plan_width - plan_width * i ≡ plan_width = omega arith in ap (λ (n : ℕ). take n (drop (plan_width * i) plans)) a
+
+      places : take in_use its_plan ≡ take in_use (drop (plan_width * i) plans)
+      places = let few = (head.0 qh).valid.carried.classifications.high in ap (take in_use) plan_is ∙ take-take in_use plan_width (drop (plan_width * i) plans) (omega arith)
+
+      tested : (f : ℕ → Bool) {r : Bool} → r ≡ all f (take in_use its_plan) → (r ≡ true) ↔ (all f (take in_use (drop (plan_width * i) plans)) ≡ true)
       tested f p = let q = p ∙ ap (all f) places in ((λ y. sym q ∙ y), (λ y. q ∙ y))
 
-      module _ {r₁ : Bool} (p₁ : r₁ ≡ all (λ v. Rule.meets11 (Rule.book_or_none count v)) (take (plan_width * w + 8 * c - plan_width * w) (drop (plan_width * w) plans))) where
-        pub set_up_fails : not r₁ ≡ true → (false ≡ true) ↔ ValidRows (books_of count t) (drop (6 * i) residues) (drop (plan_width * i) plans)
-        set_up_fails q = iff_false (λ w. refuted (tested (λ v. Rule.meets11 (Rule.book_or_none count v)) p₁) q (parts.0 w).set_up_is)
+      module _ {r₁ : Bool} (p₁ : r₁ ≡ all (λ v. Rule.meets11 (Rule.book_or_none count v)) (take in_use its_plan)) where
+        pub set_up_fails : r₁ ≡ false → (false ≡ true) ↔ ValidRows (books_of count t) (drop (6 * i) residues) (drop (plan_width * i) plans)
+        set_up_fails q = iff_false (λ w. not_said (tested (λ v. Rule.meets11 (Rule.book_or_none count v)) p₁) q (parts.0 w).set_up_is)
 
-        module _ {r₂ : Bool} (p₂ : r₂ ≡ all (place_fits (books_of 0 t) h.size) (take (plan_width * w + 8 * c - plan_width * w) (drop (plan_width * w) plans))) where
-          fit : (r₂ ≡ true) ↔ (all (place_fits (books_of count t) h.size) (take (8 * h.classifications) (drop (plan_width * i) plans)) ≡ true)
+        module _ {r₂ : Bool} (p₂ : r₂ ≡ all (place_fits (books_of 0 t) h.size) (take in_use its_plan)) where
+          fit : (r₂ ≡ true) ↔ (all (place_fits (books_of count t) h.size) (take in_use (drop (plan_width * i) plans)) ≡ true)
           unfolding place_fits
           fit = tested (place_fits (books_of 0 t) h.size) p₂
 
-          pub fits_fails : not r₂ ≡ true → (false ≡ true) ↔ ValidRows (books_of count t) (drop (6 * i) residues) (drop (plan_width * i) plans)
-          fits_fails q = iff_false (λ w. refuted fit q (parts.0 w).fits)
+          pub fits_fails : r₂ ≡ false → (false ≡ true) ↔ ValidRows (books_of count t) (drop (6 * i) residues) (drop (plan_width * i) plans)
+          fits_fails q = iff_false (λ w. not_said fit q (parts.0 w).fits)
 
-          pub residue_judged : not rh ≡ false → not r₁ ≡ false → not r₂ ≡ false → {r₃ : Bool}
-              → (r₃ ≡ true) ↔ Zeros (drop (8 * c) (take (plan_width * w + plan_width - plan_width * w) (drop (plan_width * w) plans)))
+          pub residue_judged : r₁ ≡ true → r₂ ≡ true → {r₃ : Bool} → (r₃ ≡ true) ↔ Zeros (drop in_use its_plan)
               → (r₃ ≡ true) ↔ ValidRows (books_of count t) (drop (6 * i) residues) (drop (plan_width * i) plans)
-          residue_judged qh q₁ q₂ z =
-              let a : plan_width * w + plan_width - plan_width * w ≡ plan_width = omega arith in
-              let s = rw (a, ew, ec) at z in (
-                (λ y. parts.1 (record { head = shown head qh; set_up_is = shown (tested (λ v. Rule.meets11 (Rule.book_or_none count v)) p₁) q₁; fits = shown fit q₂; empty = s.0 y })),
+          residue_judged q₁ q₂ z =
+              let s = rw plan_is at z in (
+                (λ y. parts.1 (record { head = head.0 qh; set_up_is = (tested (λ v. Rule.meets11 (Rule.book_or_none count v)) p₁).0 q₁; fits = fit.0 q₂; empty = s.0 y })),
                 (λ v. s.1 (parts.0 v).empty),
               )

@@ -2,7 +2,7 @@
 use Prim.Native.Nat.{ℕ, suc, ◌+◌, ◌-◌, ◌*◌, ◌≤◌, ◌<◌}
 use native.Mathlib.Nat.{sub-zero}
 use native.Mathlib.Omega.{arith}
-use mathlib.Core.Bool.{Bool, true, false, not}
+use mathlib.Core.Bool.{Bool, true, false}
 use mathlib.Core.List.{List, [], ◌∷◌, ◌++◌}
 use mathlib.Core.Logic.{◌↔◌}
 use mathlib.Core.Path.{◌≡◌, refl, sym, ap, subst, ◌∙◌}
@@ -11,7 +11,7 @@ use lib.Seq.{take_at, drop_at, drop-drop}
 use Rattle.reading.specs.Pad.{pad}
 use Rattle.reading.specs.Lists.{rows}
 use Rattle.reading.specs.Encoding.{Zeros, Each}
-use Rattle.reading.proofs.Encodes.{iff_false, refuted, shown}
+use Rattle.reading.proofs.Encodes.{iff_false, not_said}
 use Rattle.reading.proofs.Pads.{pad_nil}
 use Rattle.residue.specs.Content.{Residue}
 use Rattle.residue.specs.Reading.{Books}
@@ -129,12 +129,6 @@ module _ (books : Books) (n : ℕ) (residues plans : List ℕ) where
             ∙ decode_residues_lem books s.content n (length residues) (length plans) s.holds.count s.holds.valid (omega arith) (omega arith));
       }
 
-  pub short : length residues < 384 → (false ≡ true) ↔ ResiduesRecognised books n residues plans
-  short h = iff_false (λ s. let r = s.room in omega arith)
-
-  pub short_plans : length plans < 32768 → (false ≡ true) ↔ ResiduesRecognised books n residues plans
-  short_plans h = iff_false (λ s. let r = s.room_plans in omega arith)
-
   module _ (few : n ≤ 64) (room : 384 ≤ length residues) (room_plans : 32768 ≤ length plans) {i : ℕ} (w : Recognising books n residues plans i) where
     -- the residue at i, and the others behind it
     module _ (h : i < n) where
@@ -156,30 +150,29 @@ module _ (books : Books) (n : ℕ) (residues plans : List ℕ) where
           )
 
       module _ {r : Bool} (said : (r ≡ true) ↔ ValidRows books (drop (6 * i) residues) (drop (plan_width * i) plans)) where
-        pub recognising_failed : not r ≡ true → (false ≡ true) ↔ ResiduesRecognised books n residues plans
-        recognising_failed q = iff_false (λ s. refuted said q (turn.0 (s.content, s.holds)).0)
+        pub recognising_failed : r ≡ false → (false ≡ true) ↔ ResiduesRecognised books n residues plans
+        recognising_failed q = iff_false (λ s. not_said said q (turn.0 (s.content, s.holds)).0)
 
-        pub recognising_next : not r ≡ false → Recognising books n residues plans (i + 1)
-        recognising_next q = record { within = omega arith; left = ((λ c. (turn.0 c).1), (λ d. turn.1 (shown said q, d))) }
+        pub recognising_next : r ≡ true → Recognising books n residues plans (i + 1)
+        recognising_next q = record { within = omega arith; left = ((λ c. (turn.0 c).1), (λ d. turn.1 (said.0 q, d))) }
 
     -- the zeros behind the last residue
-    module _ (h : n ≤ i) {m : ℕ} (em : m ≡ n) where
-      after : Encoded books n residues plans ↔ (Zeros (drop (6 * m) residues) × Zeros (drop (plan_width * m) plans))
+    module _ (h : n ≤ i) where
+      after : Encoded books n residues plans ↔ (Zeros (drop (6 * n) residues) × Zeros (drop (plan_width * n) plans))
       after =
           let a = w.within in
           let x : n - i ≡ 0 = omega arith in
-          let y : i ≡ m = omega arith in
-          let s : Encoded books n residues plans ↔ Encoded books 0 (drop (6 * m) residues) (drop (plan_width * m) plans) = rw (x, y) at w.left in
-          let z = encoded_none books (drop (6 * m) residues) (drop (plan_width * m) plans) in
+          let y : i ≡ n = omega arith in
+          let s : Encoded books n residues plans ↔ Encoded books 0 (drop (6 * n) residues) (drop (plan_width * n) plans) = rw (x, y) at w.left in
+          let z = encoded_none books (drop (6 * n) residues) (drop (plan_width * n) plans) in
           ((λ c. z.0 (s.0 c)), (λ d. s.1 (z.1 d)))
 
-      module _ {r : Bool} (said : (r ≡ true) ↔ Zeros (drop (6 * m) residues)) where
-        pub tail_failed : not r ≡ true → (false ≡ true) ↔ ResiduesRecognised books n residues plans
-        tail_failed q = iff_false (λ s. refuted said q (after.0 (s.content, s.holds)).0)
+      module _ {r : Bool} (said : (r ≡ true) ↔ Zeros (drop (6 * n) residues)) where
+        pub tail_failed : r ≡ false → (r ≡ true) ↔ ResiduesRecognised books n residues plans
+        tail_failed q = rw q (iff_false (λ s. not_said said q (after.0 (s.content, s.holds)).0))
 
-        pub tail_judged : not r ≡ false → {m₂ : ℕ} → m₂ ≡ n → {r₂ : Bool} → (r₂ ≡ true) ↔ Zeros (drop (plan_width * m₂) plans) → (r₂ ≡ true) ↔ ResiduesRecognised books n residues plans
-        tail_judged q {m₂} e {r₂} said₂ =
-            let z : (r₂ ≡ true) ↔ Zeros (drop (plan_width * m) plans) = subst (λ (k : ℕ). (r₂ ≡ true) ↔ Zeros (drop (plan_width * k) plans)) (e ∙ sym em) said₂ in (
-              (λ y. let c = after.1 (shown said q, z.0 y) in record { room = room; room_plans = room_plans; content = c.0; holds = c.1 }),
-              (λ s. z.1 (after.0 (s.content, s.holds)).1),
-            )
+        pub tail_judged : r ≡ true → {r₂ : Bool} → (r₂ ≡ true) ↔ Zeros (drop (plan_width * n) plans) → (r₂ ≡ true) ↔ ResiduesRecognised books n residues plans
+        tail_judged q z = (
+          (λ y. let c = after.1 (said.0 q, z.0 y) in record { room = room; room_plans = room_plans; content = c.0; holds = c.1 }),
+          (λ s. z.1 (after.0 (s.content, s.holds)).1),
+        )

@@ -1,48 +1,18 @@
 -- `residue_tables::recognise::are_residues` meets its contract, by RecogniseTheorem. Assumes nothing.
-use mathlib.Core.Bool.{not}
-use mathlib.Core.Path.{ap}
-use Prim.Native.Nat.{◌-◌}
-use Rattle.residue.specs.Inner.FromTable.{books_of}
-use Rattle.residue_tables.proofs.RecogniseTheorem.{recognising_start, recognising_next, recognising_failed, tail_failed, tail_judged, one_content, short, short_plans}
 use borrow.Author.Rules.{rules}
+use Rattle.residue_tables.proofs.RecogniseTheorem.{recognising_next, recognising_failed, tail_failed, tail_judged, one_content}
 use Rattle.residue_tables.proofs.recognise.are_residues.Goals as goal
-
-pub returns-then-residues-lt-RESIDUES_NEED : goal.returns-then-residues-lt-RESIDUES_NEED
-returns-then-residues-lt-RESIDUES_NEED c =
-    let books = books_of c.args.book_count c.args.books.now in record { variant = short books c.args.n c.args.residues.now c.args.plans.now (search rules); one_content = one_content books c.args.n c.args.residues.now c.args.plans.now c.requires }
-
-pub returns-then-plans-lt-PLANS_NEED : goal.returns-then-plans-lt-PLANS_NEED
-returns-then-plans-lt-PLANS_NEED c =
-    let books = books_of c.args.book_count c.args.books.now in record { variant = short_plans books c.args.n c.args.residues.now c.args.plans.now (search rules); one_content = one_content books c.args.n c.args.residues.now c.args.plans.now c.requires }
-
-pub loop-i-init : goal.loop-i-init
-loop-i-init c = recognising_start _ _ _ _
 
 pub returns-then-not-is_residue : goal.returns-then-not-is_residue
 returns-then-not-is_residue c =
-    let books = books_of c.args.book_count c.args.books.now in record {
-      variant = recognising_failed books c.args.n c.args.residues.now c.args.plans.now c.requires (search rules) (search rules) c.loop-i.invariant
-          (search rules) c.is_residue.ensures (ap not c.if-not-is_residue.true);
-      one_content = one_content books c.args.n c.args.residues.now c.args.plans.now c.requires;
-    }
+    record { variant = recognising_failed _ _ _ _ c.requires (search rules) (search rules) c.loop-i.invariant c.loop-i-test.true c.is_residue.ensures c.if-not-is_residue.true; one_content = one_content _ _ _ _ c.requires }
 
 pub loop-i-preserved : goal.loop-i-preserved
-loop-i-preserved c =
-    recognising_next _ _ _ _ c.requires (search rules) (search rules) c.loop-i.invariant (search rules) c.is_residue.ensures (ap not c.if-not-is_residue.false)
+loop-i-preserved c = recognising_next _ _ _ _ c.requires (search rules) (search rules) c.loop-i.invariant c.loop-i-test.true c.is_residue.ensures c.if-not-is_residue.false
 
-pub returns-then-not-zeros_u32 : goal.returns-then-not-zeros_u32
-returns-then-not-zeros_u32 c =
-    let books = books_of c.args.book_count c.args.books.now in record {
-      variant = tail_failed books c.args.n c.args.residues.now c.args.plans.now c.requires (search rules) (search rules) c.loop-i.invariant
-          (search rules) c.wide_u32.ensures c.zeros_u32.ensures (ap not c.if-not-zeros_u32.true);
-      one_content = one_content books c.args.n c.args.residues.now c.args.plans.now c.requires;
-    }
+pub returns-then-zeros : goal.returns-then-zeros
+returns-then-zeros c =
+    record { variant = tail_judged _ _ _ _ c.requires (search rules) (search rules) c.loop-i.invariant c.loop-i-test.false c.zeros.ensures c.if-zeros.true c.zeros-then-zeros.ensures; one_content = one_content _ _ _ _ c.requires }
 
-pub returns : goal.returns
-returns c =
-    let books = books_of c.args.book_count c.args.books.now in record {
-      variant = tail_judged books c.args.n c.args.residues.now c.args.plans.now c.requires (search rules) (search rules) c.loop-i.invariant
-          (search rules) c.wide_u32.ensures c.zeros_u32.ensures (ap not c.if-not-zeros_u32.false) c.wide_u32-2.ensures
-          c.zeros_u16.ensures;
-      one_content = one_content books c.args.n c.args.residues.now c.args.plans.now c.requires;
-    }
+pub returns-else-zeros : goal.returns-else-zeros
+returns-else-zeros c = record { variant = tail_failed _ _ _ _ c.requires (search rules) (search rules) c.loop-i.invariant c.loop-i-test.false c.zeros.ensures c.if-zeros.false; one_content = one_content _ _ _ _ c.requires }
