@@ -54,7 +54,8 @@ pub fn read_coupling(
     Ok(next)
 }
 
-// `count` coupling steps, into their part of the row.
+// `count` coupling steps, into their part of the row. The loops of `submaps` are alike and stay apart: a reader handed in would need a contract that is
+// longer than the loop, and what they share is proved once (proofs/Fillings.antt).
 pub fn read_couplings(
     packet: &[u8],
     from: Cursor,

@@ -1,5 +1,5 @@
 // The numbers of a mapping, read from its row in the table: `mapping` is the mapping's number, its row begins at 804 * mapping. A place past the table's end
-// reads as 0.
+// reads as 0. Each number has a function of its own, one read at its place: one function of any place would not say which number it gives.
 #![tactic(auto)]
 
 ghost use Rattle.std.specs.Prelude.{◌+◌, ◌-◌, ◌*◌, ◌<◌, ◌≡◌, get_or};
