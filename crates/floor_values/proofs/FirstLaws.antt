@@ -1,13 +1,15 @@
 -- Laws of the first two values: how many bits each has, and reading them, as the code asks it. Assumes nothing.
+use Rattle.bits.specs.declared.refusal.Refusal.{Refusal}
+use Rattle.std.specs.Prelude.{Result}
 use Prim.Native.Nat.{ℕ, zero, suc, ◌+◌, ◌-◌, ◌*◌, ◌≤◌, ◌<◌}
 use native.Mathlib.Omega.{arith}
 use mathlib.Core.List.{List}
 use mathlib.Core.Path.{◌≡◌, ap, ◌∙◌}
 use lib.ListN.{get_or}
+use Rattle.reading.specs.Counted.{Counted}
 use Rattle.reading.specs.Reader.{many, into}
 use Rattle.reading.specs.Inner.Table.{Table, table, put_row}
 use Rattle.bits.specs.declared.Cursor.{Cursor}
-use Rattle.bits.specs.declared.Step.{Step}
 use Rattle.bits.specs.Inner.Cursors.{position, Wrote}
 use Rattle.bits.specs.Field.{field}
 use Rattle.bits.specs.Ilog.{highest_set, ilog}
@@ -15,7 +17,7 @@ use Rattle.numbers.specs.Inner.Cell.{cell}
 use Rattle.floor.specs.Inner.Decode.{floor_at}
 use Rattle.floor_points.specs.FinalY.{range_of}
 use Rattle.floor_values.specs.Values.{first_bits}
-use Rattle.floor_values.specs.Inner.Stored.{floor_in, FloorStored}
+use Rattle.floor_values.specs.Inner.Stored.{floor_in}
 use Rattle.floor.specs.Layout.{floor_width}
 
 -- the four multipliers: 8, 7, 7 and 6 bits
@@ -32,20 +34,20 @@ bits_known (suc (suc (suc zero))) h k = record { some = omega arith; few = omega
 bits_known (suc (suc (suc (suc zero)))) h k = record { some = omega arith; few = omega arith }
 bits_known (suc (suc (suc (suc (suc m))))) h k = absurd (omega arith)
 
-module _ {floors books lengths codewords : List ℕ} {n : ℕ} (l : FloorStored floors books lengths codewords n) {m : ℕ} (e : m ≡ get_or floors (floor_width * n + 2) 0) where
+module _ (floors : List ℕ) (n : ℕ) (l : Counted 4 (floor_in floors n).multiplier) {m : ℕ} (e : m ≡ get_or floors (floor_width * n + 2) 0) where
   multiplier_is : m ≡ (floor_in floors n).multiplier
   unfolding floor_in floor_at
   multiplier_is = e
 
   pub multiplier_byte : m < 256
-  multiplier_byte = let h = l.valid.carried.multiplier.high in let f = multiplier_is in omega arith
+  multiplier_byte = let h = l.high in let f = multiplier_is in omega arith
 
   known : Bits (floor_in floors n).multiplier
-  known = bits_known (floor_in floors n).multiplier l.valid.carried.multiplier.low l.valid.carried.multiplier.high
+  known = bits_known (floor_in floors n).multiplier l.low l.high
 
-  module _ {m' range : ℕ} (e₂ : m' ≡ m) (e₃ : range ≡ range_of m') where
+  module _ {range : ℕ} (e₃ : range ≡ range_of m) where
     range_is : range ≡ range_of (floor_in floors n).multiplier
-    range_is = e₃ ∙ ap range_of (e₂ ∙ multiplier_is)
+    range_is = e₃ ∙ ap range_of multiplier_is
 
     pub range_some : 64 ≤ range
     range_some = rw range_is known.some
@@ -58,6 +60,6 @@ module _ {floors books lengths codewords : List ℕ} {n : ℕ} (l : FloorStored 
       pub width_few : width ≤ 16
       width_few = let h = known.few in let f = width_is in omega arith
 
-      pub two_read : (s : List ℕ) (k : Cursor) (list : List ℕ) {st : Step} {u : Table} → Wrote (into (put_row cell) (many (field width) 2 s (position k)) (table list 0)) st u
+      pub two_read : (s : List ℕ) (k : Cursor) (list : List ℕ) {st : Result Cursor Refusal} {u : Table} → Wrote (into (put_row cell) (many (field width) 2 s (position k)) (table list 0)) st u
           → Wrote (into (put_row cell) (many (field (first_bits (floor_in floors n).multiplier)) 2 s (position k)) (table list 0)) st u
       two_read s k list w = rw width_is at w

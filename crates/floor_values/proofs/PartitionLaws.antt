@@ -1,4 +1,5 @@
 -- Laws of the loop over the partitions of a floor, as the code asks them. Assumes nothing.
+use Rattle.std.specs.Prelude.{Result, Ok, Err}
 use Prim.Native.Nat.{ℕ, zero, suc, ◌+◌, ◌*◌, ◌≤◌, ◌<◌}
 use native.Mathlib.Omega.{arith}
 use mathlib.Core.List.{List, [], ◌∷◌}
@@ -12,9 +13,7 @@ use Rattle.reading.specs.Inner.Table.{Table, table, put_row}
 use Rattle.reading.proofs.Tables.{puts-rows}
 use Rattle.reading.proofs.EachLaws.{each_at}
 use Rattle.bits.specs.declared.Cursor.{Cursor}
-use Rattle.bits.specs.declared.Refusal.{Refusal}
-use Rattle.bits.specs.declared.Step.{Step}
-use Rattle.bits.specs.declared.Step.TheVariants as S
+use Rattle.bits.specs.declared.refusal.Refusal.{Refusal}
 use Rattle.bits.specs.Inner.Cursors.{position, Wrote}
 use Rattle.bits.proofs.Steps.{EachRest, each_loop_start, each_loop_next, each_loop_refused, each_loop_done}
 use Rattle.bits.proofs.Written.{wrote_through}
@@ -66,12 +65,12 @@ module _ {floors books lengths codewords : List ℕ} {n : ℕ} (l : FloorStored 
       get_or-drop (floor_width * n + 5) (take (floor_width * n + 5 + get_or floors (floor_width * n) 0) floors) i 0 ∙ get_or-take (floor_width * n + 5 + get_or floors (floor_width * n) 0) floors (floor_width * n + 5 + i) 0 (omega arith)
 
   -- the class of partition i
-  module _ {i p class : ℕ} (h : i < length (floor_in floors n).partitions) (e₁ : p ≡ get_or floors (floor_width * n + 5 + i) 0) (e₂ : class ≡ p) where
+  module _ {i class : ℕ} (h : i < length (floor_in floors n).partitions) (e : class ≡ get_or floors (floor_width * n + 5 + i) 0) where
     class_of : get_or (floor_in floors n).partitions i 0 ≡ class
-    class_of = partition_get i h ∙ sym (e₂ ∙ e₁)
+    class_of = partition_get i h ∙ sym e
 
     class_low : class < length (floor_in floors n).classes
-    class_low = let b = class_below (floor_in floors n).partitions i h in let c = l.valid.carried.class_count_is in let e = class_of in omega arith
+    class_low = let b = class_below (floor_in floors n).partitions i h in let c = l.valid.carried.class_count_is in let k = class_of in omega arith
 
     class_few : class < get_or floors (floor_width * n + 1) 0
     class_few =
@@ -105,26 +104,24 @@ module _ {floors books lengths codewords : List ℕ} {n : ℕ} (l : FloorStored 
 pub record Progress (s floors books lengths codewords : List ℕ) (n : ℕ) (entry : List ℕ) (from : Cursor) (count : ℕ) (now : List ℕ) (next : Cursor) (at i : ℕ) : Type 0 where
   pub stored : FloorStored floors books lengths codewords n
   pub counted : count ≡ length (floor_in floors n).partitions
-  pub within : i ≤ count
   pub place_few : at ≤ 2 + 8 * i
   pub long : length now ≡ length entry
   pub rest : EachRest 0 (put_row whole) (partition_of (lengths_in books lengths) (floor_in floors n)) s (floor_in floors n).partitions
       (into (put_row whole) (each (partition_of (lengths_in books lengths) (floor_in floors n)) (floor_in floors n).partitions s (position from)) (table entry 2)) i next (table now at)
 
 -- what was written, without the place behind it
-written : (o : Outcome (List (List ℕ) × ℕ)) (entry : List ℕ) {st : Step} {u : Table} → Wrote (into (put_row whole) o (table entry 2)) st u
+written : (o : Outcome (List (List ℕ) × ℕ)) (entry : List ℕ) {st : Result Cursor Refusal} {u : Table} → Wrote (into (put_row whole) o (table entry 2)) st u
     → Wrote (mapped (λ l. sets entry 2 (rows whole l)) o) st u.cells
 unfolding into
 written o entry w =
     wrote_through (λ l. puts (put_row whole) l (table entry 2)) (λ t. t.cells) (λ l. sets entry 2 (rows whole l)) (λ l. ap (λ (t : Table). t.cells) (puts-rows whole l entry 2)) o w
 
 module _ {s floors books lengths codewords : List ℕ} {n : ℕ} {entry : List ℕ} {from : Cursor} {count : ℕ} where
-  pub go_start : FloorStored floors books lengths codewords n → {c : ℕ} → c ≡ get_or floors (floor_width * n) 0 → count ≡ c → Progress s floors books lengths codewords n entry from count entry from 2 0
-  go_start l e f =
+  pub go_start : FloorStored floors books lengths codewords n → count ≡ get_or floors (floor_width * n) 0 → Progress s floors books lengths codewords n entry from count entry from 2 0
+  go_start l e =
       record {
         stored = l;
-        counted = f ∙ e ∙ partitions_long l;
-        within = omega arith;
+        counted = e ∙ partitions_long l;
         place_few = omega arith;
         long = refl;
         rest = each_loop_start 0 (put_row whole) (partition_of (lengths_in books lengths) (floor_in floors n)) s (floor_in floors n).partitions _ from (table entry 2) refl;
@@ -134,44 +131,43 @@ module _ {s floors books lengths codewords : List ℕ} {n : ℕ} {entry : List �
     pub count_few : count ≤ 31
     count_few = rw w.counted w.stored.valid.carried.partitions
 
-    pub place_low : at ≤ 65535
-    place_low = let a = w.place_few in let b = w.within in let d = count_few in omega arith
+    pub place_low : i ≤ count → at ≤ 65535
+    place_low b = let a = w.place_few in let d = count_few in omega arith
 
-    module _ (h : i < count) {p class : ℕ} (e₁ : p ≡ get_or floors (floor_width * n + 5 + i) 0) (e₂ : class ≡ p) where
+    module _ (h : i < count) {class : ℕ} (e : class ≡ get_or floors (floor_width * n + 5 + i) 0) where
       low : i < length (floor_in floors n).partitions
-      low = let e = w.counted in omega arith
+      low = let k = w.counted in omega arith
 
       pub go_class : ClassStored floors books lengths codewords n class
-      go_class = class_stored w.stored low e₁ e₂
+      go_class = class_stored w.stored low e
 
-      module _ {st : Step} {now' : List ℕ}
+      module _ {st : Result Cursor Refusal} {now' : List ℕ}
           (one : Wrote (into1 (put_row whole) (partition (lengths_in books lengths) (class_in floors n class) s (position next)) (table now at)) st (table now' (at + (class_in floors n class).dimensions))) where
         step : Wrote (into1 (put_row whole) (partition_of (lengths_in books lengths) (floor_in floors n) (get_or (floor_in floors n).partitions i 0) s (position next)) (table now at)) st (table now' (at + (class_in floors n class).dimensions))
-        step = rw (partition_is w.stored low e₁ e₂ (lengths_in books lengths)) one
+        step = rw (partition_is w.stored low e (lengths_in books lengths)) one
 
-        pub go_refused : {z : Refusal} → st ≡ S.Refused z → (u : List ℕ)
-            → Wrote (mapped (λ l. sets entry 2 (rows whole l)) (each (partition_of (lengths_in books lengths) (floor_in floors n)) (floor_in floors n).partitions s (position from))) (S.Refused z) u
+        pub go_refused : {z : Refusal} → st ≡ Err z → (u : List ℕ)
+            → Wrote (mapped (λ l. sets entry 2 (rows whole l)) (each (partition_of (lengths_in books lengths) (floor_in floors n)) (floor_in floors n).partitions s (position from))) (Err z) u
         go_refused q u =
             written (each (partition_of (lengths_in books lengths) (floor_in floors n)) (floor_in floors n).partitions s (position from)) entry
             (each_loop_refused 0 (put_row whole) (partition_of (lengths_in books lengths) (floor_in floors n)) s (floor_in floors n).partitions _ i next (table now at) w.rest low step q (table u 0))
 
-        pub go_next : {after : Cursor} → st ≡ S.Next after → length now' ≡ length now → {d at' : ℕ} → d ≡ get_or floors (floor_width * n + 36 + 11 * class) 0 → {d' : ℕ} → d' ≡ d → at' ≡ at + d'
-            → Progress s floors books lengths codewords n entry from count now' after at' (i + 1)
-        go_next q e {d} {at'} f {d'} g a =
-            let dims : d' ≡ (class_in floors n class).dimensions = unfold class_in class_at in (g ∙ f) in
+        pub go_next : {after : Cursor} → st ≡ Ok after → length now' ≡ length now → {d : ℕ} → d ≡ get_or floors (floor_width * n + 36 + 11 * class) 0
+            → Progress s floors books lengths codewords n entry from count now' after (at + d) (i + 1)
+        go_next q same {d} f =
+            let dims : d ≡ (class_in floors n class).dimensions = unfold class_in class_at in f in
             let most = go_class.valid.carried.dimensions.high in
             let place = w.place_few in
             record {
               stored = w.stored;
               counted = w.counted;
-              within = omega arith;
               place_few = omega arith;
-              long = e ∙ w.long;
-              rest = rw (a, dims) (each_loop_next 0 (put_row whole) (partition_of (lengths_in books lengths) (floor_in floors n)) s (floor_in floors n).partitions _ i next (table now at) w.rest low step q);
+              long = same ∙ w.long;
+              rest = rw dims (each_loop_next 0 (put_row whole) (partition_of (lengths_in books lengths) (floor_in floors n)) s (floor_in floors n).partitions _ i next (table now at) w.rest low step q);
             }
 
     pub go_done : count ≤ i
-        → Wrote (mapped (λ l. sets entry 2 (rows whole l)) (each (partition_of (lengths_in books lengths) (floor_in floors n)) (floor_in floors n).partitions s (position from))) (S.Next next) now
+        → Wrote (mapped (λ l. sets entry 2 (rows whole l)) (each (partition_of (lengths_in books lengths) (floor_in floors n)) (floor_in floors n).partitions s (position from))) (Ok next) now
     go_done h =
         written (each (partition_of (lengths_in books lengths) (floor_in floors n)) (floor_in floors n).partitions s (position from)) entry
         (each_loop_done 0 (put_row whole) (partition_of (lengths_in books lengths) (floor_in floors n)) s (floor_in floors n).partitions _ i next (table now at) w.rest (rw (← w.counted) h))

@@ -34,6 +34,10 @@ floor_values lengths_of f s k =
     then (field 1 s k) (λ nonzero.
     cond (eqb nonzero.0 0) (ok (none, nonzero.1)) (mapped some (used_values lengths_of f s nonzero.1)))
 
+-- what the program answers, whether the floor is used, with the lent list beside it
+abbrev pub with_values : List ℕ → Bool → Bool × List ℕ
+with_values list used = (used, list)
+
 -- as the program answers them: whether the floor is used, and the lent list with the values at its front
 unfoldable pub answered_values : List ℕ → Option (List ℕ) → Bool × List ℕ
 answered_values entry none = (false, entry)

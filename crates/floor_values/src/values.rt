@@ -1,21 +1,23 @@
 // The values of a floor (004, "packet decode").
 ghost use Rattle.std.specs.Prelude.{◌≡◌, ◌<◌};
 ghost use Rattle.std.proofs.lemmas.List.Edits.{sets};
+ghost use Rattle.reading.specs.Counted.{Counted};
 ghost use Rattle.reading.specs.Lists.{rows};
 ghost use Rattle.reading.specs.Reader.{many, each, mapped, into};
 ghost use Rattle.reading.specs.Inner.Table.{table, put_row};
 ghost use Rattle.bits.specs.Field.{field};
-ghost use Rattle.bits.specs.Inner.Cursors.{position, Wrote};
+ghost use Rattle.bits.specs.Inner.Cursors.{position, outcome, Wrote};
 ghost use Rattle.numbers.specs.Inner.Cell.{cell};
 ghost use Rattle.floor_partition.specs.Partition.{whole};
 ghost use Rattle.book_codeword.specs.Inner.Stored.{lengths_in};
-ghost use Rattle.floor_values.specs.Values.{first_bits, partition_of, used_values, floor_values, answered_values};
+ghost use Rattle.floor_values.specs.Values.{first_bits, partition_of, used_values, floor_values, with_values, answered_values};
 ghost use Rattle.floor_values.specs.Inner.Stored.{floor_in, FloorStored};
 ghost use Rattle.floor_values.specs.Claims.{FloorValues};
 
-use bits::{Cursor, Field, Step};
+use bits::Cursor;
+use bits::refusal::Refusal;
+use book_codeword::Codebooks;
 use floor_partition::partition;
-use reading::widths::{u8_from_u16, wide_u16};
 
 // The first two values, into the first two places of the list.
 fn read_first_two(
@@ -23,17 +25,14 @@ fn read_first_two(
     from: Cursor,
     floors: &[u16],
     floor: usize,
-    books: &[u32],
-    lengths: &[u8],
-    codewords: &[u32],
     values: &mut [u16],
-) -> Step
-    requires { FloorStored floors.now books.now lengths.now codewords.now floor }
+) -> Result<Cursor, Refusal>
+    requires { (floor < 64) × Counted 4 (floor_in floors.now floor).multiplier }
     ensures { Wrote (into (put_row cell)
         (many (field (first_bits (floor_in floors.now floor).multiplier)) 2 packet.now (position from))
         (table values.old 0)) result (table values.new 2) }
 {
-    let range = floor_points::range_of(u8_from_u16(floor_row::multiplier(floors, floor)));
+    let range = floor_points::range_of(floor_row::multiplier(floors, floor) as u8);
     let width = bits::ilog::ilog(range - 1);
     numbers::read_numbers(packet, from, width, 2, values, 0)
 }
@@ -44,36 +43,25 @@ fn read_partitions(
     from: Cursor,
     floors: &[u16],
     floor: usize,
-    books: &[u32],
-    lengths: &[u8],
-    codewords: &[u32],
+    codebooks: Codebooks,
     values: &mut [u16],
-) -> Step
-    requires { FloorStored floors.now books.now lengths.now codewords.now floor }
+) -> Result<Cursor, Refusal>
+    requires { FloorStored floors.now codebooks.books.now codebooks.lengths.now codebooks.codewords.now floor }
     ensures { Wrote (mapped (λ l. sets values.old 2 (rows whole l))
-        (each (partition_of (lengths_in books.now lengths.now) (floor_in floors.now floor))
+        (each (partition_of (lengths_in codebooks.entry.books.now codebooks.entry.lengths.now) (floor_in floors.now floor))
         (floor_in floors.now floor).partitions packet.now (position from))) result values.new }
 {
-    let count = wide_u16(floor_row::partition_count(floors, floor));
+    let count = floor_row::partition_count(floors, floor) as usize;
     let mut next = from;
     let mut at: usize = 2;
-    let mut i: usize = 0;
-    while i < count {
-        let class = wide_u16(floor_row::partition_class(floors, floor, i));
-        match partition::read_partition(
-            packet, next, floors, floor, class, books, lengths, codewords, values, at,
-        ) {
-            Step::Refused(z) => {
-                return Step::Refused(z);
-            }
-            Step::Next(after) => {
-                next = after;
-            }
-        }
-        at = at + wide_u16(floor_row::class_dimensions(floors, floor, class));
-        i = i + 1;
+    for i in 0..count {
+        let class = floor_row::partition_class(floors, floor, i) as usize;
+        next = partition::read_partition(
+            packet, next, floors, floor, class, codebooks, values, at,
+        )?;
+        at += floor_row::class_dimensions(floors, floor, class) as usize;
     }
-    Step::Next(next)
+    Ok(next)
 }
 
 // The values of a floor that is used, into the list from its front on.
@@ -82,68 +70,38 @@ fn read_used(
     from: Cursor,
     floors: &[u16],
     floor: usize,
-    books: &[u32],
-    lengths: &[u8],
-    codewords: &[u32],
+    codebooks: Codebooks,
     values: &mut [u16],
-) -> Step
-    requires { FloorStored floors.now books.now lengths.now codewords.now floor }
+) -> Result<Cursor, Refusal>
+    requires { FloorStored floors.now codebooks.books.now codebooks.lengths.now codebooks.codewords.now floor }
     ensures { Wrote (mapped (sets values.old 0)
-        (used_values (lengths_in books.now lengths.now) (floor_in floors.now floor)
+        (used_values (lengths_in codebooks.entry.books.now codebooks.entry.lengths.now) (floor_in floors.now floor)
         packet.now (position from))) result values.new }
 {
-    match read_first_two(
-        packet, from, floors, floor, books, lengths, codewords, values,
-    ) {
-        Step::Refused(z) => Step::Refused(z),
-        Step::Next(next) => read_partitions(
-            packet, next, floors, floor, books, lengths, codewords, values,
-        ),
-    }
+    let next = read_first_two(packet, from, floors, floor, values)?;
+    read_partitions(packet, next, floors, floor, codebooks, values)
 }
 
-// Where reading goes on, and whether the floor is used. On a refusal, which is the cut, `used` and the list mean nothing.
-#[derive(Clone, Copy)]
-pub struct ValuesRead {
-    pub step: Step,
-    pub used: bool,
-}
-
-// The values of floor number `floor`, into the list from its front on; none where the packet says that the floor is unused.
+// Whether floor number `floor` is used, and its values into the list from its front on; the packet says that a floor is unused, and then nothing is written.
+// On a refusal, which is the cut, the list means nothing.
 pub fn read_values(
     packet: &[u8],
     from: Cursor,
     floors: &[u16],
     floor: usize,
-    books: &[u32],
-    lengths: &[u8],
-    codewords: &[u32],
+    codebooks: Codebooks,
     values: &mut [u16],
-) -> ValuesRead
-    requires { FloorStored floors.now books.now lengths.now codewords.now floor }
-    ensures wrote { Wrote (mapped (answered_values values.old)
-        (floor_values (lengths_in books.now lengths.now) (floor_in floors.now floor)
-        packet.now (position from))) result.step (result.used, values.new) }
-    ensures floor_values { FloorValues (lengths_in books.now lengths.now) (floor_in floors.now floor) }
+) -> Result<(bool, Cursor), Refusal>
+    requires { FloorStored floors.now codebooks.books.now codebooks.lengths.now codebooks.codewords.now floor }
+    ensures wrote { mapped (with_values values.new) (outcome result) ≡ mapped (answered_values values.old)
+        (floor_values (lengths_in codebooks.entry.books.now codebooks.entry.lengths.now) (floor_in floors.now floor)
+        packet.now (position from)) }
+    ensures floor_values { FloorValues (lengths_in codebooks.entry.books.now codebooks.entry.lengths.now) (floor_in floors.now floor) }
 {
-    match from.bit(packet) {
-        Field::Refused(z) => ValuesRead {
-            step: Step::Refused(z),
-            used: false,
-        },
-        Field::Value(nonzero, next) => {
-            if nonzero == 0 {
-                return ValuesRead {
-                    step: Step::Next(next),
-                    used: false,
-                };
-            }
-            ValuesRead {
-                step: read_used(
-                    packet, next, floors, floor, books, lengths, codewords, values,
-                ),
-                used: true,
-            }
-        }
+    let (nonzero, next) = from.bit(packet)?;
+    if nonzero == 0 {
+        return Ok((false, next));
     }
+    let after = read_used(packet, next, floors, floor, codebooks, values)?;
+    Ok((true, after))
 }
