@@ -1,33 +1,12 @@
 // Whether a power of two numbers of 32 bits stays within a bound, exactly, though the power itself may have billions of digits.
 #![tactic(auto)]
 
-ghost use Rattle.std.specs.Prelude.{◌≡◌, ◌^◌, ◌<◌, ◌*◌, ◌≤◌, leb};
+ghost use Rattle.std.specs.Prelude.{◌≡◌, ◌^◌, leb};
 
-// A base of 2 or more passes any bound within 32 turns; 0 and 1 take none.
+// A power that passes 32 bits passes the bound. A base of 2 or more takes 32 turns at most; 0 and 1 take none.
 pub fn power_within(base: u32, exponent: u32, bound: u32) -> bool
     ensures { result ≡ leb (base ^ exponent) bound }
 {
-    if exponent == 0 {
-        return 1 <= bound;
-    }
-    if base < 2 {
-        return base <= bound;
-    }
-    grows_within(base, exponent, bound)
-}
-
-// The powers of the base one after the other, up to the first above the bound.
-fn grows_within(base: u32, exponent: u32, bound: u32) -> bool
-    requires { 2 ≤ base }
-    ensures { result ≡ leb (base ^ exponent) bound }
-{
-    let most = bound as u64;
-    let mut power: u64 = 1;
-    for done in 0..exponent {
-        if most < power {
-            return false;
-        }
-        power *= base as u64;
-    }
-    power <= most
+    base.checked_pow(exponent)
+        .is_some_and(|power| power <= bound)
 }

@@ -1,9 +1,0 @@
--- `power::power_within` meets its contract, by Laws. Assumes nothing.
-use Rattle.power.proofs.Laws.{powers}
-use Rattle.power.proofs.power_within.Goals as goal
-
-pub returns-then-exponent-eq0 : goal.returns-then-exponent-eq0
-returns-then-exponent-eq0 c = search powers
-
-pub returns-then-base-lt2 : goal.returns-then-base-lt2
-returns-then-base-lt2 c = search powers
