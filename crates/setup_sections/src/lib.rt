@@ -3,7 +3,7 @@
 
 pub mod parts;
 
-ghost use Rattle.std.specs.Prelude.{◌≡◌, ◌≤◌};
+ghost use Rattle.std.specs.Prelude.{◌≡◌, ◌≤◌, IfOk};
 ghost use Rattle.reading.specs.Outcome.{ok, then};
 ghost use Rattle.reading.specs.Reader.{many};
 ghost use Rattle.reading.specs.Encoding.{Zeros};
@@ -17,21 +17,15 @@ ghost use Rattle.mapping.specs.Reading.{mapping};
 ghost use Rattle.mode.specs.Layout.{mode_row};
 ghost use Rattle.mode.specs.Reading.{mode};
 ghost use Rattle.setup.specs.Reading.{book_section, section, time_value};
-ghost use Rattle.setup.specs.Inner.Parts.{ReadInto, ClearedBookBuffers};
+ghost use Rattle.setup.specs.Inner.Parts.{ReadCounted, ClearedBookBuffers};
 ghost use Rattle.setup_sections.specs.Inner.Stored.{RowsStoredIn, BooksStoredIn, ResiduesStoredIn};
 
-use bits::{Cursor, Field, Refusal, Step};
+use bits::Cursor;
+use bits::refusal::{Reason, Refusal};
 use limits::Limits;
 use mapping::Known;
-use reading::widths::wide_u32;
 
-// How many items a section has, and where reading goes on, or the refusal.
-#[derive(Clone, Copy)]
-pub struct Section {
-    pub count: u32,
-    pub step: Step,
-}
-
+// How many codebooks there are, and the position behind them.
 pub fn read_book_section(
     packet: &[u8],
     from: Cursor,
@@ -40,80 +34,58 @@ pub fn read_book_section(
     lengths: &mut [u8],
     codewords: &mut [u32],
     multiplicands: &mut [u16],
-) -> Section
+) -> Result<(u32, Cursor), Refusal>
     requires { ClearedBookBuffers limits books.old lengths.old codewords.old multiplicands.old }
-    ensures read_into { ReadInto (book_section limits packet.now (position from)) result.step
-        (BooksStoredIn result.count books lengths codewords multiplicands) }
-    ensures count_bound { result.count ≤ 256 }
+    ensures read_into { ReadCounted (book_section limits packet.now (position from)) result
+        (λ count. BooksStoredIn count books lengths codewords multiplicands) }
+    ensures count_bound { IfOk result (λ x. x.0 ≤ 256) }
 {
-    match from.field(packet, 8) {
-        Field::Refused(z) => Section {
-            count: 0,
-            step: Step::Refused(z),
-        },
-        Field::Value(less_one, next) => {
-            let count = less_one + 1;
-            let read = book_reading::read::read_books(
-                packet,
-                next,
-                count,
-                limits,
-                books,
-                lengths,
-                codewords,
-                multiplicands,
-            );
-            let step = read.step;
-            Section { count, step }
-        }
-    }
+    let (less_one, at_books) = from.field(packet, 8)?;
+    let count = less_one + 1;
+    let (_totals, next) = book_reading::read::read_books(
+        packet,
+        at_books,
+        count,
+        limits,
+        books,
+        lengths,
+        codewords,
+        multiplicands,
+    )?;
+    Ok((count, next))
 }
 
 // A time domain transform must be 0.
-fn read_time_value(packet: &[u8], from: Cursor) -> Step
+fn read_time_value(packet: &[u8], from: Cursor) -> Result<Cursor, Refusal>
     ensures { stepped result ≡ then (time_value packet.now (position from)) (λ x. ok x.1) }
 {
-    match from.field(packet, 16) {
-        Field::Refused(z) => Step::Refused(z),
-        Field::Value(value, next) => {
-            if value != 0 {
-                return Step::Refused(Refusal {
-                    number: 9,
-                    place: from,
-                });
-            }
-            Step::Next(next)
-        }
+    let (value, next) = from.field(packet, 16)?;
+    if value != 0 {
+        return Err(Refusal {
+            reason: Reason::NotZero,
+            place: from,
+        });
     }
+    Ok(next)
 }
 
-fn read_time_values(packet: &[u8], from: Cursor, time_value_count: u32) -> Step
+fn read_time_values(packet: &[u8], from: Cursor, time_value_count: u32) -> Result<Cursor, Refusal>
     ensures { stepped result ≡ then (many time_value time_value_count packet.now (position from)) (λ x. ok x.1) }
 {
     let mut at = from;
-    let mut i: u32 = 0;
-    while i < time_value_count {
-        match read_time_value(packet, at) {
-            Step::Refused(z) => {
-                return Step::Refused(z);
-            }
-            Step::Next(next) => {
-                at = next;
-            }
-        }
-        i = i + 1;
+    for _i in 0..time_value_count {
+        let next = read_time_value(packet, at)?;
+        at = next;
     }
-    Step::Next(at)
+    Ok(at)
 }
 
 // The time values are no content: what is left of them is where reading goes on.
-pub fn read_time_section(packet: &[u8], from: Cursor) -> Step
+pub fn read_time_section(packet: &[u8], from: Cursor) -> Result<Cursor, Refusal>
     ensures { stepped result ≡ then (section time_value packet.now (position from)) (λ x. ok x.1) }
 {
-    match from.field(packet, 6) {
-        Field::Refused(z) => Step::Refused(z),
-        Field::Value(less_one, next) => read_time_values(packet, next, less_one + 1),
-    }
+    let (less_one, next) = from.field(packet, 6)?;
+    read_time_values(packet, next, less_one + 1)
 }
 
 // A floor is judged against how many codebooks are set up.
@@ -122,28 +94,15 @@ pub fn read_floor_section(
     from: Cursor,
     book_count: u32,
     floors: &mut [u16],
-) -> Section
+) -> Result<(u32, Cursor), Refusal>
     requires { (book_count ≤ 256) × Zeros floors.old }
-    ensures read_into { ReadInto (section (floor book_count) packet.now (position from)) result.step (RowsStoredIn floor_row result.count floors) }
-    ensures count_bound { result.count ≤ 64 }
+    ensures read_into { ReadCounted (section (floor book_count) packet.now (position from)) result (λ count. RowsStoredIn floor_row count floors) }
+    ensures count_bound { IfOk result (λ x. x.0 ≤ 64) }
 {
-    match from.field(packet, 6) {
-        Field::Refused(z) => Section {
-            count: 0,
-            step: Step::Refused(z),
-        },
-        Field::Value(less_one, next) => {
-            let count = less_one + 1;
-            let step = floor_reading::read_floors(
-                packet,
-                next,
-                wide_u32(count),
-                book_count,
-                floors,
-            );
-            Section { count, step }
-        }
-    }
+    let (less_one, at_floors) = from.field(packet, 6)?;
+    let count = less_one + 1;
+    let next = floor_reading::read_floors(packet, at_floors, count as usize, book_count, floors)?;
+    Ok((count, next))
 }
 
 // A residue is judged against the rows of the `book_count` codebooks.
@@ -154,31 +113,24 @@ pub fn read_residue_section(
     books: &[u32],
     residues: &mut [u32],
     plans: &mut [u16],
-) -> Section
+) -> Result<(u32, Cursor), Refusal>
     requires { Zeros residues.old × Zeros plans.old }
-    ensures read_into { ReadInto (section (residue (books_of book_count books.now)) packet.now (position from)) result.step
-        (ResiduesStoredIn result.count residues plans) }
-    ensures count_bound { result.count ≤ 64 }
+    ensures read_into { ReadCounted (section (residue (books_of book_count books.now)) packet.now (position from)) result
+        (λ count. ResiduesStoredIn count residues plans) }
+    ensures count_bound { IfOk result (λ x. x.0 ≤ 64) }
 {
-    match from.field(packet, 6) {
-        Field::Refused(z) => Section {
-            count: 0,
-            step: Step::Refused(z),
-        },
-        Field::Value(less_one, next) => {
-            let count = less_one + 1;
-            let step = residue_reading::read_residues(
-                packet,
-                next,
-                book_count,
-                books,
-                residues,
-                plans,
-                wide_u32(count),
-            );
-            Section { count, step }
-        }
-    }
+    let (less_one, at_residues) = from.field(packet, 6)?;
+    let count = less_one + 1;
+    let next = residue_reading::read_residues(
+        packet,
+        at_residues,
+        book_count,
+        books,
+        residues,
+        plans,
+        count as usize,
+    )?;
+    Ok((count, next))
 }
 
 pub fn read_mapping_section(
@@ -186,28 +138,21 @@ pub fn read_mapping_section(
     from: Cursor,
     known: Known,
     mappings: &mut [u8],
-) -> Section
+) -> Result<(u32, Cursor), Refusal>
     requires { (1 ≤ known.channels) × (known.channels ≤ 255) × Zeros mappings.old }
-    ensures read_into { ReadInto (section (mapping known) packet.now (position from)) result.step (RowsStoredIn mapping_row result.count mappings) }
-    ensures count_bound { result.count ≤ 64 }
+    ensures read_into { ReadCounted (section (mapping known) packet.now (position from)) result (λ count. RowsStoredIn mapping_row count mappings) }
+    ensures count_bound { IfOk result (λ x. x.0 ≤ 64) }
 {
-    match from.field(packet, 6) {
-        Field::Refused(z) => Section {
-            count: 0,
-            step: Step::Refused(z),
-        },
-        Field::Value(less_one, next) => {
-            let count = less_one + 1;
-            let step = mapping_reading::read_mappings(
-                packet,
-                next,
-                wide_u32(count),
-                known,
-                mappings,
-            );
-            Section { count, step }
-        }
-    }
+    let (less_one, at_mappings) = from.field(packet, 6)?;
+    let count = less_one + 1;
+    let next = mapping_reading::read_mappings(
+        packet,
+        at_mappings,
+        count as usize,
+        known,
+        mappings,
+    )?;
+    Ok((count, next))
 }
 
 // A mode is judged against how many mappings are set up.
@@ -216,26 +161,13 @@ pub fn read_mode_section(
     from: Cursor,
     mapping_count: u32,
     modes: &mut [u8],
-) -> Section
+) -> Result<(u32, Cursor), Refusal>
     requires { Zeros modes.old }
-    ensures read_into { ReadInto (section (mode mapping_count) packet.now (position from)) result.step (RowsStoredIn mode_row result.count modes) }
-    ensures count_bound { result.count ≤ 64 }
+    ensures read_into { ReadCounted (section (mode mapping_count) packet.now (position from)) result (λ count. RowsStoredIn mode_row count modes) }
+    ensures count_bound { IfOk result (λ x. x.0 ≤ 64) }
 {
-    match from.field(packet, 6) {
-        Field::Refused(z) => Section {
-            count: 0,
-            step: Step::Refused(z),
-        },
-        Field::Value(less_one, next) => {
-            let count = less_one + 1;
-            let step = mode_reading::read_modes(
-                packet,
-                next,
-                wide_u32(count),
-                mapping_count,
-                modes,
-            );
-            Section { count, step }
-        }
-    }
+    let (less_one, at_modes) = from.field(packet, 6)?;
+    let count = less_one + 1;
+    let next = mode_reading::read_modes(packet, at_modes, count as usize, mapping_count, modes)?;
+    Ok((count, next))
 }

@@ -1,20 +1,21 @@
 // The sections put together: books and time values; floors and residues; mappings and modes; all that follows the books.
-ghost use Rattle.std.specs.Prelude.{◌≡◌, ◌≤◌};
+ghost use Rattle.std.specs.Prelude.{◌≡◌, ◌≤◌, IfOk};
 ghost use Rattle.reading.specs.Encoding.{Zeros};
 ghost use Rattle.bits.specs.Inner.Cursors.{position};
 ghost use Rattle.residue.specs.Inner.FromTable.{books_of};
-ghost use Rattle.setup.specs.Inner.Parts.{ReadInto, ClearedBookBuffers, book_part, floor_part, mapping_part, after_books};
+ghost use Rattle.setup.specs.Inner.Parts.{ReadCounted, ClearedBookBuffers, book_part, floor_part, mapping_part, after_books};
 ghost use Rattle.setup_sections.specs.Inner.Stored.{BooksStoredIn, FloorsStoredIn, MappingsStoredIn, AfterBooksStoredIn};
 
 use crate::{
-    Section, read_book_section, read_floor_section, read_mapping_section, read_mode_section,
+    read_book_section, read_floor_section, read_mapping_section, read_mode_section,
     read_residue_section, read_time_section,
 };
-use bits::{Cursor, Step};
+use bits::Cursor;
+use bits::refusal::Refusal;
 use limits::Limits;
 use mapping::Known;
 
-// The books, and behind them the time values.
+// The books, and behind them the time values: how many books there are, and where reading goes on.
 pub fn read_book_part(
     packet: &[u8],
     from: Cursor,
@@ -23,13 +24,13 @@ pub fn read_book_part(
     lengths: &mut [u8],
     codewords: &mut [u32],
     multiplicands: &mut [u16],
-) -> Section
+) -> Result<(u32, Cursor), Refusal>
     requires { ClearedBookBuffers limits books.old lengths.old codewords.old multiplicands.old }
-    ensures read_into { ReadInto (book_part limits packet.now (position from)) result.step
-        (BooksStoredIn result.count books lengths codewords multiplicands) }
-    ensures count_bound { result.count ≤ 256 }
+    ensures read_into { ReadCounted (book_part limits packet.now (position from)) result
+        (λ count. BooksStoredIn count books lengths codewords multiplicands) }
+    ensures count_bound { IfOk result (λ x. x.0 ≤ 256) }
 {
-    let read = read_book_section(
+    let (count, at_times) = read_book_section(
         packet,
         from,
         limits,
@@ -37,27 +38,16 @@ pub fn read_book_part(
         lengths,
         codewords,
         multiplicands,
-    );
-    let count = read.count;
-    let step = read.step;
-    match step {
-        Step::Refused(z) => Section {
-            count,
-            step: Step::Refused(z),
-        },
-        Step::Next(next) => Section {
-            count,
-            step: read_time_section(packet, next),
-        },
-    }
+    )?;
+    let next = read_time_section(packet, at_times)?;
+    Ok((count, next))
 }
 
-// How many floors and residues were read, and where reading goes on, or the refusal.
+// How many floors and residues there are.
 #[derive(Clone, Copy)]
 pub struct FloorPart {
     pub floors: u32,
     pub residues: u32,
-    pub step: Step,
 }
 
 // Floors and residues, behind `book_count` codebooks.
@@ -69,38 +59,32 @@ pub fn read_floor_part(
     floors: &mut [u16],
     residues: &mut [u32],
     plans: &mut [u16],
-) -> FloorPart
+) -> Result<(FloorPart, Cursor), Refusal>
     requires { (book_count ≤ 256) × Zeros floors.old × Zeros residues.old × Zeros plans.old }
-    ensures { ReadInto (floor_part (books_of book_count books.now) packet.now (position from)) result.step
-        (FloorsStoredIn result.floors result.residues floors residues plans) }
+    ensures { ReadCounted (floor_part (books_of book_count books.now) packet.now (position from)) result
+        (λ part. FloorsStoredIn part.floors part.residues floors residues plans) }
 {
-    let read = read_floor_section(packet, from, book_count, floors);
-    let floor_count = read.count;
-    let step = read.step;
-    match step {
-        Step::Refused(z) => FloorPart {
-            floors: floor_count,
-            residues: 0,
-            step: Step::Refused(z),
-        },
-        Step::Next(next) => {
-            let section = read_residue_section(packet, next, book_count, books, residues, plans);
-            let after = section.step;
-            FloorPart {
-                floors: floor_count,
-                residues: section.count,
-                step: after,
-            }
-        }
-    }
+    let (floor_count, at_residues) = read_floor_section(packet, from, book_count, floors)?;
+    let (residue_count, next) = read_residue_section(
+        packet,
+        at_residues,
+        book_count,
+        books,
+        residues,
+        plans,
+    )?;
+    let part = FloorPart {
+        floors: floor_count,
+        residues: residue_count,
+    };
+    Ok((part, next))
 }
 
-// How many mappings and modes were read, and where reading goes on, or the refusal.
+// How many mappings and modes there are.
 #[derive(Clone, Copy)]
 pub struct MappingPart {
     pub mappings: u32,
     pub modes: u32,
-    pub step: Step,
 }
 
 pub fn read_mapping_part(
@@ -109,39 +93,27 @@ pub fn read_mapping_part(
     known: Known,
     mappings: &mut [u8],
     modes: &mut [u8],
-) -> MappingPart
+) -> Result<(MappingPart, Cursor), Refusal>
     requires { (1 ≤ known.channels) × (known.channels ≤ 255) × Zeros mappings.old × Zeros modes.old }
-    ensures { ReadInto (mapping_part known packet.now (position from)) result.step (MappingsStoredIn result.mappings result.modes mappings modes) }
+    ensures { ReadCounted (mapping_part known packet.now (position from)) result
+        (λ part. MappingsStoredIn part.mappings part.modes mappings modes) }
 {
-    let read = read_mapping_section(packet, from, known, mappings);
-    let mapping_count = read.count;
-    let step = read.step;
-    match step {
-        Step::Refused(z) => MappingPart {
-            mappings: mapping_count,
-            modes: 0,
-            step: Step::Refused(z),
-        },
-        Step::Next(next) => {
-            let section = read_mode_section(packet, next, mapping_count, modes);
-            let after = section.step;
-            MappingPart {
-                mappings: mapping_count,
-                modes: section.count,
-                step: after,
-            }
-        }
-    }
+    let (mapping_count, at_modes) = read_mapping_section(packet, from, known, mappings)?;
+    let (mode_count, next) = read_mode_section(packet, at_modes, mapping_count, modes)?;
+    let part = MappingPart {
+        mappings: mapping_count,
+        modes: mode_count,
+    };
+    Ok((part, next))
 }
 
-// How many of each follow the books, and where reading goes on, or the refusal.
+// How many of each follow the books.
 #[derive(Clone, Copy)]
 pub struct After {
     pub floors: u32,
     pub residues: u32,
     pub mappings: u32,
     pub modes: u32,
-    pub step: Step,
 }
 
 // Floors, residues, mappings and modes, behind `book_count` codebooks.
@@ -156,39 +128,26 @@ pub fn read_after_books(
     plans: &mut [u16],
     mappings: &mut [u8],
     modes: &mut [u8],
-) -> After
+) -> Result<(After, Cursor), Refusal>
     requires { (1 ≤ channels) × (channels ≤ 255) × (book_count ≤ 256) × Zeros floors.old × Zeros residues.old × Zeros plans.old
         × Zeros mappings.old × Zeros modes.old }
-    ensures { ReadInto (after_books channels (books_of book_count books.now) packet.now (position from)) result.step
-        (AfterBooksStoredIn result.floors result.residues result.mappings result.modes floors residues plans mappings modes) }
+    ensures { ReadCounted (after_books channels (books_of book_count books.now) packet.now (position from)) result
+        (λ after. AfterBooksStoredIn after.floors after.residues after.mappings after.modes floors residues plans mappings modes) }
 {
-    let first = read_floor_part(packet, from, book_count, books, floors, residues, plans);
-    let floor_count = first.floors;
-    let residue_count = first.residues;
-    let step = first.step;
-    match step {
-        Step::Refused(z) => After {
-            floors: floor_count,
-            residues: residue_count,
-            mappings: 0,
-            modes: 0,
-            step: Step::Refused(z),
-        },
-        Step::Next(next) => {
-            let known = Known {
-                channels,
-                floors: floor_count,
-                residues: residue_count,
-            };
-            let second = read_mapping_part(packet, next, known, mappings, modes);
-            let after = second.step;
-            After {
-                floors: floor_count,
-                residues: residue_count,
-                mappings: second.mappings,
-                modes: second.modes,
-                step: after,
-            }
-        }
-    }
+    let (first, at_mappings) = read_floor_part(
+        packet, from, book_count, books, floors, residues, plans,
+    )?;
+    let known = Known {
+        channels,
+        floors: first.floors,
+        residues: first.residues,
+    };
+    let (second, next) = read_mapping_part(packet, at_mappings, known, mappings, modes)?;
+    let after = After {
+        floors: first.floors,
+        residues: first.residues,
+        mappings: second.mappings,
+        modes: second.modes,
+    };
+    Ok((after, next))
 }

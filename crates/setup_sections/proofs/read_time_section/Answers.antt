@@ -1,12 +1,13 @@
--- `crate::read_time_section` meets its contract, by SectionLaws. Assumes nothing.
-use Rattle.setup_sections.proofs.SectionLaws.{time_laws}
+-- `setup_sections::read_time_section` meets its contract, by SectionLaws. Assumes nothing.
+use Rattle.bits.proofs.Answers.{stepped_back}
+use Rattle.setup_sections.proofs.SectionLaws.{count_fits, times_cut, times_read}
 use Rattle.setup_sections.proofs.read_time_section.Goals as goal
 
 pub overflow_add-less_one : goal.overflow_add-less_one
-overflow_add-less_one c = search time_laws
+overflow_add-less_one c = record { fits = count_fits _ _ c.field.ensures c.in_ok-less_one.was }
 
-pub returns-in-Refused : goal.returns-in-Refused
-returns-in-Refused c = search time_laws
+pub returns-in_err-less_one : goal.returns-in_err-less_one
+returns-in_err-less_one c = stepped_back c.from_residual.result _ c.from_residual.ensures.1 (times_cut _ _ c.field.ensures c.in_err-less_one.was)
 
-pub returns-in-Value : goal.returns-in-Value
-returns-in-Value c = search time_laws
+pub returns : goal.returns
+returns c = times_read _ _ _ c.field.ensures c.in_ok-less_one.was c.read_time_values.ensures
