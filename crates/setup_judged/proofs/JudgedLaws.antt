@@ -21,7 +21,7 @@ use Rattle.codeword_assignment.specs.Book.{used, is_lone, first_refused, free_af
 use Rattle.rules.specs.Rules.{meets7, meets8}
 use Rattle.book.specs.Content.{Book}
 use Rattle.book.specs.HeadReading.{Before}
-use Rattle.book.specs.LengthsReading.{lengths, entered}
+use Rattle.book.specs.LengthsReading.{entered}
 use Rattle.book.specs.LookupReading.{Lookup}
 use Rattle.book.specs.Reading.{book, and_this, books}
 use Rattle.floor.specs.Content.{Floor}

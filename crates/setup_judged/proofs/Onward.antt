@@ -18,6 +18,7 @@ use Rattle.codeword_assignment.specs.Book.{used, first_refused, free_after, is_l
 use Rattle.rules.specs.Rules.{meets7, meets8}
 use Rattle.book.specs.Content.{Book}
 use Rattle.book.specs.HeadReading as H
+use Rattle.book.specs.declared.Head as D
 use Rattle.book.specs.LengthsReading as L
 use Rattle.book.specs.LookupReading as U
 use Rattle.book.specs.Reading as K
@@ -196,7 +197,7 @@ module _ (place : ℕ) (s : List ℕ) where
   book_past : (limits : Limits) (before : H.Before) → Onward (K.book limits before)
   unfolding K.book
   book_past limits before k h =
-      then_past place (head_past limits before k (omega arith)) (λ (x : H.Head × ℕ) p.
+      then_past place (head_past limits before k (omega arith)) (λ (x : D.Head × ℕ) p.
       then_past place (then_past place (lengths_past k x.0.entries x.1 p) (λ (ls : List ℕ × ℕ) q. entered_past k ls h q)) (λ (ls : List ℕ × ℕ) q.
       then_past place (lookup_past k x.0.entries x.0.dimensions limits.multiplicands before.values ls.1 q) (λ (l : U.Lookup × ℕ) t. read _ t)))
 

@@ -1,5 +1,5 @@
 -- EVERY BOOK OF AN ACCEPTED SETUP WAS REACHED, and all its lengths were read: what the call's judgement is said of, it is said of each of them. Assumes nothing.
-use Prim.Native.Nat.{ℕ, zero, suc, ◌+◌, ◌-◌, ◌<◌}
+use Prim.Native.Nat.{ℕ, zero, suc, ◌+◌, ◌<◌}
 use native.Mathlib.Omega.{arith}
 use mathlib.Core.List.{List, [], ◌∷◌, map}
 use mathlib.Core.Path.{◌≡◌, refl, sym, ap, subst, ◌∙◌}
@@ -13,7 +13,8 @@ use Rattle.identification.specs.declared.Identity.{Identity}
 use Rattle.codeword_assignment.specs.Book.{used, first_refused, free_after, is_lone}
 use Rattle.rules.specs.Rules.{meets7, meets8}
 use Rattle.book.specs.Content.{Book}
-use Rattle.book.specs.HeadReading.{Before, Head, head}
+use Rattle.book.specs.HeadReading.{Before, head}
+use Rattle.book.specs.declared.Head.{Head}
 use Rattle.book.specs.LengthsReading.{lengths, entered}
 use Rattle.book.specs.LookupReading.{lookup}
 use Rattle.book.specs.Reading.{book, and_this, books}

@@ -10,7 +10,8 @@ use Rattle.identification.specs.declared.Identity.{Identity}
 use Rattle.identification.specs.Sound.{is_sound}
 use Rattle.codeword_assignment.specs.Book.{used, is_lone, first_refused, free_after}
 use Rattle.book.specs.Content.{Book}
-use Rattle.book.specs.HeadReading.{Before, Head, head}
+use Rattle.book.specs.HeadReading.{Before, head}
+use Rattle.book.specs.declared.Head.{Head}
 use Rattle.book.specs.LengthsReading.{lengths}
 use Rattle.book.specs.Reading.{books}
 use Rattle.setup.specs.Layout.{Tables, has_room}
