@@ -7,13 +7,11 @@ ghost use Rattle.residue_requests.specs.Inner.Unplaced.{flat_class_words};
 ghost use Rattle.residue_requests.specs.Inner.Again.{entries_from};
 ghost use Rattle.codeword_list.specs.Inner.ListRead.{ReadIntoList};
 ghost use Rattle.codeword_list.specs.Inner.WordsRun.{words_run};
-ghost use Rattle.residue_pass.specs.Inner.Readable.{PassReadable};
-ghost use Rattle.residue_pass.specs.Inner.PassRuns.{first_pass_run};
+ghost use Rattle.residue_pass.specs.Inner.Decoders.{PassReady, first_pass_by};
 
-use super::partition;
+use super::{Decoder, partition};
 use book_codeword::Codebooks;
 use codeword_list::{Progress, Stop};
-use residue::head::Head;
 
 // A class word for each of `live` vectors.
 pub fn read_class_words(
@@ -40,27 +38,27 @@ pub fn read_class_words(
 pub fn class_word(
     packet: &[u8],
     from: Progress,
-    head: Head,
-    residue: u32,
+    decoder: Decoder,
     live: usize,
-    digits: u32,
-    top: u32,
     left: u32,
-    plans: &[u16],
-    codebooks: Codebooks,
     out: &mut [u32],
 ) -> Result<Progress, Stop>
-    requires { (from.count ≤ length out.old) × PassReadable codebooks.books.now codebooks.lengths.now codebooks.codewords.now plans.now residue head digits top }
-    ensures { ReadIntoList (first_pass_run codebooks.entry.books.now codebooks.entry.lengths.now plans.now residue head live left 0 []
+    requires { (from.count ≤ length out.old) × PassReady decoder }
+    ensures { ReadIntoList (first_pass_by decoder.entry live left 0 []
         packet.now (position from.at)) out.old from.count result out.new }
 {
     if left == 0 {
         return Ok(from);
     }
-    let words = read_class_words(packet, from, head.classbook, live, codebooks, out)?;
-    group(
-        packet, words, head, residue, live, digits, top, left, plans, codebooks, out,
-    )
+    let words = read_class_words(
+        packet,
+        from,
+        decoder.head.classbook,
+        live,
+        decoder.codebooks,
+        out,
+    )?;
+    group(packet, words, decoder, live, left, out)
 }
 
 // A group of partitions by the class words that stand last in the list, and then the next class words. Digits past the last partition are not used.
@@ -68,38 +66,19 @@ pub fn class_word(
 pub fn group(
     packet: &[u8],
     from: Progress,
-    head: Head,
-    residue: u32,
+    decoder: Decoder,
     live: usize,
-    digits: u32,
-    top: u32,
     left: u32,
-    plans: &[u16],
-    codebooks: Codebooks,
     out: &mut [u32],
 ) -> Result<Progress, Stop>
-    requires { (from.count ≤ length out.old) × PassReadable codebooks.books.now codebooks.lengths.now codebooks.codewords.now plans.now residue head digits top
+    requires { (from.count ≤ length out.old) × PassReady decoder
         × (live ≤ from.count) × (0 < left) }
-    ensures { ReadIntoList (first_pass_run codebooks.entry.books.now codebooks.entry.lengths.now plans.now residue head live left digits
+    ensures { ReadIntoList (first_pass_by decoder.entry live left decoder.entry.digits
         (entries_from out.old (from.count - live) live)
         packet.now (position from.at)) out.old from.count result out.new }
 {
     let at = from.count - live;
-    let rows = digits.min(left);
-    let next = partition::read_rows(
-        packet, from, head, residue, at, live, digits, top, rows, 0, plans, codebooks, out,
-    )?;
-    class_word(
-        packet,
-        next,
-        head,
-        residue,
-        live,
-        digits,
-        top,
-        left - rows,
-        plans,
-        codebooks,
-        out,
-    )
+    let rows = decoder.digits.min(left);
+    let next = partition::read_rows(packet, from, decoder, at, live, rows, 0, out)?;
+    class_word(packet, next, decoder, live, left - rows, out)
 }

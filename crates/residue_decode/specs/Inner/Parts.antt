@@ -7,6 +7,7 @@ use Rattle.requests.specs.Run.{Run}
 use Rattle.residue_requests.specs.Inner.Unplaced.{flat_later_passes, flat_residue}
 use Rattle.residue_requests.specs.Inner.Again.{again}
 use Rattle.codeword_list.specs.Inner.WordsRun.{words_run}
+use Rattle.residue_pass.specs.declared.Decoder.{Decoder}
 use Rattle.residue_pass.specs.Inner.Readable.{residue_by, place_in}
 
 module _ (books lengths plans : List ℕ) (n : ℕ) (h : Head) where
@@ -21,6 +22,16 @@ module _ (books lengths plans : List ℕ) (n : ℕ) (h : Head) where
 -- the classes of so many partitions, found again in the list from place `start` on
 abbrev pub classes_in : List ℕ → ℕ → Head → ℕ → ℕ → List ℕ → ℕ → ℕ → List ℕ
 classes_in plans n h digits live list partitions start = again digits (residue_by h plans n) live list partitions 0 [] start
+
+-- the same of the residue that a decoder is of
+abbrev pub later_passes_by : Decoder → ℕ → ℕ → List ℕ → List ℕ → ℕ → Run Unit
+later_passes_by d = later_passes_run d.codebooks.books.now d.codebooks.lengths.now d.plans.now d.residue d.head
+
+abbrev pub residue_by_decoder : Decoder → ℕ → ℕ → List ℕ → ℕ → Run Unit
+residue_by_decoder d = residue_run d.codebooks.books.now d.codebooks.lengths.now d.plans.now d.residue d.head
+
+abbrev pub classes_found : Decoder → ℕ → List ℕ → ℕ → ℕ → List ℕ
+classes_found d = classes_in d.plans.now d.residue d.head d.digits
 
 -- how many partitions the cycle takes at a time: all that are left, or those of 16 class words
 pub record Chunk (digits left r : ℕ) : Type 0 where

@@ -4,4 +4,4 @@ use Rattle.residue_pass.proofs.partition.read_across_vectors.Given as goal
 
 abbrev pub invariant-loop-j : goal.invariant-loop-j
 invariant-loop-j l =
-    AcrossLeft l.packet l.codebooks.books.now l.codebooks.lengths.now l.codebooks.codewords.now l.plans l.residue l.head l.at l.live l.unused l.divisor l.pass l.initial.out l.initial.next l.out l.next l.j
+    AcrossLeft l.packet l.decoder.codebooks.books.now l.decoder.codebooks.lengths.now l.decoder.codebooks.codewords.now l.decoder.plans.now l.decoder.residue l.decoder.head l.at l.live l.unused l.divisor l.pass l.initial.out l.initial.next l.out l.next l.j
