@@ -1,12 +1,13 @@
--- `audio_tally::is_sound` meets its contract: one law of TallyLaws for each way out. Assumes nothing.
-use Rattle.audio_tally.proofs.TallyLaws.{sound_fresh, sound_first, sound_second}
+-- `audio_tally::is_sound` meets its contract: the three tests are the definition's. Assumes nothing.
+use Rattle.std.proofs.lemmas.Bool.Decides.{nat_tests}
+use native.Mathlib.Omega.{arith}
+use Rattle.audio.specs.Tally.{tally_sound}
 use Rattle.audio_tally.proofs.is_sound.Goals as goal
 
-pub returns-then-is_fresh : goal.returns-then-is_fresh
-returns-then-is_fresh c = search (sound_fresh)
-
 pub returns-then-tally-identity : goal.returns-then-tally-identity
-returns-then-tally-identity c = search (sound_first)
+unfolding tally_sound
+returns-then-tally-identity c = grind (arith, nat_tests)
 
-pub returns : goal.returns
-returns c = search (sound_second)
+pub returns-else-tally-identity : goal.returns-else-tally-identity
+unfolding tally_sound
+returns-else-tally-identity c = grind (arith, nat_tests)
