@@ -3,7 +3,6 @@ use Prim.Native.Nat.{ℕ, ◌+◌, ◌-◌, ◌*◌, ◌≤◌, ◌<◌}
 use native.Mathlib.Numerals.{add-one}
 use native.Mathlib.Omega.{arith}
 use borrow.Author.Rules.{rules}
-use borrow.Author.Tests.{eq-eqb, ne_eqb}
 use mathlib.Core.Bool.{Bool, true, false, ◌&&◌}
 use mathlib.Core.List.{List}
 use mathlib.Core.Path.{◌≡◌, refl, sym, ap, ◌∙◌}
@@ -17,29 +16,6 @@ use Rattle.mapping_row.specs.Inner.Readable.{mapping_in, MappingReadable}
 use Rattle.audio.specs.Channels.{submap_of, channels_of, live_of}
 use Rattle.audio_channels.specs.Inner.Live.{is_live, used_bools}
 use Rattle.audio_channels.proofs.LiveLaws.{used_long}
-
--- one channel: x is its submap as the table has it, v as it was read
-module _ {x s v w : ℕ} (e : v ≡ x) (g : w ≡ v) where
-  pub of_it : w ≡ s → 1 ≡ one (eqb x s)
-  of_it q = rw (eq-eqb x s (sym e ∙ sym g ∙ q))
-
-  pub of_another : (w ≡ s → ⊥) → 0 ≡ one (eqb x s)
-  of_another q = rw (ne_eqb x s (λ h. q (g ∙ e ∙ h)))
-
-module _ (x s v : ℕ) where
-  pub live_not : v ≡ 0 → 0 ≡ one (eqb x s && is_live v)
-  live_not e = rw (eq-eqb v 0 e) (go (eqb x s))
-    where
-      go : (t : Bool) → 0 ≡ one (t && false)
-      go true = refl
-      go false = refl
-
-  pub live_is : (v ≡ 0 → ⊥) → {r : ℕ} → r ≡ one (eqb x s) → r ≡ one (eqb x s && is_live v)
-  live_is f e = rw (ne_eqb v 0 f) (e ∙ go (eqb x s))
-    where
-      go : (t : Bool) → one t ≡ one (t && true)
-      go true = refl
-      go false = refl
 
 -- how many of the first i channels pass a test
 pub record Counting (f : ℕ → Bool) (channels total i : ℕ) : Type 0 where

@@ -4,11 +4,9 @@ use native.Mathlib.Numerals.{add-one}
 use native.Mathlib.Nat.{le_of_suc-le-suc}
 use native.Mathlib.Omega.{arith}
 use borrow.Author.Rules.{rules}
-use borrow.Author.Tests.{eq-eqb, ne_eqb}
-use mathlib.Core.Bool.{Bool, true, false, not, cond, ◌||◌}
+use mathlib.Core.Bool.{Bool, true, false, cond, ◌||◌}
 use mathlib.Core.List.{List, [], ◌∷◌, ◌++◌, map}
 use mathlib.Core.Path.{◌≡◌, refl, sym, ap, ◌∙◌}
-use lib.Dec.{eqb}
 use lib.ListN.{length, get_or, set, take, replicate, length-set, length-map, length-take, get_or-map}
 use lib.Seq.{take-suc, take_all}
 use Rattle.reading.specs.Least.{one}
@@ -19,21 +17,6 @@ use Rattle.mapping.specs.Layout.{mapping_width, couplings_place}
 use Rattle.mapping_row.specs.Inner.Readable.{mapping_in, MappingReadable}
 use Rattle.audio.specs.Channels.{couple, coupled}
 use Rattle.audio_channels.specs.Inner.Live.{is_live, used_bools, live_bytes, coupled_bytes}
-
--- a number as a flag
-module _ (v : ℕ) where
-  pub flag_none : v ≡ 0 → 0 ≡ one (is_live v)
-  flag_none e = rw (eq-eqb v 0 e)
-
-  pub flag_some : (v ≡ 0 → ⊥) → 1 ≡ one (is_live v)
-  flag_some f = rw (ne_eqb v 0 f)
-
-  module _ (w : ℕ) where
-    pub either_second : v ≡ 0 → not (eqb w 0) ≡ (is_live v || is_live w)
-    either_second e = rw (eq-eqb v 0 e)
-
-    pub either_first : (v ≡ 0 → ⊥) → true ≡ (is_live v || is_live w)
-    either_first f = rw (ne_eqb v 0 f)
 
 pub live_one : (b : Bool) → is_live (one b) ≡ b
 live_one true = refl
@@ -107,15 +90,6 @@ unfolding live_bytes
 bytes_long l = length-pad 255 (map one l)
 
 -- one coupling step
-module _ (magnitude angle : ℕ) (live : List ℕ) {either : Bool} (e : either ≡ (is_live (get_or live magnitude 0) || is_live (get_or live angle 0))) where
-  pub couple_both : either ≡ true → set (set live magnitude 1) angle 1 ≡ coupled_bytes magnitude angle live
-  unfolding coupled_bytes
-  couple_both t = rw (← e, t)
-
-  pub couple_none : either ≡ false → live ≡ coupled_bytes magnitude angle live
-  unfolding coupled_bytes
-  couple_none t = rw (← e, t)
-
 couple_bytes : (c : Coupling) (l : List Bool) → length l ≤ 255 → c.magnitude < length l → c.angle < length l
     → coupled_bytes c.magnitude c.angle (live_bytes l) ≡ live_bytes (couple c l)
 unfolding coupled_bytes couple live_bytes
@@ -181,29 +155,28 @@ module _ (used : List ℕ) (channels : ℕ) (t : List ℕ) (n : ℕ) (own : used
       step : i < length (mapping_in t n).couplings
       step = omega (arith, p.steps, s)
 
-      -- the channels of step i, as they were read and as indices
-      module _ {first : ℕ} (a : first ≡ get_or t (mapping_width * n + (couplings_place + 2 * i)) 0) {magnitude : ℕ} (f : magnitude ≡ first) where
+      -- the channels of step i
+      module _ {magnitude : ℕ} (a : magnitude ≡ get_or t (mapping_width * n + (couplings_place + 2 * i)) 0) where
         pub magnitude_in : magnitude < 255
-        magnitude_in = omega (arith, p.magnitude i step, p.magnitude_set_up i step, a, f)
+        magnitude_in = omega (arith, p.magnitude i step, p.magnitude_set_up i step, a)
 
-        module _ {second : ℕ} (b : second ≡ get_or t (mapping_width * n + (couplings_place + 2 * i + 1)) 0) {angle : ℕ} (g : angle ≡ second) where
+        module _ {angle : ℕ} (b : angle ≡ get_or t (mapping_width * n + (couplings_place + 2 * i + 1)) 0) where
           pub steps_next : {live' : List ℕ} → live' ≡ coupled_bytes magnitude angle live → Steps (mapping_in t n) (used_bools channels used) live' (i + 1)
           steps_next e =
               let cs = (mapping_in t n).couplings in
               let c = get_or cs i no_coupling in
               let l = coupled (take i cs) (used_bools channels used) in
               let size : length l ≡ channels = coupled_long (take i cs) (used_bools channels used) ∙ used_long channels used long few in
-              let m : magnitude ≡ c.magnitude = f ∙ a ∙ p.magnitude i step in
-              let o : angle ≡ c.angle = g ∙ b ∙ p.angle i step in
+              let m : magnitude ≡ c.magnitude = a ∙ p.magnitude i step in
+              let o : angle ≡ c.angle = b ∙ p.angle i step in
               let next = couple_bytes c l (omega arith) (omega (arith, p.magnitude_set_up i step)) (omega (arith, p.angle_set_up i step)) in
               record {
                 within = omega (arith, step);
                 flags = rw (e, m, o, w.flags, add-one, coupled_more cs i (used_bools channels used) step) next;
               }
 
-      module _ {second : ℕ} (b : second ≡ get_or t (mapping_width * n + (couplings_place + 2 * i + 1)) 0) {angle : ℕ} (g : angle ≡ second) where
-        pub angle_in : angle < 255
-        angle_in = omega (arith, p.angle i step, p.angle_set_up i step, b, g)
+      pub angle_in : {angle : ℕ} → angle ≡ get_or t (mapping_width * n + (couplings_place + 2 * i + 1)) 0 → angle < 255
+      angle_in b = omega (arith, p.angle i step, p.angle_set_up i step, b)
 
     pub steps_done : steps ≤ i → live ≡ live_bytes (coupled (mapping_in t n).couplings (used_bools channels used))
     steps_done h =

@@ -1,5 +1,5 @@
 // How many vectors a submap's residue has, and how many partitions each of them (003, 4.3.4; 000, 8.6.2; 01, "Audio order" 5).
-ghost use Rattle.std.specs.Prelude.{min, ◌≤◌, ◌≡◌, length};
+ghost use Rattle.std.specs.Prelude.{◌≤◌, ◌≡◌, length};
 ghost use Rattle.residue_requests.specs.Requests.{partition_count};
 ghost use Rattle.audio.specs.Channels.{vector_size, vector_count};
 ghost use Rattle.mapping_row.specs.Inner.Readable.{mapping_in, MappingReadable};
@@ -7,7 +7,6 @@ ghost use Rattle.audio_channels.specs.Inner.Extents.{head_residue, ExtentIs};
 ghost use Rattle.audio_channels.specs.Inner.Live.{used_bools};
 
 use crate::channels::{channels_of, live_of};
-use reading::widths::wide_u32;
 use residue::head::Head;
 
 // How much of a residue is read.
@@ -17,26 +16,14 @@ pub struct Extent {
     pub partitions: u32,
 }
 
-fn lower(number: u32, size: u32) -> u32
-    ensures { result ≡ min number size }
-{
-    if number <= size {
-        return number;
-    }
-    size
-}
-
 // Begin and end are each lowered to the size.
 fn partition_count(head: Head, size: u32) -> u32
     requires { 1 ≤ head.size }
     ensures { result ≡ partition_count (head_residue head) size }
 {
-    let begin = lower(head.begin, size);
-    let end = lower(head.end, size);
-    if end <= begin {
-        return 0;
-    }
-    (end - begin) / head.size
+    let begin = head.begin.min(size);
+    let end = head.end.min(size);
+    end.saturating_sub(begin) / head.size
 }
 
 // Type 2 has one vector with the places of all channels of the submap.
@@ -45,19 +32,17 @@ fn vector_size(head: Head, half: u32, channels: u32) -> u32
     ensures { result ≡ vector_size (head_residue head) half channels }
 {
     if head.kind == 2 {
-        return half * channels;
+        half * channels
+    } else {
+        half
     }
-    half
 }
 
 // It is read if any of them is live.
 fn vector_count(head: Head, live: u32) -> u32
     ensures { result ≡ vector_count (head_residue head) live }
 {
-    if head.kind == 2 {
-        return lower(1, live);
-    }
-    live
+    if head.kind == 2 { live.min(1) } else { live }
 }
 
 fn extent_of(head: Head, half: u32, channels: u32, live: u32) -> Extent
@@ -66,7 +51,7 @@ fn extent_of(head: Head, half: u32, channels: u32, live: u32) -> Extent
         × (result.partitions ≡ partition_count (head_residue head) (vector_size (head_residue head) half channels)) }
 {
     let size = vector_size(head, half, channels);
-    let vectors = wide_u32(vector_count(head, live));
+    let vectors = vector_count(head, live) as usize;
     let partitions = partition_count(head, size);
     Extent {
         vectors,

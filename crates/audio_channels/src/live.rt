@@ -1,32 +1,11 @@
 // Which channels are live: those whose floor is used, and of a coupling step's channels both, if either is (003, 4.3.3; 01, "Audio order" 4).
 // A channel's place holds 1 where it is live and 0 where it is not; places past the last channel hold 0.
-ghost use Rattle.std.specs.Prelude.{◌≤◌, ◌<◌, ◌||◌, ◌≡◌, length};
-ghost use Rattle.reading.specs.Least.{one};
+ghost use Rattle.std.specs.Prelude.{◌≤◌, ◌<◌, ◌≡◌, length};
 ghost use Rattle.mapping_row.specs.Inner.Readable.{mapping_in, MappingReadable};
 ghost use Rattle.audio.specs.Channels.{coupled};
-ghost use Rattle.audio_channels.specs.Inner.Live.{is_live, used_bools, live_bytes, coupled_bytes};
+ghost use Rattle.audio_channels.specs.Inner.Live.{used_bools, live_bytes, coupled_bytes};
 
 use mapping_row::{angle, coupling_steps, magnitude};
-use reading::widths::{wide_u8, wide_u32};
-
-// 1 for what is not 0.
-fn flag(value: u8) -> u8
-    ensures { result ≡ one (is_live value) }
-{
-    if value == 0 {
-        return 0;
-    }
-    1
-}
-
-fn either(first: u8, second: u8) -> bool
-    ensures { result ≡ (is_live first || is_live second) }
-{
-    if first == 0 {
-        return second != 0;
-    }
-    true
-}
 
 // The channels whose floor is used.
 fn used_channels(used: &[u8], channels: usize) -> [u8; 255]
@@ -34,10 +13,8 @@ fn used_channels(used: &[u8], channels: usize) -> [u8; 255]
     ensures { result ≡ live_bytes (used_bools channels used.now) }
 {
     let mut live = [0u8; 255];
-    let mut i: usize = 0;
-    while i < channels {
-        live[i] = flag(used[i]);
-        i = i + 1;
+    for i in 0..channels {
+        live[i] = (used[i] != 0) as u8;
     }
     live
 }
@@ -47,7 +24,7 @@ fn couple(live: &mut [u8; 255], magnitude: usize, angle: usize)
     requires { (magnitude < 255) × (angle < 255) }
     ensures { live.new ≡ coupled_bytes magnitude angle live.old }
 {
-    if either(live[magnitude], live[angle]) {
+    if live[magnitude] != 0 || live[angle] != 0 {
         live[magnitude] = 1;
         live[angle] = 1;
     }
@@ -59,13 +36,10 @@ fn sweep(flags: [u8; 255], channels: u32, mappings: &[u8], mapping: usize) -> [u
     ensures { result ≡ live_bytes (coupled (mapping_in mappings.now mapping).couplings (used_bools channels flags)) }
 {
     let mut live = flags;
-    let steps = coupling_steps(mappings, mapping);
-    let mut i: usize = 0;
-    while i < steps {
-        let first = wide_u8(magnitude(mappings, mapping, i));
-        let second = wide_u8(angle(mappings, mapping, i));
+    for i in 0..coupling_steps(mappings, mapping) {
+        let first = magnitude(mappings, mapping, i) as usize;
+        let second = angle(mappings, mapping, i) as usize;
         couple(&mut live, first, second);
-        i = i + 1;
     }
     live
 }
@@ -75,6 +49,6 @@ pub fn live_channels(used: &[u8], channels: u32, mappings: &[u8], mapping: usize
     requires { (length used.now ≡ 255) × (channels ≤ 255) × MappingReadable channels mappings.now mapping }
     ensures { result ≡ live_bytes (coupled (mapping_in mappings.now mapping).couplings (used_bools channels used.now)) }
 {
-    let live = used_channels(used, wide_u32(channels));
+    let live = used_channels(used, channels as usize);
     sweep(live, channels, mappings, mapping)
 }

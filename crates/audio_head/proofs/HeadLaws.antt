@@ -1,4 +1,5 @@
 -- Laws of reading a head as the code asks them: one for each way out of a function. Assumes nothing.
+use Rattle.std.specs.Prelude.{Result, Ok, Err}
 use Prim.Native.Nat.{ℕ, ◌-◌, ◌*◌, ◌≤◌, ◌<◌}
 use native.Mathlib.Omega.{arith}
 use borrow.Author.Rules.{rules}
@@ -8,9 +9,7 @@ use mathlib.Core.Path.{◌≡◌, ap, ◌∙◌}
 use lib.ListN.{get_or}
 use Rattle.reading.specs.Outcome.{Outcome}
 use Rattle.bits.specs.declared.Cursor.{Cursor}
-use Rattle.bits.specs.declared.Refusal.{Refusal}
-use Rattle.bits.specs.declared.Field.{Field}
-use Rattle.bits.specs.declared.Field.TheVariants.{Value, Refused}
+use Rattle.bits.specs.declared.refusal.Refusal.{Refusal}
 use Rattle.bits.specs.Inner.Cursors.{position, outcome}
 use Rattle.bits.specs.Field.{field}
 use Rattle.bits.specs.Ilog.{ilog}
@@ -45,17 +44,17 @@ module _ (i : Identity) (mode flag : ℕ) (s : List ℕ) (k : Cursor) {size : �
   unfolding head_read flags_reader
   flags_short h = rw (b, h)
 
-  module _ (h : flag ≡ 0 → ⊥) {r : Field} (p : outcome r ≡ field 1 s (position k)) where
-    pub previous_cut : {z : Refusal} → r ≡ Refused z → head_read (H.Refused z) ≡ flags_reader i mode flag s (position k)
+  module _ (h : flag ≡ 0 → ⊥) {r : Result (ℕ × Cursor) Refusal} (p : outcome r ≡ field 1 s (position k)) where
+    pub previous_cut : {z : Refusal} → r ≡ Err z → head_read (H.Refused z) ≡ flags_reader i mode flag s (position k)
     unfolding head_read flags_reader
     previous_cut q = rw (ne_eqb _ _ h, refused_is p q)
 
-    module _ {previous : ℕ} {k₁ : Cursor} (q : r ≡ Value previous k₁) {r₁ : Field} (p₁ : outcome r₁ ≡ field 1 s (position k₁)) where
-      pub next_cut : {z : Refusal} → r₁ ≡ Refused z → head_read (H.Refused z) ≡ flags_reader i mode flag s (position k)
+    module _ {previous : ℕ} {k₁ : Cursor} (q : r ≡ Ok (previous, k₁)) {r₁ : Result (ℕ × Cursor) Refusal} (p₁ : outcome r₁ ≡ field 1 s (position k₁)) where
+      pub next_cut : {z : Refusal} → r₁ ≡ Err z → head_read (H.Refused z) ≡ flags_reader i mode flag s (position k)
       unfolding head_read flags_reader
       next_cut q₁ = rw (ne_eqb _ _ h, value_is p q, refused_is p₁ q₁)
 
-      pub flags_long : {next : ℕ} {k₂ : Cursor} → r₁ ≡ Value next k₂
+      pub flags_long : {next : ℕ} {k₂ : Cursor} → r₁ ≡ Ok (next, k₂)
           → head_read (H.Value (record { mode = mode; blockflag = flag; blocksize = size; previous = previous; next = next }) k₂)
           ≡ flags_reader i mode flag s (position k)
       unfolding head_read flags_reader
@@ -78,12 +77,12 @@ place_as : {o : Outcome (ℕ × ℕ)} (w : ℕ) (s : List ℕ) {k j : ℕ} → o
 place_as w s p e = p ∙ ap (λ (j : ℕ). field w s j) e
 
 -- the mode
-module _ (i : Identity) (n : ℕ) (t s : List ℕ) (k : Cursor) {w : ℕ} (b : w ≡ ilog (n - 1)) {r : Field} (p : outcome r ≡ field w s (position k)) where
-  pub mode_cut : {z : Refusal} → r ≡ Refused z → head_read (H.Refused z) ≡ mode_reader i n (blockflag_in t) s (position k)
+module _ (i : Identity) (n : ℕ) (t s : List ℕ) (k : Cursor) {w : ℕ} (b : w ≡ ilog (n - 1)) {r : Result (ℕ × Cursor) Refusal} (p : outcome r ≡ field w s (position k)) where
+  pub mode_cut : {z : Refusal} → r ≡ Err z → head_read (H.Refused z) ≡ mode_reader i n (blockflag_in t) s (position k)
   unfolding head_read mode_reader
   mode_cut q = rw (refused_is (width_as s (position k) p b) q)
 
-  module _ {mode : ℕ} {k₁ : Cursor} (q : r ≡ Value mode k₁) where
+  module _ {mode : ℕ} {k₁ : Cursor} (q : r ≡ Ok (mode, k₁)) where
     pub mode_unknown : n ≤ mode → head_read (H.Refused (at 16 k)) ≡ mode_reader i n (blockflag_in t) s (position k)
     unfolding head_read mode_reader
     mode_unknown h = rw (value_is (width_as s (position k) p b) q, le-ltb _ _ h)
@@ -94,13 +93,13 @@ module _ (i : Identity) (n : ℕ) (t s : List ℕ) (k : Cursor) {w : ℕ} (b : w
     mode_known h f e = rw (value_is (width_as s (position k) p b) q, lt-ltb _ _ h, ← f) e
 
 -- the whole head
-module _ (i : Identity) (n : ℕ) (t s : List ℕ) (k : Cursor) (z₀ : position k ≡ 0) {r : Field} (p : outcome r ≡ field 1 s (position k)) where
-  pub type_cut : {z : Refusal} → r ≡ Refused z → (lengths_of : ℕ → List ℕ)
+module _ (i : Identity) (n : ℕ) (t s : List ℕ) (k : Cursor) (z₀ : position k ≡ 0) {r : Result (ℕ × Cursor) Refusal} (p : outcome r ≡ field 1 s (position k)) where
+  pub type_cut : {z : Refusal} → r ≡ Err z → (lengths_of : ℕ → List ℕ)
       → head_read (H.Refused z) ≡ came_to (run (read lengths_of) (head_requests i (modes_in t n)) s 0)
   unfolding head_read head_reader
   type_cut q lengths_of = rw (head_by_table lengths_of s i n t, refused_is (place_as 1 s p z₀) q)
 
-  module _ {type : ℕ} {k₁ : Cursor} (q : r ≡ Value type k₁) where
+  module _ {type : ℕ} {k₁ : Cursor} (q : r ≡ Ok (type, k₁)) where
     pub type_wrong : (type ≡ 0 → ⊥) → (lengths_of : ℕ → List ℕ)
         → head_read (H.Refused (at 15 k)) ≡ came_to (run (read lengths_of) (head_requests i (modes_in t n)) s 0)
     unfolding head_read head_reader

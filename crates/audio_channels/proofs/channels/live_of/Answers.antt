@@ -1,5 +1,4 @@
 -- `audio_channels::channels::live_of` meets its contract, by ChannelLaws. Assumes nothing.
-use Prim.Native.Nat.{◌-◌}
 use Rattle.audio_channels.proofs.ChannelLaws.{counting}
 use Rattle.audio_channels.proofs.channels.live_of.Goals as goal
 

@@ -1,5 +1,4 @@
 -- `audio_channels::channels::live_of` meets its contract, by ChannelLaws. Assumes nothing.
-use Prim.Native.Nat.{◌-◌}
 use Rattle.mapping_row.specs.Inner.Readable.{mapping_in}
 use Rattle.audio_channels.specs.Inner.Live.{used_bools}
 use Rattle.audio_channels.proofs.ChannelLaws.{Counting, live_in}
@@ -7,6 +6,3 @@ use Rattle.audio_channels.proofs.channels.live_of.Given as goal
 
 abbrev pub invariant-loop-i : goal.invariant-loop-i
 invariant-loop-i l = Counting (live_in (mapping_in l.mappings l.mapping) (used_bools l.channels l.live) l.submap) l.channels l.total l.i
-
-abbrev pub decreases-loop-i : goal.decreases-loop-i
-decreases-loop-i l = l.channels - l.i

@@ -1,10 +1,13 @@
--- `audio_channels::extent::vector_count` meets its contract, by ExtentLaws. Assumes nothing.
-use Rattle.audio_channels.proofs.ExtentLaws.{vector_if_any, vector_each}
-use borrow.Author.Rules.{rules}
+-- `audio_channels::extent::vector_count` meets its contract: type 2 is read if any channel is live. Assumes nothing.
+use native.Mathlib.Omega.{arith}
+use Rattle.std.proofs.lemmas.Bool.Decides.{nat_tests}
+use Rattle.audio.specs.Channels.{vector_count}
 use Rattle.audio_channels.proofs.extent.vector_count.Goals as goal
 
 pub returns-then-head-eq2 : goal.returns-then-head-eq2
-returns-then-head-eq2 c = search (rules, vector_if_any)
+unfolding vector_count
+returns-then-head-eq2 c = grind (arith, nat_tests)
 
-pub returns : goal.returns
-returns c = search (rules, vector_each)
+pub returns-else-head-eq2 : goal.returns-else-head-eq2
+unfolding vector_count
+returns-else-head-eq2 c = grind (arith, nat_tests)

@@ -1,13 +1,13 @@
--- `audio_channels::extent::vector_size` meets its contract, by ExtentLaws. Assumes nothing.
-use Rattle.audio_channels.proofs.ExtentLaws.{product_fits, size_all, size_one}
-use borrow.Author.Rules.{rules}
+-- `audio_channels::extent::vector_size` meets its contract: type 2 has all channels in one vector. Assumes nothing.
+use native.Mathlib.Omega.{arith}
+use Rattle.std.proofs.lemmas.Bool.Decides.{nat_tests}
+use Rattle.audio.specs.Channels.{vector_size}
 use Rattle.audio_channels.proofs.extent.vector_size.Goals as goal
 
-pub overflow_mul-result : goal.overflow_mul-result
-overflow_mul-result c = search (rules, product_fits)
-
 pub returns-then-head-eq2 : goal.returns-then-head-eq2
-returns-then-head-eq2 c = search (rules, size_all)
+unfolding vector_size
+returns-then-head-eq2 c = grind (arith, nat_tests)
 
-pub returns : goal.returns
-returns c = search (rules, size_one)
+pub returns-else-head-eq2 : goal.returns-else-head-eq2
+unfolding vector_size
+returns-else-head-eq2 c = grind (arith, nat_tests)

@@ -1,5 +1,4 @@
 -- `audio_channels::live::sweep` meets its contract, by LiveLaws. Assumes nothing.
-use Prim.Native.Nat.{◌-◌}
 use Rattle.mapping_row.specs.Inner.Readable.{mapping_in}
 use Rattle.audio_channels.specs.Inner.Live.{used_bools}
 use Rattle.audio_channels.proofs.LiveLaws.{Steps}
@@ -7,6 +6,3 @@ use Rattle.audio_channels.proofs.live.sweep.Given as goal
 
 abbrev pub invariant-loop-i : goal.invariant-loop-i
 invariant-loop-i l = Steps (mapping_in l.mappings l.mapping) (used_bools l.channels l.initial.live) l.live l.i
-
-abbrev pub decreases-loop-i : goal.decreases-loop-i
-decreases-loop-i l = l.steps - l.i

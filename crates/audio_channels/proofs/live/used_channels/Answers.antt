@@ -1,5 +1,4 @@
 -- `audio_channels::live::used_channels` meets its contract, by LiveLaws. Assumes nothing.
-use Prim.Native.Nat.{◌-◌}
 use Rattle.audio_channels.proofs.LiveLaws.{used_laws}
 use Rattle.audio_channels.proofs.live.used_channels.Goals as goal
 
