@@ -1,18 +1,18 @@
 -- The tests of one book's parts, as the code asks them: one law for each way out of a function. Assumes nothing.
 use Prim.Native.Nat.{ℕ, ◌+◌, ◌-◌, ◌*◌, ◌%◌, ◌^◌, ◌≤◌, ◌<◌}
 use native.Mathlib.Nat.{one-mul}
-use native.Mathlib.Numerals.{add-one}
 use native.Mathlib.Omega.{arith}
 use borrow.Author.Rules.{rules}
-use borrow.Author.Tests.{lt-ltb, le-ltb, le-leb, leb-true, eq-eqb, eqb-true}
+use borrow.Author.Tests.{lt-ltb, le-leb, leb-true, eq-eqb, eqb-true}
 use mathlib.Core.Bool.{Bool, true, false, ◌&&◌}
-use mathlib.Core.List.{List}
+use mathlib.Core.List.{List, [], ◌∷◌}
 use mathlib.Core.Logic.{◌↔◌}
 use mathlib.Core.Path.{◌≡◌, refl, sym, ap, ◌∙◌}
 use lib.Dec.{eqb, ltb, leb}
-use lib.ListN.{length, get_or, take, drop, replicate, length-replicate, get_or-replicate, drop_of_length-le}
+use lib.ListN.{length, get_or, take, drop, replicate, length-replicate, get_or-replicate}
 use lib.Pow.{shl_exact, pow_pos}
-use lib.Seq.{drop-cons, get_or-drop}
+use lib.Seq.{get_or-drop}
+use Rattle.std.specs.List.{list_all}
 use Rattle.reading.specs.Lists.{all}
 use Rattle.reading.proofs.Encodes.{iff_false}
 use Rattle.limits.specs.declared.Limits.{Limits}
@@ -135,26 +135,8 @@ marked {m} {n} {k} e = ((λ t. eqb-true m n t ∙ e), (λ f. eq-eqb m n (f ∙ s
 pub one_shifted : (e : ℕ) → e < 32 → (1 * 2 ^ e) % 2 ^ 32 ≡ 2 ^ e
 one_shifted e h = shl_exact {a = 1} 1 e 32 (omega arith) (omega arith) ∙ one-mul (2 ^ e)
 
--- a loop over numbers that should be below a bound: the first i are, so that all depends on the others
-pub record Narrowing (part : List ℕ) (width bound i : ℕ) : Type 0 where
-  pub limit : bound ≡ 2 ^ width
-  pub rest : all (λ v. ltb v (2 ^ width)) (drop i part) ≡ all (λ v. ltb v (2 ^ width)) part
-
-module _ (part : List ℕ) (width bound : ℕ) where
-  pub narrow_start : bound ≡ 2 ^ width → Narrowing part width bound 0
-  narrow_start e = record { limit = e; rest = refl }
-
-  module _ (i : ℕ) (w : Narrowing part width bound i) where
-    turn : i < length part → all (λ v. ltb v (2 ^ width)) (drop i part) ≡ ltb (get_or part i 0) (2 ^ width) && all (λ v. ltb v (2 ^ width)) (drop (i + 1) part)
-    unfolding all
-    turn h = rw (drop-cons part i 0 h, add-one)
-
-    pub narrow_next : i < length part → get_or part i 0 < bound → Narrowing part width bound (i + 1)
-    narrow_next h l = let t = lt-ltb (get_or part i 0) (2 ^ width) (rw (← w.limit) l) in record { limit = w.limit; rest = rw (turn h, t) at w.rest }
-
-    pub narrow_stop : i < length part → bound ≤ get_or part i 0 → false ≡ all (λ v. ltb v (2 ^ width)) part
-    narrow_stop h l = let t = le-ltb (get_or part i 0) (2 ^ width) (rw (← w.limit) l) in rw (turn h, t) at w.rest
-
-    pub narrow_end : length part ≤ i → true ≡ all (λ v. ltb v (2 ^ width)) part
-    unfolding all
-    narrow_end h = rw (drop_of_length-le part h) at w.rest
+-- the library's test of every number
+pub list_all-all : (f : ℕ → Bool) (l : List ℕ) → list_all f l ≡ all f l
+unfolding all
+list_all-all f [] = refl
+list_all-all f (x ∷ l) = ap (λ (b : Bool). f x && b) (list_all-all f l)

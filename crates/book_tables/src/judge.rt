@@ -89,12 +89,8 @@ fn are_narrow(part: &[u16], width: u32) -> bool
     ensures { result ≡ all (λ v. ltb v (2 ^ width)) part.now }
 {
     let bound = 1u32 << width;
-    for multiplicand in part {
-        if bound <= *multiplicand as u32 {
-            return false;
-        }
-    }
-    true
+    part.iter()
+        .all(|&multiplicand| (multiplicand as u32) < bound)
 }
 
 // The same of `count` multiplicands from `first` on.

@@ -1,15 +1,15 @@
 -- `book_tables::judge::are_narrow` meets its contract. Assumes nothing.
-use Rattle.book_tables.proofs.TestLaws.{one_shifted, narrow_start, narrow_next, narrow_stop, narrow_end}
+use Rattle.std.proofs.Common.{ℕ, ◌*◌, ◌%◌, ◌^◌, ◌∙◌, ap, ltb, rules, tests}
+use Rattle.std.proofs.lemmas.Iterator.{YieldsList-from_slice}
+use Rattle.std.proofs.lemmas.Iterator.Search.{all_from_yields_List}
+use Rattle.reading.specs.Lists.{all}
+use Rattle.book_tables.proofs.TestLaws.{list_all-all, one_shifted}
 use Rattle.book_tables.proofs.judge.are_narrow.Goals as goal
 
-pub loop-multiplicand-init : goal.loop-multiplicand-init
-loop-multiplicand-init c = narrow_start _ _ _ (one_shifted _ c.requires)
-
-pub returns-then-bound-multiplicand : goal.returns-then-bound-multiplicand
-returns-then-bound-multiplicand c = narrow_stop _ _ _ _ c.loop-multiplicand.invariant c.loop-multiplicand-test.true c.if-bound-multiplicand.true
-
-pub loop-multiplicand-preserved : goal.loop-multiplicand-preserved
-loop-multiplicand-preserved c = narrow_next _ _ _ _ c.loop-multiplicand.invariant c.loop-multiplicand-test.true c.if-bound-multiplicand.false
-
 pub returns : goal.returns
-returns c = narrow_end _ _ _ _ c.loop-multiplicand.invariant c.loop-multiplicand-test.false
+returns c =
+    let part = c.args.part.now in
+    let f = λ (bound v : ℕ). ltb v bound in
+    all_from_yields_List (f ((1 * 2 ^ c.args.width) % 2 ^ 32)) _ _ _ c.all.ensures.ran (YieldsList-from_slice part cc) (λ x b q k. search (rules, tests))
+    ∙ list_all-all (f ((1 * 2 ^ c.args.width) % 2 ^ 32)) part
+    ∙ ap (λ (bound : ℕ). all (f bound) part) (one_shifted c.args.width c.requires)
