@@ -74,6 +74,7 @@ fn read_runs(
     let mut at = from;
     let mut bits = first + 1;
     let mut entry = 0;
+    // A turn passes a whole run, however long, and not one entry: there is no range to count by.
     while entry < part.len() {
         if 32 < bits {
             return Err(Refusal {

@@ -8,6 +8,7 @@ ghost use Rattle.book.specs.Inner.LookupParts.{parameters, stored};
 ghost use Rattle.book.specs.Inner.Answers.{answered};
 ghost use Rattle.book_lookup.specs.Inner.Answers.{numbers_of};
 
+use crate::root::lookup1_values;
 use bits::Cursor;
 use bits::refusal::{Reason, Refusal};
 use book::Parameters;
@@ -47,7 +48,7 @@ pub fn value_count(lookup: u32, entries: u32, dimensions: u32) -> u64
     ensures { result ≡ value_count lookup entries dimensions }
 {
     if lookup == 1 {
-        return crate::root::lookup1_values(entries, dimensions) as u64;
+        return lookup1_values(entries, dimensions) as u64;
     }
     entries as u64 * dimensions as u64
 }
