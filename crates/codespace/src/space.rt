@@ -12,7 +12,8 @@ ghost use Rattle.codespace.specs.Entering.{Entered, entering, entered_all};
 
 use reading::buffers::clear;
 
-// No string of 32 bits: one past the last. As an answer, a refusal.
+// No string of 32 bits: one past the last. As an answer, a refusal. `torchvalley_enter_lengths` of the C interface hands out this number, so that an Option
+// would only be turned into it again.
 pub const VACANT: u64 = 4294967296;
 
 // Everything is free: one block of 2^32 strings.

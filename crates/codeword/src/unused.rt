@@ -19,6 +19,7 @@ pub fn past_unused(lengths: &[u8], from: usize) -> usize
     requires { from ≤ length lengths.now }
     ensures { (from ≤ result) × (result ≤ length lengths.now) × Zeros lengths.now from result }
 {
+    // Each step passes four entries, so no `for` counts them.
     let mut at = from;
     while 4 <= lengths.len() - at {
         if four_lengths(lengths, at) != 0 {

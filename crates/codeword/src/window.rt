@@ -50,7 +50,7 @@ fn eight_bytes(packet: &[u8], at: usize) -> u64
     number
 }
 
-// The bytes that are left, fewer than eight.
+// The bytes that are left, fewer than eight. Not one function with `eight_bytes`: a count that is no constant would not become one load.
 fn last_bytes(packet: &[u8], at: usize, left: usize) -> u64
     requires { (left < 8) × (at + left ≤ length packet.now) }
     ensures { result ≡ value_at packet.now (8 * at) (8 * left) }

@@ -34,6 +34,7 @@ pub fn first_pass(
         packet.now (position from.at)) out.old from.count result out.new }
 {
     let mut next = from;
+    // Each step takes as many partitions as the chunk has, so no `for` counts them.
     let mut left = partitions;
     while 0 < left {
         let some = chunk(decoder.digits, left);

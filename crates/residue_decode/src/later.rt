@@ -40,6 +40,7 @@ pub fn later_pass(
 {
     let mut next = from;
     let mut place = start;
+    // Each step takes as many partitions as a class word has digits, so no `for` counts them.
     let mut left = partitions;
     while 0 < left {
         let at = next_class(out, place);
