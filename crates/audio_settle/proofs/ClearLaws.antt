@@ -1,47 +1,25 @@
 -- Clearing a part of an output, as the code asks it; and an output whose front holds a list and whose rest was cleared. Assumes nothing.
-use Prim.Native.Nat.{ℕ, zero, suc, ◌+◌, ◌-◌, ◌≤◌, ◌<◌, min}
+use Prim.Native.Nat.{ℕ, zero, suc, ◌+◌, ◌-◌, ◌≤◌, min}
 use native.Mathlib.Omega.{arith}
-use borrow.Author.Rules.{rules}
 use mathlib.Core.List.{List, [], ◌∷◌, ◌++◌}
-use mathlib.Core.Logic.{⊎_elim}
 use mathlib.Core.Path.{◌≡◌, refl, ap, sym, ◌∙◌}
-use lib.ListN.{length, get_or, set, replicate, length-set}
+use lib.ListN.{length, get_or, set, take, drop, replicate, length-replicate, length-take, length-drop}
 use lib.Seq.{sets}
+use borrow.Rule.Slice.PartMut.{put_mid}
+use Rattle.std.proofs.lemmas.List.{take-replicate}
 use Rattle.reading.specs.Pad.{pad}
-use Rattle.reading.proofs.Least.{lt_or_le}
 use Rattle.reading.proofs.Pads.{pad_nil}
-use Rattle.reading.proofs.Tables.{sets_append, sets_out}
+use Rattle.reading.proofs.Tables.{sets_append, sets_out, copied}
 
--- the places from i on are to be cleared still
-pub record Clearing (entry : List ℕ) (from to : ℕ) (now : List ℕ) (i : ℕ) : Type 0 where
-  pub low : from ≤ i
-  pub long : length now ≡ length entry
-  pub rest : sets now i (replicate (to - i) 0) ≡ sets entry from (replicate (to - from) 0)
-
-pub clear_start : (entry : List ℕ) (from to : ℕ) → Clearing entry from to entry from
-clear_start entry from to = record { low = omega arith; long = refl; rest = refl }
-
-pub clear_turn : (entry : List ℕ) (from to : ℕ) (now : List ℕ) (i end : ℕ) (now' : List ℕ) → end ≡ min to (length entry) → i < end → Clearing entry from to now i
-    → now' ≡ set now i 0 → Clearing entry from to now' (i + 1)
-clear_turn entry from to now i end now' m h c e =
-    let n : to - i ≡ suc (to - (i + 1)) = omega arith in
-    let a : i + 1 ≡ suc i = omega arith in
-    let low = c.low in
-    record {
-      low = omega arith;
-      long = rw e (simp length-set c.long);
-      rest = rw (e, a) (ap (λ (k : ℕ). sets now i (replicate k 0)) (sym (rw a at n)) ∙ c.rest);
-    }
-
-pub clear_end : (entry : List ℕ) (from to : ℕ) (now : List ℕ) (i end : ℕ) → end ≡ min to (length entry) → end ≤ i → Clearing entry from to now i
-    → now ≡ sets entry from (replicate (to - from) 0)
-clear_end entry from to now i end m h c =
-    ⊎_elim
-    (λ (a : i < to). let l = c.long in sym (sets_out (replicate (to - i) 0) now i (omega arith)) ∙ c.rest)
-    (λ (a : to ≤ i). let z : to - i ≡ 0 = omega arith in ap (λ (k : ℕ). sets now i (replicate k 0)) (sym z) ∙ c.rest)
-    (lt_or_le i to)
-
-pub ruleset clearing = (rules, clear_start, clear_turn, clear_end)
+module _ {A : Type 0} (z : A) (entry : List A) (from to : ℕ) where
+  -- the part of n places from `from` on is cleared
+  pub part_cleared : (n k : ℕ) (now : List A) → from ≤ length entry → n ≡ min (to - from) (length entry - from) → k ≡ n
+      → now ≡ replicate (length (take k (drop from entry))) z → put_mid from k entry now ≡ sets entry from (replicate (to - from) z)
+  part_cleared n k now h m e c =
+      let many : length (replicate (to - from) z) ≡ to - from = length-replicate (to - from) z in
+      let part : length (take k (drop from entry)) ≡ n = omega (arith, length-take k (drop from entry), length-drop from entry) in
+      copied entry (replicate (to - from) z) now from n k h (omega arith) e
+      (c ∙ ap (λ (j : ℕ). replicate j z) part ∙ sym (take-replicate n (to - from) z (omega arith)))
 
 sets-suc : (x : ℕ) (l vs : List ℕ) (i : ℕ) → sets (x ∷ l) (suc i) vs ≡ x ∷ sets l i vs
 sets-suc x l [] i = refl

@@ -1,5 +1,6 @@
 -- What a call leaves, as the code asks it; and that it is what the definition of the call says. Assumes nothing.
-use Prim.Native.Nat.{ℕ, zero, ◌-◌, ◌*◌, ◌/◌, ◌≤◌, ◌<◌}
+use Rattle.std.specs.Prelude.{Result, Ok, Err}
+use Prim.Native.Nat.{ℕ, ◌-◌, ◌*◌, ◌/◌, ◌≤◌, ◌<◌}
 use native.Mathlib.Omega.{arith}
 use native.Mathlib.Nat.{mul-le-mul_right}
 use mathlib.Core.Bool.{Bool, true, false}
@@ -17,16 +18,26 @@ use Rattle.audio.specs.declared.AudioAnswer.{AudioAnswer}
 use Rattle.audio.specs.declared.Window.{Window}
 use Rattle.audio.specs.Head.{window}
 use Rattle.audio.specs.Call.{Accepted, refused, Left, answer_of, answered, room_of, left_of}
+use Rattle.bits.specs.Reasons.{number}
 use Rattle.audio_settle.specs.declared.Judged.{Judged}
-use Rattle.audio_settle.specs.Inner.Judged.{judgement, curves_by, words_by, JudgedIs, ZeroFrom, answer_by, accepted_left, early_left, refused_left, settled}
+use Rattle.audio_settle.specs.declared.Rejected.{Rejected}
+use Rattle.audio_settle.specs.Inner.Judged.{curves_by, words_by, JudgedIs, ZeroFrom, answer_by, accepted_left, early_left, refused_left, settled}
 use Rattle.audio_settle.proofs.ClearLaws.{front_cleared, front_padded}
 
--- channels times half a block are few
-pub bytes_fit : {a b r s : ℕ} → a ≤ 255 → b ≤ 8192 → r ≡ a → s ≡ b / 2 → r * s < 18446744073709551616
-bytes_fit {a} {b} {r} {s} h g e f = let m = mul-le-mul_right s h in rw e (omega arith)
+-- what two answers that are the same say
+module _ {A E : Type 0} where
+  ok_is : {a b : A} → ◌≡◌ {A = Result A E} (Ok a) (Ok b) → a ≡ b
+  ok_is e = cc
 
-pub bytes_are : {a : ℕ} (b : ℕ) {r s : ℕ} → r ≡ a → s ≡ b / 2 → r * s ≡ a * (b / 2)
-bytes_are b e f = rw (e, f) refl
+  err_is : {a b : E} → ◌≡◌ {A = Result A E} (Err a) (Err b) → a ≡ b
+  err_is e = cc
+
+  ok_not_err : {a : A} {b : E} → ◌≡◌ {A = Result A E} (Ok a) (Err b) → ⊥
+  ok_not_err e = cc
+
+-- channels times half a block are few
+pub bytes_fit : {a b : ℕ} → a ≤ 255 → b ≤ 8192 → a * (b / 2) < 18446744073709551616
+bytes_fit {a} {b} h g = let m = mul-le-mul_right (b / 2) h in omega arith
 
 pub answer_made : (i : Identity) (r : Judged) {w : Window} → w ≡ window i.blocksize0 r.head
     → record {
@@ -57,26 +68,28 @@ accept_made i r curves words curves_end words_end {curves'} {words'} {a} {bytes}
     let c : curves' ≡ sets curves (i.channels * (r.head.blocksize / 2)) (replicate (curves_end - i.channels * (r.head.blocksize / 2)) 0) = e ∙ ap (λ (n : ℕ). sets curves n (replicate (curves_end - n) 0)) b in
     λ j. record { answer = g j; curves = c j; codewords = f j; tally = r.tally }
 
-module _ (i : Identity) (t : Tally) (r : Judged) (curves words : List ℕ) (curves_end words_end : ℕ) {l : Left} where
-  pub settle_accepted : r.accepted ≡ true → l ≡ accepted_left i r curves words curves_end words_end → l ≡ settled i t r curves words curves_end words_end
+-- by the answer that judging gave
+module _ (i : Identity) (t : Tally) (curves words : List ℕ) (curves_end words_end : ℕ) {l : Left} where
+  pub settle_accepted : {r : Result Judged Rejected} {x : Judged} → r ≡ Ok x → l ≡ accepted_left i x curves words curves_end words_end
+      → l ≡ settled i t r curves words curves_end words_end
   unfolding settled
   settle_accepted e a = rw e a
 
-  pub settle_refused : r.accepted ≡ false → r.written ≡ true → l ≡ refused_left r.refusal t curves words → l ≡ settled i t r curves words curves_end words_end
-  unfolding settled
-  settle_refused e f a = rw (e, f) a
+  module _ {r : Result Judged Rejected} {z : Rejected} (e : r ≡ Err z) {n : ℕ} (m : n ≡ number z.reason) where
+    pub settle_refused : z.written ≡ true → l ≡ refused_left n t curves words → l ≡ settled i t r curves words curves_end words_end
+    unfolding settled
+    settle_refused f a = rw (e, f, ← m) a
 
-  pub settle_early : r.accepted ≡ false → r.written ≡ false → l ≡ early_left r.refusal t curves words curves_end words_end
-      → l ≡ settled i t r curves words curves_end words_end
-  unfolding settled
-  settle_early e f a = rw (e, f) a
+    pub settle_early : z.written ≡ false → l ≡ early_left n t curves words curves_end words_end → l ≡ settled i t r curves words curves_end words_end
+    unfolding settled
+    settle_early f a = rw (e, f, ← m) a
 
 -- WHAT IS LEFT IS WHAT THE CALL'S DEFINITION SAYS, where both outputs held nothing from a place on
 module _ (i : Identity) (c : Setup) (t : Tally) (entry list : List ℕ) (curves_end words_end : ℕ) (zc : ZeroFrom curves_end entry) (zw : ZeroFrom words_end list) where
-  pub settled_is : (o : Outcome Accepted) {r : Judged} {exit list' : List ℕ} → JudgedIs i.channels c o r entry exit list list'
+  pub settled_is : (o : Outcome Accepted) {r : Result Judged Rejected} {exit list' : List ℕ} → JudgedIs i.channels c o r entry exit list list'
       → settled i t r exit list' curves_end words_end ≡ answered i t (room_of entry list) c o
   unfolding settled answered
-  settled_is (ok x) {r} {exit} {list'} j =
+  settled_is (ok x) {r = Ok a} {exit} {list'} j =
       let bytes = j.bytes x refl in
       let cs = curves_by i.channels c x in
       let ws = words_by x in
@@ -89,19 +102,24 @@ module _ (i : Identity) (c : Setup) (t : Tally) (entry list : List ℕ) (curves_
       ap (λ (l : List ℕ). sets l (length (residue_words x.packet.items)) (replicate (words_end - length (residue_words x.packet.items)) 0)) (j.words x refl)
       ∙ ap (λ (n : ℕ). sets (sets list 0 ws) n (replicate (words_end - n) 0)) (sym long)
       ∙ front_padded list ws words_end zw.zero in
-      rw j.answer (λ k. record { answer = answer_of i x; curves = curves k; codewords = words k; tally = x.tally })
-  settled_is (bad z) {r} {exit} {list'} j = pick r.written refl j.answer
+      rw (ok_is j.answer) (λ k. record { answer = answer_of i x; curves = curves k; codewords = words k; tally = x.tally })
+  settled_is (ok x) {r = Err z} j = absurd (ok_not_err (sym j.answer))
+  settled_is (bad w) {r = Ok a} j = absurd (ok_not_err j.answer)
+  settled_is (bad w) {r = Err z} {exit} {list'} j = pick z.written refl
     where
-      pick : (b : Bool) → r.written ≡ b → r ≡ judgement b (bad z) → settled i t r exit list' curves_end words_end ≡ refused_left z.number t entry list
-      pick false e f =
-          let same = j.unwritten e in
-          let curves : sets exit 0 (replicate (curves_end - 0) 0) ≡ replicate (length entry) 0 = rw same.0 (front_cleared entry curves_end zc.zero) in
-          let words : sets list' 0 (replicate (words_end - 0) 0) ≡ replicate (length list) 0 = rw same.1 (front_cleared list words_end zw.zero) in
-          rw f (λ k. record { answer = refused z.number; curves = curves k; codewords = words k; tally = t })
-      pick true e f =
+      same : number z.reason ≡ w.number
+      same = err_is j.answer
+
+      pick : (b : Bool) → z.written ≡ b → settled i t (Err z) exit list' curves_end words_end ≡ refused_left w.number t entry list
+      pick false e =
+          let kept = j.unwritten e in
+          let curves : sets exit 0 (replicate (curves_end - 0) 0) ≡ replicate (length entry) 0 = rw kept.0 (front_cleared entry curves_end zc.zero) in
+          let words : sets list' 0 (replicate (words_end - 0) 0) ≡ replicate (length list) 0 = rw kept.1 (front_cleared list words_end zw.zero) in
+          rw (e, same) (λ k. record { answer = refused w.number; curves = curves k; codewords = words k; tally = t })
+      pick true e =
           let curves = j.curves_long in
           let words = j.words_long in
-          rw f (λ k. record { answer = refused z.number; curves = replicate (curves k) 0; codewords = replicate (words k) 0; tally = t })
+          rw (e, same) (λ k. record { answer = refused w.number; curves = replicate (curves k) 0; codewords = replicate (words k) 0; tally = t })
 
 -- nothing lies past an output's end
 pub zero_past : (l : List ℕ) → ZeroFrom (length l) l

@@ -2,11 +2,11 @@
 use Rattle.audio_settle.proofs.SettleLaws.{settle_accepted, settle_early, settle_refused}
 use Rattle.audio_settle.proofs.settle.Goals as goal
 
-pub returns-then-judged : goal.returns-then-judged
-returns-then-judged c = search settle_accepted
+pub returns-in-Ok : goal.returns-in-Ok
+returns-in-Ok c = search settle_accepted
 
-pub returns-then-judged-2 : goal.returns-then-judged-2
-returns-then-judged-2 c = search settle_refused
+pub returns-then-rejected : goal.returns-then-rejected
+returns-then-rejected c = search settle_refused
 
-pub returns : goal.returns
-returns c = search settle_early
+pub returns-else-rejected : goal.returns-else-rejected
+returns-else-rejected c = search settle_early

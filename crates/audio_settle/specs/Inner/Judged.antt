@@ -1,9 +1,10 @@
 -- What judging an audio packet comes to in the program, and what it leaves in the lent outputs. Assumes nothing: these are definitions.
-use Rattle.std.specs.Prelude.{ℕ, ◌*◌, ◌-◌, ◌/◌, ◌≤◌, Bool, true, false, cond, List, map, ◌≡◌, length, get_or, replicate}
+use Rattle.std.specs.Prelude.{ℕ, ◌*◌, ◌-◌, ◌/◌, ◌≤◌, Bool, true, false, cond, List, map, ◌≡◌, length, get_or, replicate, Result, Ok, Err, IfOk}
 use Rattle.std.proofs.lemmas.List.Edits.{sets}
 use Rattle.reading.specs.Least.{one}
 use Rattle.reading.specs.Outcome.{Outcome, ok, bad}
 use Rattle.reading.specs.Pad.{pad}
+use Rattle.bits.specs.Reasons.{number}
 use Rattle.identification.specs.declared.Identity.{Identity}
 use Rattle.setup.specs.Content.{Setup}
 use Rattle.requests.specs.Refusing.{came_to}
@@ -18,35 +19,31 @@ use Rattle.audio.specs.Curves.{curves_of}
 use Rattle.audio.specs.Call.{Room, Accepted, judged, refused, Left}
 use Rattle.audio.specs.Inner.Plain.{plain_at}
 use Rattle.audio_settle.specs.declared.Judged.{Judged}
+use Rattle.audio_settle.specs.declared.Rejected.{Rejected}
 
--- a refusal as the program holds it, and whether the outputs were written to before it
-abbrev pub refused_by : Bool → ℕ → Judged
-refused_by written n =
-    record {
-      accepted = false;
-      refusal = n;
-      written = written;
-      head = record { mode = 0; blockflag = 0; blocksize = 0; previous = 0; next = 0 };
-      used = replicate 255 0;
-      words = 0;
-      samples = 0;
-      tally = record { blocksize = 0; samples = 0 };
-    }
-
--- an acceptance
+-- an acceptance as the program holds it
 abbrev pub accepted_by : Head → List ℕ → ℕ → ℕ → Tally → Judged
-accepted_by h used words samples t =
-    record { accepted = true; refusal = 0; written = true; head = h; used = used; words = words; samples = samples; tally = t }
+accepted_by h used words samples t = record { head = h; used = used; words = words; samples = samples; tally = t }
+
+-- an answer with the number of its refusal
+abbrev pub numbered : Result Judged Rejected → Result Judged ℕ
+numbered (Ok r) = Ok r
+numbered (Err z) = Err (number z.reason)
+
+-- whether anything was written to the outputs; a refusal may come before that
+abbrev pub was_written : Result Judged Rejected → Bool
+was_written (Ok r) = true
+was_written (Err z) = z.written
 
 -- a packet that was read, with the tally's step
-abbrev pub finished_by : Outcome (Tally × ℕ) → Head → List ℕ → ℕ → Judged
-finished_by (ok x) h used words = accepted_by h used words x.1 x.0
-finished_by (bad z) h used words = refused_by true z.number
+abbrev pub finished_by : Outcome (Tally × ℕ) → Head → List ℕ → ℕ → Result Judged ℕ
+finished_by (ok x) h used words = Ok (accepted_by h used words x.1 x.0)
+finished_by (bad z) h used words = Err z.number
 
-abbrev pub judgement : Bool → Outcome Accepted → Judged
-judgement written (ok x) =
-    accepted_by x.packet.head (pad 255 (map (λ f. one (is_used f)) x.packet.floors)) (length (residue_words x.packet.items)) x.samples x.tally
-judgement written (bad z) = refused_by written z.number
+abbrev pub judgement : Outcome Accepted → Result Judged ℕ
+judgement (ok x) =
+    Ok (accepted_by x.packet.head (pad 255 (map (λ f. one (is_used f)) x.packet.floors)) (length (residue_words x.packet.items)) x.samples x.tally)
+judgement (bad z) = Err z.number
 
 -- its curves and its codewords, for so many channels by a content
 abbrev pub curves_by : ℕ → Setup → Accepted → List ℕ
@@ -57,16 +54,16 @@ words_by x = map listed (residue_words x.packet.items)
 
 -- a packet that came to o, read into lent outputs: accepted, its curves and codewords stand at their fronts. A refusal before anything was written leaves them as
 -- they were, another says nothing of what they hold
-pub record JudgedIs (channels : ℕ) (c : Setup) (o : Outcome Accepted) (r : Judged) (entry exit : List ℕ) (list list' : List ℕ) : Type 0 where
-  pub answer : r ≡ judgement r.written o
+pub record JudgedIs (channels : ℕ) (c : Setup) (o : Outcome Accepted) (r : Result Judged Rejected) (entry exit : List ℕ) (list list' : List ℕ) : Type 0 where
+  pub answer : numbered r ≡ judgement o
   -- Vorbis I's greatest block
-  pub size : r.head.blocksize ≤ 8192
+  pub size : IfOk r (λ x. x.head.blocksize ≤ 8192)
   pub curves_long : length exit ≡ length entry
   pub words_long : length list' ≡ length list
   pub curves : (x : Accepted) → o ≡ ok x → exit ≡ sets entry 0 (curves_by channels c x)
   pub bytes : (x : Accepted) → o ≡ ok x → length (curves_by channels c x) ≡ channels * (x.packet.head.blocksize / 2)
   pub words : (x : Accepted) → o ≡ ok x → list' ≡ sets list 0 (words_by x)
-  pub unwritten : r.written ≡ false → (exit ≡ entry) × (list' ≡ list)
+  pub unwritten : was_written r ≡ false → (exit ≡ entry) × (list' ≡ list)
 
 -- what follows a head that was read up to bit k
 abbrev pub after_head : Identity → Setup → Tally → List ℕ → Head → ℕ → Room → Outcome Accepted
@@ -115,7 +112,7 @@ abbrev pub early_left : ℕ → Tally → List ℕ → List ℕ → ℕ → ℕ 
 early_left n t curves words curves_end words_end =
     record { answer = refused n; curves = sets curves 0 (replicate (curves_end - 0) 0); codewords = sets words 0 (replicate (words_end - 0) 0); tally = t }
 
-unfoldable pub settled : Identity → Tally → Judged → List ℕ → List ℕ → ℕ → ℕ → Left
-settled i t r curves words curves_end words_end =
-    cond r.accepted (accepted_left i r curves words curves_end words_end)
-    (cond r.written (refused_left r.refusal t curves words) (early_left r.refusal t curves words curves_end words_end))
+unfoldable pub settled : Identity → Tally → Result Judged Rejected → List ℕ → List ℕ → ℕ → ℕ → Left
+settled i t (Ok r) curves words curves_end words_end = accepted_left i r curves words curves_end words_end
+settled i t (Err z) curves words curves_end words_end =
+    cond z.written (refused_left (number z.reason) t curves words) (early_left (number z.reason) t curves words curves_end words_end)
