@@ -9,6 +9,8 @@ use mathlib.Core.Path.{◌≡◌, ap, ◌∙◌}
 use lib.ListN.{get_or}
 use Rattle.reading.specs.Outcome.{Outcome}
 use Rattle.bits.specs.declared.Cursor.{Cursor}
+use Rattle.bits.specs.declared.refusal.Reason.{Reason}
+use Rattle.bits.specs.declared.refusal.Reason.TheVariants as R
 use Rattle.bits.specs.declared.refusal.Refusal.{Refusal}
 use Rattle.bits.specs.Inner.Cursors.{position, outcome}
 use Rattle.bits.specs.Field.{field}
@@ -20,44 +22,33 @@ use Rattle.requests.specs.Run.{read, run}
 use Rattle.requests.specs.Refusing.{came_to}
 use Rattle.audio.specs.Head.{block_size, head_requests}
 use Rattle.audio.specs.declared.Head.{Head}
-use Rattle.audio_head.specs.declared.HeadRead.TheVariants as H
 use Rattle.audio_head.specs.Inner.Readers.{modes_in, blockflag_in, flags_reader, mode_reader, head_reader}
-use Rattle.audio_head.specs.Inner.Answers.{head_read}
 use Rattle.audio_head.proofs.RunLaws.{head_by_table}
 
-abbrev at : ℕ → Cursor → Refusal
-at n c = record { number = n; place = c }
-
--- the block size
-pub size_short : (i : Identity) (flag : ℕ) → flag ≡ 0 → i.blocksize0 ≡ block_size i flag
-unfolding block_size
-size_short i flag h = rw (eq-eqb _ _ h)
-
-pub size_long : (i : Identity) (flag : ℕ) → (flag ≡ 0 → ⊥) → i.blocksize1 ≡ block_size i flag
-unfolding block_size
-size_long i flag h = rw (ne_eqb _ _ h)
+abbrev at : Reason → Cursor → Refusal
+at z c = record { reason = z; place = c }
 
 -- the flags
 module _ (i : Identity) (mode flag : ℕ) (s : List ℕ) (k : Cursor) {size : ℕ} (b : size ≡ block_size i flag) where
   pub flags_short : flag ≡ 0
-      → head_read (H.Value (record { mode = mode; blockflag = 0; blocksize = size; previous = 0; next = 0 }) k) ≡ flags_reader i mode flag s (position k)
-  unfolding head_read flags_reader
+      → outcome (Ok (record { mode = mode; blockflag = 0; blocksize = size; previous = 0; next = 0 }, k)) ≡ flags_reader i mode flag s (position k)
+  unfolding outcome flags_reader
   flags_short h = rw (b, h)
 
   module _ (h : flag ≡ 0 → ⊥) {r : Result (ℕ × Cursor) Refusal} (p : outcome r ≡ field 1 s (position k)) where
-    pub previous_cut : {z : Refusal} → r ≡ Err z → head_read (H.Refused z) ≡ flags_reader i mode flag s (position k)
-    unfolding head_read flags_reader
+    pub previous_cut : {z : Refusal} → r ≡ Err z → outcome {A = Head} (Err z) ≡ flags_reader i mode flag s (position k)
+    unfolding outcome flags_reader
     previous_cut q = rw (ne_eqb _ _ h, refused_is p q)
 
     module _ {previous : ℕ} {k₁ : Cursor} (q : r ≡ Ok (previous, k₁)) {r₁ : Result (ℕ × Cursor) Refusal} (p₁ : outcome r₁ ≡ field 1 s (position k₁)) where
-      pub next_cut : {z : Refusal} → r₁ ≡ Err z → head_read (H.Refused z) ≡ flags_reader i mode flag s (position k)
-      unfolding head_read flags_reader
+      pub next_cut : {z : Refusal} → r₁ ≡ Err z → outcome {A = Head} (Err z) ≡ flags_reader i mode flag s (position k)
+      unfolding outcome flags_reader
       next_cut q₁ = rw (ne_eqb _ _ h, value_is p q, refused_is p₁ q₁)
 
       pub flags_long : {next : ℕ} {k₂ : Cursor} → r₁ ≡ Ok (next, k₂)
-          → head_read (H.Value (record { mode = mode; blockflag = flag; blocksize = size; previous = previous; next = next }) k₂)
+          → outcome (Ok (record { mode = mode; blockflag = flag; blocksize = size; previous = previous; next = next }, k₂))
           ≡ flags_reader i mode flag s (position k)
-      unfolding head_read flags_reader
+      unfolding outcome flags_reader
       flags_long q₁ = rw (ne_eqb _ _ h, value_is p q, value_is p₁ q₁, b)
 
 -- a mode's block flag
@@ -78,13 +69,13 @@ place_as w s p e = p ∙ ap (λ (j : ℕ). field w s j) e
 
 -- the mode
 module _ (i : Identity) (n : ℕ) (t s : List ℕ) (k : Cursor) {w : ℕ} (b : w ≡ ilog (n - 1)) {r : Result (ℕ × Cursor) Refusal} (p : outcome r ≡ field w s (position k)) where
-  pub mode_cut : {z : Refusal} → r ≡ Err z → head_read (H.Refused z) ≡ mode_reader i n (blockflag_in t) s (position k)
-  unfolding head_read mode_reader
+  pub mode_cut : {z : Refusal} → r ≡ Err z → outcome {A = Head} (Err z) ≡ mode_reader i n (blockflag_in t) s (position k)
+  unfolding outcome mode_reader
   mode_cut q = rw (refused_is (width_as s (position k) p b) q)
 
   module _ {mode : ℕ} {k₁ : Cursor} (q : r ≡ Ok (mode, k₁)) where
-    pub mode_unknown : n ≤ mode → head_read (H.Refused (at 16 k)) ≡ mode_reader i n (blockflag_in t) s (position k)
-    unfolding head_read mode_reader
+    pub mode_unknown : n ≤ mode → outcome {A = Head} (Err (at R.Mode k)) ≡ mode_reader i n (blockflag_in t) s (position k)
+    unfolding outcome mode_reader
     mode_unknown h = rw (value_is (width_as s (position k) p b) q, le-ltb _ _ h)
 
     pub mode_known : mode < n → {flag : ℕ} → flag ≡ blockflag_in t mode → {o : Outcome (Head × ℕ)} → o ≡ flags_reader i mode flag s (position k₁)
@@ -95,14 +86,14 @@ module _ (i : Identity) (n : ℕ) (t s : List ℕ) (k : Cursor) {w : ℕ} (b : w
 -- the whole head
 module _ (i : Identity) (n : ℕ) (t s : List ℕ) (k : Cursor) (z₀ : position k ≡ 0) {r : Result (ℕ × Cursor) Refusal} (p : outcome r ≡ field 1 s (position k)) where
   pub type_cut : {z : Refusal} → r ≡ Err z → (lengths_of : ℕ → List ℕ)
-      → head_read (H.Refused z) ≡ came_to (run (read lengths_of) (head_requests i (modes_in t n)) s 0)
-  unfolding head_read head_reader
+      → outcome {A = Head} (Err z) ≡ came_to (run (read lengths_of) (head_requests i (modes_in t n)) s 0)
+  unfolding outcome head_reader
   type_cut q lengths_of = rw (head_by_table lengths_of s i n t, refused_is (place_as 1 s p z₀) q)
 
   module _ {type : ℕ} {k₁ : Cursor} (q : r ≡ Ok (type, k₁)) where
     pub type_wrong : (type ≡ 0 → ⊥) → (lengths_of : ℕ → List ℕ)
-        → head_read (H.Refused (at 15 k)) ≡ came_to (run (read lengths_of) (head_requests i (modes_in t n)) s 0)
-    unfolding head_read head_reader
+        → outcome {A = Head} (Err (at R.NotAudio k)) ≡ came_to (run (read lengths_of) (head_requests i (modes_in t n)) s 0)
+    unfolding outcome head_reader
     type_wrong h lengths_of = rw (head_by_table lengths_of s i n t, value_is (place_as 1 s p z₀) q, ne_eqb _ _ h, z₀)
 
     pub type_right : type ≡ 0 → {o : Outcome (Head × ℕ)} → o ≡ mode_reader i n (blockflag_in t) s (position k₁) → (lengths_of : ℕ → List ℕ)

@@ -1,4 +1,5 @@
 -- WHAT IS KNOWN OF A HEAD THAT WAS READ, by its reader. Assumes nothing.
+use Rattle.std.specs.Prelude.{Result, Ok}
 use Prim.Native.Nat.{ℕ, ◌≤◌, ◌<◌, ◌-◌}
 use native.Mathlib.Omega.{arith}
 use mathlib.Core.Bool.{Bool, true, false, cond}
@@ -13,7 +14,7 @@ use Rattle.reading.proofs.Outcomes.{ok_is, then_ok, judged-ok}
 use Rattle.bits.specs.Field.{field}
 use Rattle.bits.specs.Ilog.{ilog}
 use Rattle.bits.specs.declared.Cursor.{Cursor}
-use Rattle.bits.specs.Inner.Cursors.{position}
+use Rattle.bits.specs.Inner.Cursors.{position, outcome}
 use Rattle.bits.proofs.Fields.{field-ok}
 use Rattle.identification.specs.declared.Identity.{Identity}
 use Rattle.mode.specs.Content.{Mode}
@@ -21,10 +22,8 @@ use Rattle.requests.specs.Run.{read, run}
 use Rattle.requests.specs.Refusing.{came_to}
 use Rattle.audio.specs.declared.Head.{Head}
 use Rattle.audio.specs.Head.{mode_at, head_with, head_requests}
-use Rattle.audio_head.specs.declared.HeadRead.{HeadRead}
-use Rattle.audio_head.specs.declared.HeadRead.TheVariants as H
+use Rattle.bits.specs.declared.refusal.Refusal.{Refusal}
 use Rattle.audio_head.specs.Inner.Readers.{flags_reader, mode_reader, head_reader}
-use Rattle.audio_head.specs.Inner.Answers.{head_read}
 use Rattle.audio_head.specs.Inner.Known.{HeadKnown}
 use Rattle.audio_head.proofs.RunLaws.{head_run_lem}
 
@@ -72,7 +71,7 @@ module _ (i : Identity) (modes : List Mode) (s : List ℕ) where
   head_known lengths_of e = reader_known (sym (head_run_lem lengths_of s i modes (λ m. (mode_at modes m).blockflag) (λ m h. refl)) ∙ e)
 
   -- of the program's answer
-  pub value_known : (lengths_of : ℕ → List ℕ) {r : HeadRead} {h : Head} {c : Cursor}
-      → head_read r ≡ came_to (run (read lengths_of) (head_requests i modes) s 0) → r ≡ H.Value h c → HeadKnown i modes h
-  unfolding head_read
-  value_known lengths_of {r} {h} {c} e q = head_known lengths_of {x = (h, position c)} (sym e ∙ ap head_read q)
+  pub value_known : (lengths_of : ℕ → List ℕ) {r : Result (Head × Cursor) Refusal} {h : Head} {c : Cursor}
+      → outcome r ≡ came_to (run (read lengths_of) (head_requests i modes) s 0) → r ≡ Ok (h, c) → HeadKnown i modes h
+  unfolding outcome
+  value_known lengths_of {r} {h} {c} e q = head_known lengths_of {x = (h, position c)} (sym e ∙ ap outcome q)

@@ -5,32 +5,26 @@
 pub mod points; // the window's points
 
 ghost use Rattle.std.specs.Prelude.{ℕ, ◌≤◌, List, ◌≡◌};
-ghost use Rattle.bits.specs.Inner.Cursors.{position};
+ghost use Rattle.bits.specs.Inner.Cursors.{position, outcome};
 ghost use Rattle.requests.specs.Run.{read, run};
 ghost use Rattle.requests.specs.Refusing.{came_to};
 ghost use Rattle.audio.specs.Head.{block_size, head_requests};
 ghost use Rattle.audio_head.specs.Inner.Readers.{modes_in, blockflag_in, flags_reader, mode_reader};
-ghost use Rattle.audio_head.specs.Inner.Answers.{head_read};
 
 use audio::Head;
-use bits::{Cursor, Field, Refusal};
+use bits::Cursor;
+use bits::refusal::{Reason, Refusal};
 use identification::Identity;
-
-#[derive(Clone, Copy)]
-pub enum HeadRead {
-    // The head, and the position after it.
-    Value(Head, Cursor),
-    Refused(Refusal),
-}
 
 // The block size that goes with a block flag.
 pub fn block_size(identity: Identity, blockflag: u32) -> u32
     ensures { result ≡ block_size identity blockflag }
 {
     if blockflag == 0 {
-        return identity.blocksize0;
+        identity.blocksize0
+    } else {
+        identity.blocksize1
     }
-    identity.blocksize1
 }
 
 // The flags of a long block; a short block has none.
@@ -40,38 +34,30 @@ fn read_flags(
     identity: Identity,
     mode: u32,
     blockflag: u32,
-) -> HeadRead
-    ensures { head_read result ≡ flags_reader identity mode blockflag packet.now (position from) }
+) -> Result<(Head, Cursor), Refusal>
+    ensures { outcome result ≡ flags_reader identity mode blockflag packet.now (position from) }
 {
     let blocksize = block_size(identity, blockflag);
     if blockflag == 0 {
-        return HeadRead::Value(
-            Head {
-                mode,
-                blockflag: 0,
-                blocksize,
-                previous: 0,
-                next: 0,
-            },
-            from,
-        );
+        let head = Head {
+            mode,
+            blockflag: 0,
+            blocksize,
+            previous: 0,
+            next: 0,
+        };
+        return Ok((head, from));
     }
-    match from.bit(packet) {
-        Field::Refused(z) => HeadRead::Refused(z),
-        Field::Value(previous, at_next) => match at_next.bit(packet) {
-            Field::Refused(z) => HeadRead::Refused(z),
-            Field::Value(next, after) => HeadRead::Value(
-                Head {
-                    mode,
-                    blockflag,
-                    blocksize,
-                    previous,
-                    next,
-                },
-                after,
-            ),
-        },
-    }
+    let (previous, at_next) = from.bit(packet)?;
+    let (next, after) = at_next.bit(packet)?;
+    let head = Head {
+        mode,
+        blockflag,
+        blocksize,
+        previous,
+        next,
+    };
+    Ok((head, after))
 }
 
 // The block flag of a mode, from the table.
@@ -89,43 +75,40 @@ fn read_mode(
     identity: Identity,
     mode_count: u32,
     modes: &[u8],
-) -> HeadRead
+) -> Result<(Head, Cursor), Refusal>
     requires { (1 ≤ mode_count) × (mode_count ≤ 64) }
-    ensures { head_read result ≡ mode_reader identity mode_count (blockflag_in modes.now) packet.now (position from) }
+    ensures { outcome result ≡ mode_reader identity mode_count (blockflag_in modes.now) packet.now (position from) }
 {
     let width = bits::ilog::ilog(mode_count - 1);
-    match from.field(packet, width) {
-        Field::Refused(z) => HeadRead::Refused(z),
-        Field::Value(mode, at_flags) => {
-            if mode >= mode_count {
-                return HeadRead::Refused(Refusal {
-                    number: 16,
-                    place: from,
-                });
-            }
-            let blockflag = blockflag_of(modes, mode);
-            read_flags(packet, at_flags, identity, mode, blockflag)
-        }
+    let (mode, at_flags) = from.field(packet, width)?;
+    if mode >= mode_count {
+        return Err(Refusal {
+            reason: Reason::Mode,
+            place: from,
+        });
     }
+    let blockflag = blockflag_of(modes, mode);
+    read_flags(packet, at_flags, identity, mode, blockflag)
 }
 
 // THE HEAD, from a packet's first bit on: 15 where the type bit is 1. `mode_count` is how many modes are set up.
-pub fn read_head(packet: &[u8], identity: Identity, mode_count: u32, modes: &[u8]) -> HeadRead
+pub fn read_head(
+    packet: &[u8],
+    identity: Identity,
+    mode_count: u32,
+    modes: &[u8],
+) -> Result<(Head, Cursor), Refusal>
     requires { (1 ≤ mode_count) × (mode_count ≤ 64) }
     ensures { (lengths_of : ℕ → List ℕ)
-        → head_read result ≡ came_to (run (read lengths_of) (head_requests identity (modes_in modes.now mode_count)) packet.now 0) }
+        → outcome result ≡ came_to (run (read lengths_of) (head_requests identity (modes_in modes.now mode_count)) packet.now 0) }
 {
     let start = Cursor::start();
-    match start.bit(packet) {
-        Field::Refused(z) => HeadRead::Refused(z),
-        Field::Value(type_bit, at_mode) => {
-            if type_bit != 0 {
-                return HeadRead::Refused(Refusal {
-                    number: 15,
-                    place: start,
-                });
-            }
-            read_mode(packet, at_mode, identity, mode_count, modes)
-        }
+    let (type_bit, at_mode) = start.bit(packet)?;
+    if type_bit != 0 {
+        return Err(Refusal {
+            reason: Reason::NotAudio,
+            place: start,
+        });
     }
+    read_mode(packet, at_mode, identity, mode_count, modes)
 }

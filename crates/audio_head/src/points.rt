@@ -1,5 +1,5 @@
 // The window's points (003, 4.3.1, "packet type, mode and window decode").
-ghost use Rattle.std.specs.Prelude.{◌-◌, ◌≤◌, cond, ◌&&◌, ◌≡◌, eqb};
+ghost use Rattle.std.specs.Prelude.{◌≤◌, ◌&&◌, ◌≡◌, eqb};
 ghost use Rattle.audio.specs.Head.{window};
 
 use audio::{Head, Window};
@@ -8,29 +8,7 @@ use audio::{Head, Window};
 fn laps_short(blockflag: u32, flag: u32) -> bool
     ensures { result ≡ (eqb blockflag 1 && eqb flag 0) }
 {
-    if blockflag != 1 {
-        return false;
-    }
-    flag == 0
-}
-
-fn choose(test: bool, first: u32, second: u32) -> u32
-    ensures { result ≡ cond test first second }
-{
-    if test {
-        return first;
-    }
-    second
-}
-
-// a less b; 0 where b is the greater, as in the definition.
-fn less(a: u32, b: u32) -> u32
-    ensures { result ≡ a - b }
-{
-    if a < b {
-        return 0;
-    }
-    a - b
+    blockflag == 1 && flag == 0
 }
 
 // The four points of a block's window, where the first block size is `short`.
@@ -44,10 +22,14 @@ pub fn window(short: u32, head: Head) -> Window
     let lap = short / 4;
     let left = laps_short(head.blockflag, head.previous);
     let right = laps_short(head.blockflag, head.next);
-    let left_start = choose(left, less(first, lap), 0);
-    let left_end = choose(left, first + lap, half);
-    let right_start = choose(right, less(third, lap), half);
-    let right_end = choose(right, third + lap, head.blocksize);
+    let left_start = if left { first.saturating_sub(lap) } else { 0 };
+    let left_end = if left { first + lap } else { half };
+    let right_start = if right {
+        third.saturating_sub(lap)
+    } else {
+        half
+    };
+    let right_end = if right { third + lap } else { head.blocksize };
     Window {
         left_start,
         left_end,
