@@ -1,4 +1,5 @@
 -- Laws of a packet's content in all tables, as the code asks them. Assumes nothing.
+use Rattle.std.specs.Prelude.{Result, Ok, Err}
 use Prim.Native.Nat.{ℕ, ◌≤◌}
 use native.Mathlib.Omega.{arith}
 use mathlib.Core.Bool.{true}
@@ -7,9 +8,7 @@ use mathlib.Core.Path.{◌≡◌, ap, subst, ◌∙◌}
 use lib.ListN.{length}
 use Rattle.reading.specs.Pad.{pad}
 use Rattle.bits.specs.declared.Cursor.{Cursor}
-use Rattle.bits.specs.declared.Refusal.{Refusal}
-use Rattle.bits.specs.declared.Step.{Step}
-use Rattle.bits.specs.declared.Step.TheVariants as S
+use Rattle.bits.specs.declared.refusal.Refusal.{Refusal}
 use Rattle.bits.specs.Inner.Cursors.{position}
 use Rattle.limits.specs.declared.Limits.{Limits}
 use Rattle.book.specs.Inner.BookBuffers.{BookBuffers}
@@ -17,8 +16,8 @@ use Rattle.residue.specs.Reading.{Books}
 use Rattle.residue.specs.Inner.FromTable.{books_of}
 use Rattle.setup.specs.Content.{Setup, books_known}
 use Rattle.setup.specs.Layout.{tables, layout, has_room, written_out}
-use Rattle.setup.specs.Inner.Parts.{ReadInto, BooksStored, ClearedBookBuffers, RestStored, Small, WrittenOut, book_part, rest_part, setup_with, after_header}
-use Rattle.setup.proofs.ReadIntoLaws.{read_into_bad, read_into_ok, read_into_refused}
+use Rattle.setup.specs.Inner.Parts.{ReadInto, ReadCounted, BooksStored, ClearedBookBuffers, RestStored, Small, WrittenOut, book_part, rest_part, setup_with, after_header}
+use Rattle.setup.proofs.ReadIntoLaws.{read_into_refused, counted_bad, counted_ok}
 use Rattle.setup.proofs.TableLaws.{room_parts}
 use Rattle.setup_sections.proofs.PartLaws.{followed}
 use Rattle.setup.proofs.BookLinks.{books_link}
@@ -48,13 +47,13 @@ module _ (limits : Limits) {b b₁ l l₁ w w₁ m m₁ : List ℕ} (e0 : Blank 
         no_multiplicands = cleared_zeros e3;
       }
 
-  pub books_cleared : (s : List ℕ) (k : Cursor) {st : Step} {n : ℕ} {b' l' w' m' : List ℕ} → ReadInto (book_part limits s (position k)) st (BooksStored n b₁ b' l₁ l' w₁ w' m₁ m')
-      → ReadInto (book_part limits s (position k)) st (BooksStored n b b' l l' w w' m m')
+  pub books_cleared : (s : List ℕ) (k : Cursor) {st : Result (ℕ × Cursor) Refusal} {b' l' w' m' : List ℕ} → ReadCounted (book_part limits s (position k)) st (λ n. BooksStored n b₁ b' l₁ l' w₁ w' m₁ m')
+      → ReadCounted (book_part limits s (position k)) st (λ n. BooksStored n b b' l l' w w' m m')
   books_cleared s k h =
       record {
         step = h.step;
-        stored = λ x g.
-            let i = h.stored x g in
+        stored = λ n c q x g.
+            let i = h.stored n c q x g in
             record {
               count = i.count;
               books = pad_to_buffer _ e0 i.books;
@@ -71,13 +70,13 @@ room_books limits c b l w m f r p a o room small =
     record { books_long = d.books; lengths_long = d.lengths; codewords_long = d.codewords; multiplicands_long = d.multiplicands; few_entries = small.few_entries; few_values = small.few_values }
 
 -- what follows the header
-module _ (limits : Limits) (channels : ℕ) (s : List ℕ) (k : Cursor) {st : Step} {n : ℕ} {b b' l l' w w' m m' : List ℕ}
-    (h : ReadInto (book_part limits s (position k)) st (BooksStored n b b' l l' w w' m m')) where
-  pub content_refused : {z : Refusal} {L : Setup → Type 0} → st ≡ S.Refused z → ReadInto (after_header limits channels s (position k)) (S.Refused z) L
+module _ (limits : Limits) (channels : ℕ) (s : List ℕ) (k : Cursor) where
+  pub content_refused : {z : Refusal} {L : Setup → Type 0} {M : ℕ → _ → Type 0} → ReadCounted (book_part limits s (position k)) (Err z) M → ReadInto (after_header limits channels s (position k)) (Err z) L
   unfolding after_header
-  content_refused q = read_into_refused (rw (read_into_bad h q))
+  content_refused h = read_into_refused (rw (counted_bad h))
 
-  module _ (c f r p a o : List ℕ) (room : has_room limits (tables c b l w m f r p a o) ≡ true) (few : n ≤ 256) where
+  module _ {n : ℕ} {at : Cursor} {b b' l l' w w' m m' : List ℕ} (h : ReadCounted (book_part limits s (position k)) (Ok (n, at)) (λ n. BooksStored n b b' l l' w w' m m'))
+      (c f r p a o : List ℕ) (room : has_room limits (tables c b l w m f r p a o) ≡ true) (few : n ≤ 256) where
     -- the books that were read are those of the table
     linked : (bs : _) → BooksStored n b b' l l' w w' m m' bs → books_of n b' ≡ books_known bs
     linked bs i =
@@ -93,10 +92,10 @@ module _ (limits : Limits) (channels : ℕ) (s : List ℕ) (k : Cursor) {st : St
         = v.counts ∙ ap (λ (e : ℕ). pad (length c) (e ∷ length x.0.0 ∷ length x.0.1 ∷ length x.1.0 ∷ length x.1.1 ∷ [])) i.count in
         λ j. tables (counted j) (i.books j) (i.lengths j) (i.codewords j) (i.multiplicands j) (v.floors j) (v.residues j) (v.plans j) (v.mappings j) (v.modes j)
 
-    pub content_read : {at : Cursor} {answer : Step} {c' f' r' p' a' o' : List ℕ} → st ≡ S.Next at → ReadInto (rest_part channels (books_of n b') s (position at)) answer (RestStored n c c' f f' r r' p p' a a' o o')
+    pub content_read : {answer : Result Cursor Refusal} {c' f' r' p' a' o' : List ℕ} → ReadInto (rest_part channels (books_of n b') s (position at)) answer (RestStored n c c' f f' r r' p p' a a' o o')
         → ReadInto (after_header limits channels s (position k)) answer (WrittenOut (tables c b l w m f r p a o) (tables c' b' l' w' m' f' r' p' a' o'))
     unfolding after_header
-    content_read {at} {answer} {c'} {f'} {r'} {p'} {a'} {o'} q h₂ =
-        let x = read_into_ok h q in
+    content_read {answer} {c'} {f'} {r'} {p'} {a'} {o'} h₂ =
+        let x = counted_ok h in
         let h₃ = subst (λ (z : Books). ReadInto (rest_part channels z s (position at)) answer (RestStored n c c' f f' r r' p p' a a' o o')) (linked x.0 x.2) h₂ in
         rw x.1 (followed (setup_with x.0) (rest_part channels (books_known x.0) s (position at)) h₃ (λ z v. out x.0 z x.2 v))

@@ -3,22 +3,22 @@
 
 pub mod rest;
 
-ghost use Rattle.std.specs.Prelude.{true, ◌≡◌, ◌≤◌};
+ghost use Rattle.std.specs.Prelude.{true, ◌≡◌, ◌≤◌, IfOk};
 ghost use Rattle.bits.specs.Inner.Cursors.{position};
 ghost use Rattle.book.specs.Inner.BookBuffers.{BookBuffers};
 ghost use Rattle.setup.specs.Layout.{has_room, tables};
 ghost use Rattle.setup.specs.Handed.{handed, left_in};
-ghost use Rattle.setup.specs.Inner.Parts.{ReadInto, Small, WrittenOut, book_part, after_header};
+ghost use Rattle.setup.specs.Inner.Parts.{ReadInto, ReadCounted, Small, WrittenOut, book_part, after_header};
 ghost use Rattle.setup_sections.specs.Inner.Stored.{BooksStoredIn};
 
 use crate::rest::read_rest;
-use bits::{Cursor, Step};
+use bits::Cursor;
+use bits::refusal::Refusal;
 use limits::Limits;
 use setup_buffers::clear_books;
-use setup_sections::Section;
 use setup_sections::parts::read_book_part;
 
-// The books, and behind them the time values.
+// The books, and behind them the time values: how many books there are, and where reading goes on.
 fn read_books(
     packet: &[u8],
     from: Cursor,
@@ -27,11 +27,11 @@ fn read_books(
     lengths: &mut [u8],
     codewords: &mut [u32],
     multiplicands: &mut [u16],
-) -> Section
+) -> Result<(u32, Cursor), Refusal>
     requires { BookBuffers limits books.old lengths.old codewords.old multiplicands.old }
-    ensures read_into { ReadInto (book_part limits packet.now (position from)) result.step
-        (BooksStoredIn result.count books lengths codewords multiplicands) }
-    ensures count_bound { result.count ≤ 256 }
+    ensures read_into { ReadCounted (book_part limits packet.now (position from)) result
+        (λ count. BooksStoredIn count books lengths codewords multiplicands) }
+    ensures count_bound { IfOk result (λ x. x.0 ≤ 256) }
 {
     clear_books(books, lengths, codewords, multiplicands);
     read_book_part(
@@ -45,7 +45,8 @@ fn read_books(
     )
 }
 
-// What follows the header.
+// What follows the header. The tables are lent one by one: the books are read while those behind them are written, and the check does not cover the one beside the
+// other behind a `&mut` of `LentTablesMut`.
 pub fn read_content(
     packet: &[u8],
     from: Cursor,
@@ -61,14 +62,14 @@ pub fn read_content(
     plans: &mut [u16],
     mappings: &mut [u8],
     modes: &mut [u8],
-) -> Step
+) -> Result<Cursor, Refusal>
     requires { (has_room limits (tables counts.old books.old lengths.old codewords.old multiplicands.old floors.old residues.old
         plans.old mappings.old modes.old) ≡ true) × Small limits × (1 ≤ channels) × (channels ≤ 255) }
     ensures { ReadInto (after_header limits channels packet.now (position from)) result
         (WrittenOut (handed counts books lengths codewords multiplicands floors residues plans mappings modes)
         (left_in counts books lengths codewords multiplicands floors residues plans mappings modes)) }
 {
-    let first = read_books(
+    let (book_count, next) = read_books(
         packet,
         from,
         limits,
@@ -76,14 +77,8 @@ pub fn read_content(
         lengths,
         codewords,
         multiplicands,
-    );
-    let book_count = first.count;
-    let step = first.step;
-    match step {
-        Step::Refused(z) => Step::Refused(z),
-        Step::Next(next) => read_rest(
-            packet, next, channels, book_count, books, counts, floors, residues, plans, mappings,
-            modes,
-        ),
-    }
+    )?;
+    read_rest(
+        packet, next, channels, book_count, books, counts, floors, residues, plans, mappings, modes,
+    )
 }

@@ -5,35 +5,29 @@ ghost use Rattle.reading.specs.Pad.{pad};
 ghost use Rattle.bits.specs.Inner.Cursors.{position, stepped};
 ghost use Rattle.header.specs.Header.{framing};
 ghost use Rattle.residue.specs.Inner.FromTable.{books_of};
-ghost use Rattle.setup.specs.Inner.Parts.{ReadInto, after_books, rest_part};
+ghost use Rattle.setup.specs.Inner.Parts.{ReadInto, ReadCounted, after_books, rest_part};
 ghost use Rattle.setup_sections.specs.Inner.Stored.{AfterBooksStoredIn, RestStoredIn};
 
-use bits::{Cursor, Field, Step};
-use reading::buffers::{clear_u32, write_u32};
+use bits::Cursor;
+use bits::refusal::Refusal;
+use reading::buffers::{clear, write};
 use setup_buffers::clear_after;
 use setup_sections::parts::{After, read_after_books};
 
 // How many there are of each, from the front of the table of counts.
-fn write_counts(
-    counts: &mut [u32],
-    book_count: u32,
-    floor_count: u32,
-    residue_count: u32,
-    mapping_count: u32,
-    mode_count: u32,
-)
+fn write_counts(counts: &mut [u32], book_count: u32, after: After)
     ensures { counts.new ≡ pad (length counts.old)
-        (book_count ∷ floor_count ∷ residue_count ∷ mapping_count ∷ mode_count ∷ []) }
+        (book_count ∷ after.floors ∷ after.residues ∷ after.mappings ∷ after.modes ∷ []) }
 {
-    clear_u32(counts);
+    clear(counts);
     let row = [
         book_count,
-        floor_count,
-        residue_count,
-        mapping_count,
-        mode_count,
+        after.floors,
+        after.residues,
+        after.mappings,
+        after.modes,
     ];
-    write_u32(counts, 0, &row);
+    write(counts, 0, &row);
 }
 
 // Floors, residues, mappings and modes, behind `book_count` codebooks.
@@ -48,10 +42,10 @@ fn read_after(
     plans: &mut [u16],
     mappings: &mut [u8],
     modes: &mut [u8],
-) -> After
+) -> Result<(After, Cursor), Refusal>
     requires { (1 ≤ channels) × (channels ≤ 255) × (book_count ≤ 256) }
-    ensures { ReadInto (after_books channels (books_of book_count books.now) packet.now (position from)) result.step
-        (AfterBooksStoredIn result.floors result.residues result.mappings result.modes floors residues plans mappings modes) }
+    ensures { ReadCounted (after_books channels (books_of book_count books.now) packet.now (position from)) result
+        (λ after. AfterBooksStoredIn after.floors after.residues after.mappings after.modes floors residues plans mappings modes) }
 {
     clear_after(floors, residues, plans, mappings, modes);
     read_after_books(
@@ -59,13 +53,11 @@ fn read_after(
     )
 }
 
-fn read_framing(packet: &[u8], from: Cursor) -> Step
+fn read_framing(packet: &[u8], from: Cursor) -> Result<Cursor, Refusal>
     ensures { stepped result ≡ then (framing packet.now (position from)) (λ x. ok x.1) }
 {
-    match header::framing(packet, from) {
-        Field::Refused(z) => Step::Refused(z),
-        Field::Value(_, next) => Step::Next(next),
-    }
+    let (_, next) = header::framing(packet, from)?;
+    Ok(next)
 }
 
 // What follows the books, and the counts of all.
@@ -81,25 +73,14 @@ pub fn read_rest(
     plans: &mut [u16],
     mappings: &mut [u8],
     modes: &mut [u8],
-) -> Step
+) -> Result<Cursor, Refusal>
     requires { (1 ≤ channels) × (channels ≤ 255) × (book_count ≤ 256) }
     ensures { ReadInto (rest_part channels (books_of book_count books.now) packet.now (position from)) result
         (RestStoredIn book_count counts floors residues plans mappings modes) }
 {
-    let after = read_after(
+    let (after, at_framing) = read_after(
         packet, from, channels, book_count, books, floors, residues, plans, mappings, modes,
-    );
-    write_counts(
-        counts,
-        book_count,
-        after.floors,
-        after.residues,
-        after.mappings,
-        after.modes,
-    );
-    let step = after.step;
-    match step {
-        Step::Refused(z) => Step::Refused(z),
-        Step::Next(at_framing) => read_framing(packet, at_framing),
-    }
+    )?;
+    write_counts(counts, book_count, after);
+    read_framing(packet, at_framing)
 }

@@ -1,5 +1,4 @@
 -- `setup_content::read_books` meets its contract, by ContentLaws. Assumes nothing.
-use mathlib.Core.Path.{◌∙◌}
 use Rattle.setup_content.proofs.ContentLaws.{books_ready, books_cleared}
 use Rattle.setup_content.proofs.read_books.Goals as goal
 
@@ -8,10 +7,7 @@ read_book_part-requires c =
     books_ready _ c.clear_books.ensures.0 c.clear_books.ensures.1 c.clear_books.ensures.2
     c.clear_books.ensures.3 c.requires
 
-pub returns : goal.returns
-returns c =
-    record {
-      read_into = books_cleared _ c.clear_books.ensures.0 c.clear_books.ensures.1 c.clear_books.ensures.2
-          c.clear_books.ensures.3 _ _ c.read_book_part.ensures.read_into;
-      count_bound = c.read_book_part.ensures.count_bound;
-    }
+pub returns-clause-read_into : goal.returns-clause-read_into
+returns-clause-read_into c =
+    books_cleared _ c.clear_books.ensures.0 c.clear_books.ensures.1 c.clear_books.ensures.2
+    c.clear_books.ensures.3 _ _ c.read_book_part.ensures.read_into
