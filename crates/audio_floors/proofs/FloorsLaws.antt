@@ -1,4 +1,5 @@
 -- Laws of the loop over the channels, as the code asks them: the run of the floors that are left, joined to what was read, is the whole. Assumes nothing.
+use Rattle.std.specs.Prelude.{Result, Ok, Err}
 use Prim.Native.Nat.{ℕ, zero, suc, ◌+◌, ◌-◌, ◌*◌, ◌≤◌, ◌<◌}
 use native.Mathlib.Nat.{zero-mul, suc-mul, add-mul, add_comm, mul-le-mul}
 use native.Mathlib.Numerals.{add-one}
@@ -32,8 +33,8 @@ use Rattle.floor_requests.specs.Requests.{FloorRead, unused, values, floor_reque
 use Rattle.audio.specs.Channels.{submap_of, floor_number, floors_of, is_used}
 use Rattle.audio.specs.Packet.{by_channel}
 use Rattle.audio.specs.Curves.{points_of, curve_of, curves_of}
-use Rattle.audio_floors.specs.declared.channel.ChannelRead.{ChannelRead}
-use Rattle.audio_floors.specs.Inner.Floors.{is_cut, or_unused, floor_run, XListStored, FloorsReadable, ChannelIs, FloorsAre}
+use Rattle.audio_floors.specs.declared.channel.Cut.{Cut}
+use Rattle.audio_floors.specs.Inner.Floors.{is_cut, or_unused, floor_run, has_cut, channel_end, channel_used, XListStored, FloorsReadable, ChannelIs, FloorsAre}
 
 -- for each floor that is whole 1 where it is used, else 0
 unfoldable pub flags_of : (ℕ → List ℕ) → List Floor → List ℕ → ℕ → List ℕ
@@ -189,7 +190,7 @@ module _ (lengths_of : ℕ → List ℕ) (half : ℕ) (fs : List Floor) (s : Lis
 
   module _ {now used : List ℕ} {at : Cursor} {start channel : ℕ} (w : Reading lengths_of half fs s (position from) entry now used at start channel) where
     -- all channels are read
-    pub reading_done : length fs ≤ channel → FloorsAre lengths_of (length fs) half fs s (position from) (record { at = at; cut = false; used = used }) entry now
+    pub reading_done : length fs ≤ channel → FloorsAre lengths_of (length fs) half fs s (position from) (record { used = used; end = Ok at }) entry now
     unfolding run each is_cut flags_of curves_at whole_values curves_of
     reading_done h =
         let e : drop channel fs ≡ [] = drop_of_length-le fs h in
@@ -214,7 +215,7 @@ module _ (lengths_of : ℕ → List ℕ) (half : ℕ) (fs : List Floor) (s : Lis
       pub start_low : start + half ≤ length entry
       start_low = let a = end_room in let b = w.room in omega arith
 
-      module _ {f : Floor} (e : drop channel fs ≡ f ∷ drop (suc channel) fs) {r : ChannelRead} {bytes : List ℕ} (c : ChannelIs lengths_of f s (position at) half r bytes) where
+      module _ {f : Floor} (e : drop channel fs ≡ f ∷ drop (suc channel) fs) {r : Result (Bool × Cursor) Cut} {bytes : List ℕ} (c : ChannelIs lengths_of f s (position at) half r bytes) where
         left : length fs - channel ≡ suc (length fs - suc channel)
         left = omega arith
 
@@ -250,52 +251,55 @@ module _ (lengths_of : ℕ → List ℕ) (half : ℕ) (fs : List Floor) (s : Lis
             ∙ sym (sets_append (curve_of half f v) l now start)
 
         -- its floor is whole
-        module _ (a : FloorRead) (v : (floor_run lengths_of f s (position at)).value ≡ some a) where
-          used_is : r.used ≡ one (is_used a)
+        module _ {is : Bool} {next : Cursor} (q : r ≡ Ok (is, next)) (a : FloorRead) (v : (floor_run lengths_of f s (position at)).value ≡ some a) where
+          end_is : position next ≡ (floor_run lengths_of f s (position at)).position
+          end_is = sym (ap channel_end q) ∙ c.position
+
+          used_is : one is ≡ one (is_used a)
           unfolding or_unused
-          used_is = c.used ∙ ap (λ (o : Option FloorRead). one (is_used (or_unused o))) v
+          used_is = ap one (sym (ap channel_used q) ∙ c.used ∙ ap (λ (o : Option FloorRead). is_used (or_unused o)) v)
 
           bytes_are : bytes ≡ curve_of half f a
           unfolding or_unused
           bytes_are = c.curve ∙ ap (λ (o : Option FloorRead). curve_of half f (or_unused o)) v
 
-          next_flags : sets (set used channel r.used) (suc channel) (flags_of lengths_of (drop (suc channel) fs) s (position r.at)) ≡ pad 255 (flags_of lengths_of fs s (position from))
-          next_flags = rw (c.position, used_is) (ap (sets used channel) (sym (flags_whole lengths_of f (drop (suc channel) fs) s (position at) a v)) ∙ here_flags)
+          next_flags : sets (set used channel (one is)) (suc channel) (flags_of lengths_of (drop (suc channel) fs) s (position next)) ≡ pad 255 (flags_of lengths_of fs s (position from))
+          next_flags = rw (end_is, used_is) (ap (sets used channel) (sym (flags_whole lengths_of f (drop (suc channel) fs) s (position at) a v)) ∙ here_flags)
 
-          next_curves : sets (sets now start bytes) (start + half) (curves_at lengths_of (length fs - suc channel) half (drop (suc channel) fs) s (position r.at))
+          next_curves : sets (sets now start bytes) (start + half) (curves_at lengths_of (length fs - suc channel) half (drop (suc channel) fs) s (position next))
               ≡ sets entry 0 (curves_at lengths_of (length fs) half fs s (position from))
           next_curves =
-              rw c.position (curve_then a (curves_at lengths_of (length fs - suc channel) half (drop (suc channel) fs) s (floor_run lengths_of f s (position at)).position) bytes_are
+              rw end_is (curve_then a (curves_at lengths_of (length fs - suc channel) half (drop (suc channel) fs) s (floor_run lengths_of f s (position at)).position) bytes_are
               ∙ ap (sets now start) (sym (curves_whole lengths_of f (drop (suc channel) fs) s (position at) a v (length fs - suc channel) half)) ∙ here_curves)
 
-          turn : Reading lengths_of half fs s (position from) entry (sets now start bytes) (set used channel r.used) r.at (start + half) (suc channel)
+          turn : Reading lengths_of half fs s (position from) entry (sets now start bytes) (set used channel (one is)) next (start + half) (suc channel)
           turn =
               record {
                 within = omega arith;
                 room = w.room;
                 long = length-sets now start bytes ∙ w.long;
-                flags_long = length-set used channel r.used ∙ w.flags_long;
+                flags_long = length-set used channel (one is) ∙ w.flags_long;
                 start_is = ap (λ (n : ℕ). n + half) w.start_is ∙ sym (suc-mul channel half);
-                end_position = rw c.position (sym (position_whole lengths_of f (drop (suc channel) fs) s (position at) a v) ∙ here_position);
-                end_cut = rw c.position (sym (cut_whole lengths_of f (drop (suc channel) fs) s (position at) a v) ∙ here_cut);
+                end_position = rw end_is (sym (position_whole lengths_of f (drop (suc channel) fs) s (position at) a v) ∙ here_position);
+                end_cut = rw end_is (sym (cut_whole lengths_of f (drop (suc channel) fs) s (position at) a v) ∙ here_cut);
                 flags = next_flags;
                 curves = next_curves;
               }
 
-        pub reading_next : r.cut ≡ false → {now' used' : List ℕ} {next : ℕ} → now' ≡ take start now ++ (bytes ++ drop (start + half - start) (drop start now))
-            → used' ≡ set used channel r.used → next ≡ channel + 1 → Reading lengths_of half fs s (position from) entry now' used' r.at (start + half) next
+        pub reading_next : {is : Bool} {next : Cursor} → r ≡ Ok (is, next) → {now' used' : List ℕ} {count : ℕ} → now' ≡ take start now ++ (bytes ++ drop (start + half - start) (drop start now))
+            → used' ≡ set used channel (one is) → count ≡ channel + 1 → Reading lengths_of half fs s (position from) entry now' used' next (start + half) count
         reading_next q en eu ec =
-            let v = whole_is (floor_run lengths_of f s (position at)).value (sym c.cut ∙ q) in
-            rw (en, ← written, eu, ec, add-one) (turn v.0 v.1)
+            let v = whole_is (floor_run lengths_of f s (position at)).value (sym c.cut ∙ ap has_cut q) in
+            rw (en, ← written, eu, ec, add-one) (turn q v.0 v.1)
 
         -- its floor is cut: it and those behind it are zeros
-        pub reading_cut : r.cut ≡ true → {now' zeros now'' : List ℕ} {end : ℕ} → now' ≡ take start now ++ (bytes ++ drop (start + half - start) (drop start now))
+        pub reading_cut : {z : Cut} → r ≡ Err z → {now' zeros now'' : List ℕ} {end : ℕ} → now' ≡ take start now ++ (bytes ++ drop (start + half - start) (drop start now))
             → end ≡ length fs * half → zeros ≡ replicate (length (take (end - (start + half)) (drop (start + half) now'))) 0
             → now'' ≡ take (start + half) now' ++ (zeros ++ drop (end - (start + half)) (drop (start + half) now'))
-            → FloorsAre lengths_of (length fs) half fs s (position from) (record { at = r.at; cut = true; used = used }) entry now''
+            → FloorsAre lengths_of (length fs) half fs s (position from) (record { used = used; end = Err z }) entry now''
         unfolding or_unused flags_of curves_at
-        reading_cut q {now'} {zeros} {now''} {end} en ee ez em =
-            let v = cut_is (floor_run lengths_of f s (position at)).value (sym c.cut ∙ q) in
+        reading_cut {z} q {now'} {zeros} {now''} {end} en ee ez em =
+            let v = cut_is (floor_run lengths_of f s (position at)).value (sym c.cut ∙ ap has_cut q) in
             let rest = drop (suc channel) fs in
             let b : bytes ≡ curve_of half f unused = c.curve ∙ ap (λ (o : Option FloorRead). curve_of half f (or_unused o)) v in
             let l : length now' ≡ length entry = ap length (en ∙ sym written) ∙ length-sets now start bytes ∙ w.long in
@@ -310,7 +314,7 @@ module _ (lengths_of : ℕ → List ℕ) (half : ℕ) (fs : List Floor) (s : Lis
             em ∙ sym (part_back now' (start + half) zeros (omega arith) ∙ ap (λ (i : ℕ). take (start + half) now' ++ (zeros ++ drop i (drop (start + half) now'))) lz)
             ∙ (λ j. sets ((en ∙ sym written) j) (start + half) (z j)) in
             record {
-              position = c.position ∙ sym (position_cut lengths_of f rest s (position at) v) ∙ here_position;
+              position = sym (ap channel_end q) ∙ c.position ∙ sym (position_cut lengths_of f rest s (position at) v) ∙ here_position;
               cut = sym (cut_cut lengths_of f rest s (position at) v) ∙ here_cut;
               used = ap (sets used channel) (sym (flags_cut lengths_of f rest s (position at) v)) ∙ here_flags;
               curves = cleared ∙ curve_then unused (replicate ((length fs - suc channel) * half) 0) b
@@ -321,23 +325,23 @@ module _ (lengths_of : ℕ → List ℕ) (half : ℕ) (fs : List Floor) (s : Lis
 
 -- THE NUMBER OF A CHANNEL'S FLOOR, as its mapping's row has it
 module _ (channels : ℕ) (t : List ℕ) (n : ℕ) (l : MappingReadable channels t n) (few : channels ≤ 255) (c : ℕ) (h : c < channels) where
-  submap_is : {a b : ℕ} → a ≡ get_or t (mapping_width * n + (multiplex_place + c)) 0 - 1 → b ≡ a → b ≡ submap_of (mapping_in t n) c
+  submap_is : {a : ℕ} → a ≡ get_or t (mapping_width * n + (multiplex_place + c)) 0 - 1 → a ≡ submap_of (mapping_in t n) c
   unfolding submap_of
-  submap_is e g = g ∙ e ∙ l.channel_submap c (omega arith)
+  submap_is e = e ∙ l.channel_submap c (omega arith)
 
   submap_low : {b : ℕ} → b ≡ submap_of (mapping_in t n) c → b < length (mapping_in t n).submaps
   unfolding submap_of
   submap_low e = rw e (l.submap_set_up c h)
 
-  pub submap_few : {a b : ℕ} → a ≡ get_or t (mapping_width * n + (multiplex_place + c)) 0 - 1 → b ≡ a → b < 16
-  submap_few e g = let x = submap_low (submap_is e g) in let y = l.submaps_few in omega arith
+  pub submap_few : {a : ℕ} → a ≡ get_or t (mapping_width * n + (multiplex_place + c)) 0 - 1 → a < 16
+  submap_few e = let x = submap_low (submap_is e) in let y = l.submaps_few in omega arith
 
-  pub floor_number_lem : {a b d r : ℕ} → a ≡ get_or t (mapping_width * n + (multiplex_place + c)) 0 - 1 → b ≡ a
-      → d ≡ get_or t (mapping_width * n + (submaps_place + 2 * b)) 0 → r ≡ d → r ≡ floor_number (mapping_in t n) c
+  pub floor_number_lem : {a r : ℕ} → a ≡ get_or t (mapping_width * n + (multiplex_place + c)) 0 - 1
+      → r ≡ get_or t (mapping_width * n + (submaps_place + 2 * a)) 0 → r ≡ floor_number (mapping_in t n) c
   unfolding floor_number
-  floor_number_lem {a} {b} e g i j =
-      let x = submap_is e g in
-      j ∙ i ∙ l.floor b (submap_low x) ∙ ap (λ (y : ℕ). (get_or (mapping_in t n).submaps y no_submap).floor) x
+  floor_number_lem {a} e g =
+      let x = submap_is e in
+      g ∙ l.floor a (submap_low x) ∙ ap (λ (y : ℕ). (get_or (mapping_in t n).submaps y no_submap).floor) x
 
 -- THE LOOP, as the code asks it
 pub readable : {channels mapping : ℕ} {mappings floors books lengths codewords : List ℕ} → FloorsReadable channels mapping mappings floors books lengths codewords → {c n : ℕ} → c < channels
@@ -355,7 +359,7 @@ module _ (lengths_of : ℕ → List ℕ) (floor_at : ℕ → Floor) (m : Mapping
   go_start h = reading_start lengths_of half fs s from entry (rw (floors_long floor_at m channels) h)
 
   module _ {now used : List ℕ} {at : Cursor} {start channel : ℕ} (w : Reading lengths_of half (floors_of floor_at m channels) s (position from) entry now used at start channel) where
-    pub go_done : channels ≤ channel → FloorsAre lengths_of channels half (floors_of floor_at m channels) s (position from) (record { at = at; cut = false; used = used }) entry now
+    pub go_done : channels ≤ channel → FloorsAre lengths_of channels half (floors_of floor_at m channels) s (position from) (record { used = used; end = Ok at }) entry now
     go_done h =
         let n = floors_long floor_at m channels in
         rw n at (reading_done lengths_of half fs s from entry w (omega arith))
@@ -385,7 +389,7 @@ module _ (lengths_of : ℕ → List ℕ) (floor_at : ℕ → Floor) (m : Mapping
           let d = length-drop start now in
           omega arith
 
-      module _ {n : ℕ} (e : n ≡ floor_number m channel) {r : ChannelRead} {bytes : List ℕ}
+      module _ {n : ℕ} (e : n ≡ floor_number m channel) {r : Result (Bool × Cursor) Cut} {bytes : List ℕ}
           (c : ChannelIs lengths_of (floor_at n) s (position at) (length (take (start + half - start) (drop start now))) r bytes) where
         here : ChannelIs lengths_of (floor_at (floor_number m channel)) s (position at) half r bytes
         here = rw (e, part_long) at c
@@ -396,14 +400,14 @@ module _ (lengths_of : ℕ → List ℕ) (floor_at : ℕ → Floor) (m : Mapping
             let a = (part_end e).1 in
             omega arith
 
-        pub go_next : r.cut ≡ false → Reading lengths_of half (floors_of floor_at m channels) s (position from) entry
-            (take start now ++ (bytes ++ drop (start + half - start) (drop start now))) (set used channel r.used) r.at (start + half) (channel + 1)
+        pub go_next : {is : Bool} {next : Cursor} → r ≡ Ok (is, next) → Reading lengths_of half (floors_of floor_at m channels) s (position from) entry
+            (take start now ++ (bytes ++ drop (start + half - start) (drop start now))) (set used channel (one is)) next (start + half) (channel + 1)
         go_next q = reading_next lengths_of half fs s from entry w low (floors_next floor_at m channels channel h) here q refl refl refl
 
-        pub go_cut : r.cut ≡ true → {now' zeros now'' : List ℕ} {end : ℕ} → now' ≡ take start now ++ (bytes ++ drop (start + half - start) (drop start now))
+        pub go_cut : {z : Cut} → r ≡ Err z → {now' zeros now'' : List ℕ} {end : ℕ} → now' ≡ take start now ++ (bytes ++ drop (start + half - start) (drop start now))
             → end ≡ channels * half → zeros ≡ replicate (length (take (end - (start + half)) (drop (start + half) now'))) 0
             → now'' ≡ take (start + half) now' ++ (zeros ++ drop (end - (start + half)) (drop (start + half) now'))
-            → FloorsAre lengths_of channels half (floors_of floor_at m channels) s (position from) (record { at = r.at; cut = true; used = used }) entry now''
+            → FloorsAre lengths_of channels half (floors_of floor_at m channels) s (position from) (record { used = used; end = Err z }) entry now''
         go_cut q en ee ez em =
             let n = floors_long floor_at m channels in
             let l = ap (λ (x : ℕ). x * half) n in

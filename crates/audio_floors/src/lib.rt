@@ -12,17 +12,18 @@ ghost use Rattle.audio.specs.Channels.{floor_number, floors_of};
 ghost use Rattle.audio_floors.specs.Inner.Floors.{FloorsReadable, FloorsAre};
 
 use bits::Cursor;
-use reading::buffers::clear_u8;
-use reading::widths::{wide_u8, wide_u32};
+use book_codeword::Codebooks;
+use channel::{Cut, read_channel};
+use reading::buffers::clear;
+use setup::lent::LentTables;
 
 // What the floors of all channels come to.
 #[derive(Clone, Copy)]
 pub struct FloorsRead {
-    // The position behind the last floor; on a cut the first bit of what is cut.
-    pub at: Cursor,
-    pub cut: bool,
     // For each channel 1 where its floor is used; zeros behind the last channel, and from a cut on.
     pub used: [u8; 255],
+    // The position behind the last floor, or the cut.
+    pub end: Result<Cursor, Cut>,
 }
 
 // The number of a channel's floor.
@@ -31,7 +32,7 @@ fn channel_floor(mappings: &[u8], mapping: usize, channels: u32, channel: usize)
     ensures { result ≡ floor_number (mapping_in mappings.now mapping) channel }
 {
     let submap = mapping_row::channel_submap(mappings, mapping, channel);
-    wide_u8(mapping_row::submap_floor(mappings, mapping, wide_u8(submap)))
+    mapping_row::submap_floor(mappings, mapping, submap as usize) as usize
 }
 
 // The floors of channels 0, 1, .. and their curves, `half` bytes a channel. A cut ends reading: the channel's curve and all later ones are zeros.
@@ -41,54 +42,48 @@ pub fn read_floors(
     channels: u32,
     mapping: usize,
     half: usize,
-    mappings: &[u8],
-    floors: &[u16],
-    books: &[u32],
-    lengths: &[u8],
-    codewords: &[u32],
+    tables: LentTables<'_>,
     curves: &mut [u8],
 ) -> FloorsRead
     requires { (channels ≤ 255) × (half ≤ 4096) × (channels * half ≤ length curves.old)
-        × FloorsReadable channels mapping mappings.now floors.now books.now lengths.now codewords.now }
-    ensures { FloorsAre (lengths_in books.now lengths.now) channels half
-        (floors_of (floor_in floors.now) (mapping_in mappings.now mapping) channels)
+        × FloorsReadable channels mapping tables.mappings.now tables.floors.now tables.books.now tables.lengths.now tables.codewords.now }
+    ensures { FloorsAre (lengths_in tables.entry.books.now tables.entry.lengths.now) channels half
+        (floors_of (floor_in tables.entry.floors.now) (mapping_in tables.entry.mappings.now mapping) channels)
         packet.now (position from) result curves.old curves.new }
 {
-    let count = wide_u32(channels);
+    let codebooks = Codebooks {
+        books: tables.books,
+        lengths: tables.lengths,
+        codewords: tables.codewords,
+    };
+    let count = channels as usize;
     let end = count * half;
     let mut used = [0u8; 255];
     let mut at = from;
     let mut start: usize = 0;
-    let mut channel: usize = 0;
-    while channel < count {
-        let floor = channel_floor(mappings, mapping, channels, channel);
-        let read = channel::read_channel(
+    for channel in 0..count {
+        let floor = channel_floor(tables.mappings, mapping, channels, channel);
+        match read_channel(
             packet,
             at,
-            floors,
+            tables.floors,
             floor,
-            books,
-            lengths,
-            codewords,
+            codebooks,
             &mut curves[start..start + half],
-        );
-        let next = read.at;
-        at = next;
-        start = start + half;
-        if read.cut {
-            clear_u8(&mut curves[start..end]);
-            return FloorsRead {
-                at,
-                cut: true,
-                used,
-            };
+        ) {
+            Ok((is_used, next)) => {
+                used[channel] = is_used as u8;
+                at = next;
+                start += half;
+            }
+            Err(cut) => {
+                clear(&mut curves[start + half..end]);
+                return FloorsRead {
+                    used,
+                    end: Err(cut),
+                };
+            }
         }
-        used[channel] = read.used;
-        channel = channel + 1;
     }
-    FloorsRead {
-        at,
-        cut: false,
-        used,
-    }
+    FloorsRead { used, end: Ok(at) }
 }

@@ -1,4 +1,3 @@
-pub mod PowerLaws
 pub mod SubmapLaws
 pub mod RequestLaws
 pub mod WholeLaws

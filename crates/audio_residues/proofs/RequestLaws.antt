@@ -1,4 +1,5 @@
 -- Laws of the residues of all submaps: one submap after the other, into the list, and trees that are the same. Assumes nothing.
+use Rattle.std.specs.Prelude.{Result, Ok, Err}
 use Prim.Native.Nat.{ℕ, suc, ◌+◌, ◌≤◌, ◌<◌}
 use native.Mathlib.Numerals.{add-one}
 use native.Mathlib.Omega.{arith}
@@ -17,10 +18,9 @@ use Rattle.requests.specs.Run.{read, Run, run, ended}
 use Rattle.requests.specs.Inner.Parts.{joined}
 use Rattle.requests.proofs.Laws.{run_bind}
 use Rattle.codeword_list.specs.declared.Progress.{Progress}
-use Rattle.codeword_list.specs.declared.ListRead.{ListRead}
-use Rattle.codeword_list.specs.declared.ListRead.TheVariants.{Whole, Cut, Full}
+use Rattle.codeword_list.specs.declared.Stop.{Stop}
 use Rattle.codeword_list.specs.Inner.ListRead.{ReadIntoList}
-use Rattle.codeword_list.proofs.Laws.{ReadSoFar, sofar_start, sofar_fits, sofar_last, sofar_next, joined_cut, joined_full, read_nothing, read_length}
+use Rattle.codeword_list.proofs.Laws.{ReadSoFar, sofar_start, sofar_fits, sofar_last, sofar_next, joined_stop, read_nothing, read_length}
 use Rattle.residue_pass.specs.Inner.Readable.{residue_in}
 use Rattle.audio.specs.Channels.{submap_requests, all_requests}
 use Rattle.audio_residues.specs.Inner.Reading.{residue_number, submap_run, submaps_run}
@@ -76,25 +76,19 @@ module _ (books lengths residues plans : List ℕ) (half : ℕ) (m : Mapping) (l
       submaps_room_lem = sofar_fits w.sofar
 
       pub submaps_done : length m.submaps ≤ j
-          → ReadIntoList (submaps_run books lengths residues plans half m live 0 m.submaps packet (position from.at)) entry from.count (Whole next) out
+          → ReadIntoList (submaps_run books lengths residues plans half m live 0 m.submaps packet (position from.at)) entry from.count (Ok next) out
       unfolding rest
       submaps_done h = sofar_last w.sofar (read_nothing (rest_none j (position next.at) h) (sofar_fits w.sofar) refl)
 
-      module _ (h : j < length m.submaps) {r : ListRead} {exit : List ℕ}
+      module _ (h : j < length m.submaps) {r : Result Progress Stop} {exit : List ℕ}
           (x : ReadIntoList (submap_run books lengths residues plans half m live j packet (position next.at)) out next.count r exit) where
-        pub submaps_next : {p : Progress} → r ≡ Whole p → SubmapsRead entry from exit p (j + 1)
+        pub submaps_next : {p : Progress} → r ≡ Ok p → SubmapsRead entry from exit p (j + 1)
         submaps_next q =
             let y = sofar_next w.sofar (λ _ n. rest (suc j) n) (rest_next j (position next.at) h) x q in
             record { within = omega arith; long = read_length x ∙ w.long; sofar = rw add-one y.2 }
 
-        pub submaps_cut : {p : Progress} → r ≡ Cut p
-            → ReadIntoList (submaps_run books lengths residues plans half m live 0 m.submaps packet (position from.at)) entry from.count (Cut p) exit
+        -- the list was full, or a codeword was cut: nothing more is read
+        pub submaps_stopped : (e : Stop) → r ≡ Err e
+            → ReadIntoList (submaps_run books lengths residues plans half m live 0 m.submaps packet (position from.at)) entry from.count (Err e) exit
         unfolding rest
-        submaps_cut q =
-            sofar_last w.sofar (rw (rest_next j (position next.at) h) (joined_cut (λ _ n. rest (suc j) n) x q))
-
-        pub submaps_full : r ≡ Full
-            → ReadIntoList (submaps_run books lengths residues plans half m live 0 m.submaps packet (position from.at)) entry from.count Full exit
-        unfolding rest
-        submaps_full q =
-            sofar_last w.sofar (rw (rest_next j (position next.at) h) (joined_full (λ _ n. rest (suc j) n) x q))
+        submaps_stopped e q = sofar_last w.sofar (rw (rest_next j (position next.at) h) (joined_stop (λ _ n. rest (suc j) n) x e q))

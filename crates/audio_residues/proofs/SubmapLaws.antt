@@ -1,5 +1,6 @@
 -- Laws of one submap's residue by the tables: the residue that was read, its digits, how much of it is read, and the places that the program does not keep.
 -- Assumes nothing.
+use Rattle.std.specs.Prelude.{Result}
 use Prim.Native.Nat.{ℕ, ◌+◌, ◌-◌, ◌*◌, ◌^◌, ◌≤◌, ◌<◌}
 use native.Mathlib.Omega.{arith}
 use mathlib.Core.Bool.{Bool}
@@ -20,7 +21,8 @@ use Rattle.requests.specs.Run.{read, run}
 use Rattle.residue_requests.specs.Requests.{residue_requests, partition_count}
 use Rattle.residue_requests.specs.Inner.Unplaced.{flat_residue}
 use Rattle.residue_requests.proofs.UnplacedLaws.{residue_run_lem}
-use Rattle.codeword_list.specs.declared.ListRead.{ListRead}
+use Rattle.codeword_list.specs.declared.Progress.{Progress}
+use Rattle.codeword_list.specs.declared.Stop.{Stop}
 use Rattle.codeword_list.specs.Inner.ListRead.{ReadIntoList}
 use Rattle.codeword_list.specs.Inner.WordsRun.{words_run}
 use Rattle.codeword_list.proofs.Laws.{whole, Alike, read_alike}
@@ -75,7 +77,7 @@ module _ (half : ℕ) (m : Mapping) (live : List Bool) (submap : ℕ) (h : Head)
         λ j. flat_residue D (s j) (v j) (p j)
 
     pub submap_read : (books lengths : List ℕ) (packet : List ℕ) (at : ℕ) → D ≡ dimensions_in books → n ≡ residue_number m submap
-        → {entry : List ℕ} {c : ℕ} {r : ListRead} {exit : List ℕ}
+        → {entry : List ℕ} {c : ℕ} {r : Result Progress Stop} {exit : List ℕ}
         → ReadIntoList (words_run books lengths (flat_residue D (residue_by h plans n) vectors partitions) packet at) entry c r exit
         → ReadIntoList (submap_run books lengths residues plans half m live submap packet at) entry c r exit
     unfolding submap_requests vectors_of partitions_of
@@ -114,7 +116,7 @@ module _ (books lengths codewords residues plans mappings flags : List ℕ) (cha
 
         pub residue_read : (packet : List ℕ) (at : ℕ) {vectors partitions : ℕ}
             → ExtentIs half (mapping_in mappings mapping) channels (used_bools channels flags) submap h vectors partitions
-            → {entry : List ℕ} {c : ℕ} {r : ListRead} {exit : List ℕ}
+            → {entry : List ℕ} {c : ℕ} {r : Result Progress Stop} {exit : List ℕ}
             → ReadIntoList (words_run books lengths (flat_residue (dimensions_in books) (residue_by h plans n) vectors partitions) packet at) entry c r exit
             → ReadIntoList (submap_run books lengths residues plans half (mapping_in mappings mapping) (used_bools channels flags) submap packet at) entry c r exit
         residue_read packet at x w =

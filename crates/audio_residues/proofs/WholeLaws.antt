@@ -1,4 +1,5 @@
 -- Laws of reading all residues: the submaps are as many as the table says, and the channels that are live are those of 01, "Audio order" 4. Assumes nothing.
+use Rattle.std.specs.Prelude.{Result}
 use Prim.Native.Nat.{ℕ, ◌+◌, ◌*◌, ◌≤◌, ◌<◌}
 use native.Mathlib.Omega.{arith}
 use mathlib.Core.Bool.{Bool}
@@ -7,7 +8,8 @@ use mathlib.Core.Path.{◌≡◌, sym, ap, subst, ◌∙◌}
 use lib.ListN.{length, get_or}
 use Rattle.mapping.specs.Layout.{mapping_width}
 use Rattle.mapping_row.specs.Inner.Readable.{mapping_in}
-use Rattle.codeword_list.specs.declared.ListRead.{ListRead}
+use Rattle.codeword_list.specs.declared.Progress.{Progress}
+use Rattle.codeword_list.specs.declared.Stop.{Stop}
 use Rattle.codeword_list.specs.Inner.ListRead.{ReadIntoList}
 use Rattle.audio.specs.Channels.{coupled}
 use Rattle.audio_channels.specs.Inner.Live.{used_bools, live_bytes}
@@ -23,15 +25,15 @@ module _ (books lengths codewords residues plans mappings used : List ℕ) (chan
   live_long = coupled_long (mapping_in mappings mapping).couplings (used_bools channels used) ∙ used_long channels used p.flags-length p.channels_few
 
   -- how many submaps there are
-  submap_count_is : {v w : ℕ} → v ≡ get_or mappings (mapping_width * mapping + 2) 0 → w ≡ v → w ≡ length (mapping_in mappings mapping).submaps
-  submap_count_is e g = g ∙ e ∙ p.mapping_is.submaps
+  submap_count_is : {count : ℕ} → count ≡ get_or mappings (mapping_width * mapping + 2) 0 → count ≡ length (mapping_in mappings mapping).submaps
+  submap_count_is e = e ∙ p.mapping_is.submaps
 
-  module _ {v w : ℕ} (e : v ≡ get_or mappings (mapping_width * mapping + 2) 0) (g : w ≡ v) {submap : ℕ} where
-    pub submap_in : submap < w → submap < length (mapping_in mappings mapping).submaps
-    submap_in h = let k = submap_count_is e g in omega arith
+  module _ {count : ℕ} (e : count ≡ get_or mappings (mapping_width * mapping + 2) 0) {submap : ℕ} where
+    pub submap_in : submap < count → submap < length (mapping_in mappings mapping).submaps
+    submap_in h = let k = submap_count_is e in omega arith
 
-    pub submap_end : w ≤ submap → length (mapping_in mappings mapping).submaps ≤ submap
-    submap_end h = let k = submap_count_is e g in omega arith
+    pub submap_end : count ≤ submap → length (mapping_in mappings mapping).submaps ≤ submap
+    submap_end h = let k = submap_count_is e in omega arith
 
   module _ {live : List ℕ} (e : live ≡ live_bytes live_now) where
     pub live_readable : ResiduesReadable books lengths codewords residues plans mappings live channels mapping half
@@ -50,7 +52,7 @@ module _ (books lengths codewords residues plans mappings used : List ℕ) (chan
         let few = p.channels_few in
         rw e (ap (λ (n : ℕ). used_bools n (live_bytes live_now)) (sym l) ∙ used_bytes live_now (omega arith))
 
-    pub all_read : (packet : List ℕ) (at : ℕ) {entry : List ℕ} {c : ℕ} {r : ListRead} {exit : List ℕ}
+    pub all_read : (packet : List ℕ) (at : ℕ) {entry : List ℕ} {c : ℕ} {r : Result Progress Stop} {exit : List ℕ}
         → ReadIntoList (submaps_run books lengths residues plans half (mapping_in mappings mapping) (used_bools channels live) 0 (mapping_in mappings mapping).submaps packet at) entry c r exit
         → ReadIntoList (submaps_run books lengths residues plans half (mapping_in mappings mapping) live_now 0 (mapping_in mappings mapping).submaps packet at) entry c r exit
     all_read packet at {entry} {c} {r} {exit} w =

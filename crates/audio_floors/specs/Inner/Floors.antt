@@ -1,6 +1,6 @@
 -- The floors of an audio packet's channels as the program reads and draws them (01, "Audio order" 2 and 3): what has to be known of the tables, and what one
 -- channel and all of them come to.
-use Rattle.std.specs.Prelude.{ℕ, ◌+◌, ◌*◌, ◌≤◌, ◌<◌, Bool, true, false, List, map, ◌≡◌, length, get_or}
+use Rattle.std.specs.Prelude.{ℕ, ◌+◌, ◌*◌, ◌≤◌, ◌<◌, Bool, true, false, List, map, ◌≡◌, length, get_or, Result, Ok, Err}
 use Rattle.std.proofs.Math.Option.{Option, none, some}
 use Rattle.std.proofs.Math.Seq.{slice}
 use Rattle.std.proofs.lemmas.List.Edits.{sets}
@@ -21,7 +21,7 @@ use Rattle.floor_requests.specs.Requests.{FloorRead, unused, floor_requests}
 use Rattle.audio.specs.Channels.{floor_number, is_used}
 use Rattle.audio.specs.Packet.{by_channel}
 use Rattle.audio.specs.Curves.{curve_of, curves_of}
-use Rattle.audio_floors.specs.declared.channel.ChannelRead.{ChannelRead}
+use Rattle.audio_floors.specs.declared.channel.Cut.{Cut}
 use Rattle.audio_floors.specs.declared.FloorsRead.{FloorsRead}
 
 -- a run was ended by a cut
@@ -60,24 +60,40 @@ pub record FloorsReadable (channels mapping : ℕ) (mappings floors books length
   pub floor : (c : ℕ) → c < channels → FloorStored floors books lengths codewords (floor_number (mapping_in mappings mapping) c)
   pub x_list_there : (c : ℕ) → c < channels → XListStored floors (floor_number (mapping_in mappings mapping) c)
 
-abbrev pub channel_read : Cursor → Bool → ℕ → ChannelRead
-channel_read at cut used = record { at = at; cut = cut; used = used }
+-- what an answer says: where reading goes on, or the first bit of what is cut
+module _ {A : Type 0} where
+  abbrev pub has_cut : Result A Cut → Bool
+  has_cut (Ok a) = false
+  has_cut (Err z) = true
+
+abbrev pub floors_end : Result Cursor Cut → ℕ
+floors_end (Ok c) = position c
+floors_end (Err z) = position z.place
+
+abbrev pub channel_end : Result (Bool × Cursor) Cut → ℕ
+channel_end (Ok x) = position x.1
+channel_end (Err z) = position z.place
+
+-- a floor that is cut is not used
+abbrev pub channel_used : Result (Bool × Cursor) Cut → Bool
+channel_used (Ok x) = x.0
+channel_used (Err z) = false
 
 -- the run of a floor from bit k of packet s on
 abbrev pub floor_run : (ℕ → List ℕ) → Floor → List ℕ → ℕ → Run FloorRead
 floor_run lengths_of f s k = run (read lengths_of) (floor_requests f) s k
 
 -- ONE CHANNEL, whose floor is f: what was answered, and the bytes of its curve. A floor cut short gives zeros, as an unused one
-pub record ChannelIs (lengths_of : ℕ → List ℕ) (f : Floor) (s : List ℕ) (k half : ℕ) (r : ChannelRead) (bytes : List ℕ) : Type 0 where
-  pub position : position r.at ≡ (floor_run lengths_of f s k).position
-  pub cut : r.cut ≡ is_cut (floor_run lengths_of f s k).value
-  pub used : r.used ≡ one (is_used (or_unused (floor_run lengths_of f s k).value))
+pub record ChannelIs (lengths_of : ℕ → List ℕ) (f : Floor) (s : List ℕ) (k half : ℕ) (r : Result (Bool × Cursor) Cut) (bytes : List ℕ) : Type 0 where
+  pub position : channel_end r ≡ (floor_run lengths_of f s k).position
+  pub cut : has_cut r ≡ is_cut (floor_run lengths_of f s k).value
+  pub used : channel_used r ≡ is_used (or_unused (floor_run lengths_of f s k).value)
   pub curve : bytes ≡ curve_of half f (or_unused (floor_run lengths_of f s k).value)
 
 -- ALL CHANNELS, which have the floors fs: what was answered, and the lent bytes, `entry` before and `exit` after
 pub record FloorsAre (lengths_of : ℕ → List ℕ) (channels half : ℕ) (fs : List Floor) (s : List ℕ) (k : ℕ) (r : FloorsRead)
     (entry exit : List ℕ) : Type 0 where
-  pub position : position r.at ≡ (run (read lengths_of) (each floor_requests fs) s k).position
-  pub cut : r.cut ≡ is_cut (run (read lengths_of) (each floor_requests fs) s k).value
+  pub position : floors_end r.end ≡ (run (read lengths_of) (each floor_requests fs) s k).position
+  pub cut : has_cut r.end ≡ is_cut (run (read lengths_of) (each floor_requests fs) s k).value
   pub used : r.used ≡ pad 255 (map (λ f. one (is_used f)) (whole_values (read lengths_of) floor_requests fs s k))
   pub curves : exit ≡ sets entry 0 (curves_of half fs (by_channel channels (whole_values (read lengths_of) floor_requests fs s k)))

@@ -1,5 +1,4 @@
 -- `audio_residues::read_submaps` meets its contract, by RequestLaws and WholeLaws. Assumes nothing.
-use Prim.Native.Nat.{◌-◌}
 use Rattle.mapping_row.specs.Inner.Readable.{mapping_in}
 use Rattle.audio_channels.specs.Inner.Live.{used_bools}
 use Rattle.audio_residues.proofs.RequestLaws.{SubmapsRead}
@@ -7,7 +6,4 @@ use Rattle.audio_residues.proofs.read_submaps.Given as goal
 
 abbrev pub invariant-loop-submap : goal.invariant-loop-submap
 invariant-loop-submap l =
-    SubmapsRead l.books l.lengths l.residues l.plans l.half (mapping_in l.mappings l.mapping) (used_bools l.channels l.live) l.packet l.initial.out l.initial.next l.out l.next l.submap
-
-abbrev pub decreases-loop-submap : goal.decreases-loop-submap
-decreases-loop-submap l = l.count - l.submap
+    SubmapsRead l.tables.books.now l.tables.lengths.now l.tables.residues.now l.tables.plans.now l.half (mapping_in l.tables.mappings.now l.mapping) (used_bools l.channels l.live) l.packet l.initial.out l.initial.next l.out l.next l.submap
