@@ -54,7 +54,7 @@ pub fn write_row(
     numbers::write_pair(floors, at + CLASSES_PLACE, classes, list);
 }
 
-// The rest of a floor whose partitions and classes are read, and with it the row.
+// The rest of a floor whose partitions and classes are read, and with it the row. It takes both buffers whole beside their counts: the row has all their places.
 pub fn read_after_classes(
     packet: &[u8],
     from: Cursor,

@@ -1,5 +1,6 @@
 // How many classes and X values a floor has, counted along its partitions (004, "header decode", steps 5, 6 and 18 to 22). The reader counts them in its
-// buffers, the recogniser in the table.
+// buffers, the recogniser in the table. The partitions are no slice of `partition_count` numbers: a table that is not yet judged may count more than it has
+// places for, which read as 0.
 ghost use Rattle.std.specs.Prelude.{◌≡◌, ◌≤◌};
 ghost use Rattle.floor.specs.Inner.Counts.{classes_to, values_to};
 

@@ -10,10 +10,10 @@ use borrow.Author.Rules.{rules}
 use mathlib.Core.Bool.{Bool, true, false, not, ◌&&◌}
 use mathlib.Core.List.{List, [], ◌∷◌}
 use mathlib.Core.Path.{◌≡◌, refl, sym, ◌∙◌}
-use lib.ListN.{length, get_or, set, take, drop, drop_of_length-le, length-take, length-drop}
+use lib.ListN.{length, get_or, set, take, drop, drop_of_length-le, length-drop}
 use lib.Dec.{eqb}
 use lib.Pow.{pow_mono, shl_exact}
-use lib.Seq.{slice, drop-cons, take_all}
+use lib.Seq.{drop-cons, take_all}
 use Rattle.reading.specs.Reader.{mapped, into1}
 use Rattle.reading.specs.Inner.Table.{table, put_row}
 use Rattle.reading.specs.Lists.{listed, distinct}
@@ -40,13 +40,7 @@ module _ (w : ℕ) (s : List ℕ) (k : Cursor) {r : Result (ℕ × Cursor) Refus
 
 pub ruleset number_laws = (rules, number_cut, number_fits, number_read)
 
--- nothing is left of a part whose end is reached
-pub slice_none : (f t : ℕ) (l : List ℕ) → t ≤ f → slice f t l ≡ []
-slice_none f t l h =
-    let e = length-take t l in
-    let k : length (take t l) ≤ f = omega arith in
-    drop_of_length-le (take t l) k
-
+-- a test of equality, turned
 eqb_turned : (m n : ℕ) → eqb m n ≡ eqb n m
 eqb_turned m n = grind (arith, nat_tests)
 

@@ -31,7 +31,8 @@ pub fn read_number(
     Ok(next)
 }
 
-// `number_count` numbers of `width` bits, into the places from `at` on.
+// `number_count` numbers of `width` bits, into the places from `at` on. The buffer is no part of so many places: a number past its end is read and stored
+// nowhere, and a part would ask for that room.
 pub fn read_numbers(
     packet: &[u8],
     from: Cursor,
