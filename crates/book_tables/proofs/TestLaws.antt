@@ -2,9 +2,8 @@
 use Prim.Native.Nat.{ℕ, ◌+◌, ◌-◌, ◌*◌, ◌%◌, ◌^◌, ◌≤◌, ◌<◌}
 use native.Mathlib.Nat.{one-mul}
 use native.Mathlib.Omega.{arith}
-use borrow.Author.Rules.{rules}
 use borrow.Author.Tests.{lt-ltb, le-leb, leb-true, eq-eqb, eqb-true}
-use mathlib.Core.Bool.{Bool, true, false, ◌&&◌}
+use mathlib.Core.Bool.{Bool, true, ◌&&◌}
 use mathlib.Core.List.{List, [], ◌∷◌}
 use mathlib.Core.Logic.{◌↔◌}
 use mathlib.Core.Path.{◌≡◌, refl, sym, ap, ◌∙◌}
@@ -14,15 +13,14 @@ use lib.Pow.{shl_exact, pow_pos}
 use lib.Seq.{get_or-drop}
 use Rattle.std.specs.List.{list_all}
 use Rattle.reading.specs.Lists.{all}
-use Rattle.reading.proofs.Encodes.{iff_false}
 use Rattle.limits.specs.declared.Limits.{Limits}
 use Rattle.codeword_assignment.specs.Book.{Coded}
 use Rattle.book.specs.Layout.{book_width}
 use Rattle.book.specs.LookupReading.{value_count}
-use Rattle.book.specs.Carried.{NoLookup, SomeLookup}
+use Rattle.book.specs.Carried.{SomeLookup}
 use Rattle.book.proofs.RuleLaws.{rule6_met, rule14_met, some_dimensions, some_entries, few_entries}
 use Rattle.book_tables.specs.declared.row.Row.{Row}
-use Rattle.book_tables.specs.Inner.Rules.{row_of, row_book, head_book, HeadRules, PlaceRules, LookupRules}
+use Rattle.book_tables.specs.Inner.Rules.{row_of, row_book, head_book, HeadRules, PlaceRules}
 use Rattle.book_tables.proofs.Small.{all_each}
 
 -- a row's numbers
@@ -104,17 +102,6 @@ module _ (row : Row) where
           fit = zeros_fit row.count row.width;
         }),
   )
-
-  pub lookup_high : 2 < row.lookup → (false ≡ true) ↔ LookupRules row
-  lookup_high h = iff_false (λ r. let k = leb-true row.lookup 2 r.known in omega arith)
-
-  pub lookup_none : row.lookup ≡ 0 → {b : Bool} → (b ≡ true) ↔ NoLookup (row_book row) → (b ≡ true) ↔ LookupRules row
-  lookup_none e p = ((λ t. record { known = le-leb row.lookup 2 (omega arith); none = λ z. p.0 t; some = λ n. absurd (n e) }), (λ r. p.1 (r.none e)))
-
-  pub lookup_some : row.lookup ≤ 2 → (row.lookup ≡ 0 → ⊥) → {b : Bool} → (b ≡ true) ↔ SomeLookup (row_book row) → (b ≡ true) ↔ LookupRules row
-  lookup_some h n p = ((λ t. record { known = le-leb _ _ h; none = λ z. absurd (n z); some = λ m. p.0 t }), (λ r. p.1 (r.some n)))
-
-pub ruleset lookup_laws = (rules, lookup_high, lookup_none, lookup_some)
 
 -- a part of a table, as the code takes it
 part : (t : List ℕ) (first count : ℕ) → take (first + count - first) (drop first t) ≡ take count (drop first t)

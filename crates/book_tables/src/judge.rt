@@ -55,13 +55,11 @@ fn is_valued(row: Row) -> bool
 fn is_lookup(row: Row) -> bool
     ensures { (result ≡ true) ↔ LookupRules row }
 {
-    if 2 < row.lookup {
-        return false;
+    match row.lookup {
+        0 => has_no_lookup(row),
+        1 | 2 => is_valued(row),
+        _ => false,
     }
-    if row.lookup == 0 {
-        return has_no_lookup(row);
-    }
-    is_valued(row)
 }
 
 // The lengths from `first` on are accepted (01, refusals 7 and 8), and the words there are their codewords.
