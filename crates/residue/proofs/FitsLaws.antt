@@ -1,28 +1,18 @@
 -- Laws of rule 13 as the code asks them. Assumes nothing.
-use Prim.Native.Nat.{ℕ, ◌-◌, ◌%◌, ◌^◌, ◌≤◌, ◌<◌}
-use borrow.Author.Tests.{le-leb, lt-leb, eq-eqb, ne_eqb}
+use Prim.Native.Nat.{ℕ, ◌-◌, ◌%◌}
+use borrow.Author.Tests.{eq-eqb, ne_eqb}
 use mathlib.Core.Bool.{Bool, true, false, not, ◌&&◌}
 use mathlib.Core.List.{List, [], ◌∷◌}
 use mathlib.Core.Logic.{◌↔◌}
 use mathlib.Core.Path.{◌≡◌, refl, sym, ap, ◌∙◌}
-use lib.Dec.{eqb, leb}
+use lib.Dec.{eqb}
 use Rattle.std.specs.Bool.{IsTrue}
 use Rattle.std.specs.List.{list_all}
 use Rattle.reading.specs.Lists.{all, rows}
-use Rattle.book.specs.Layout.{dimensions_at, entries_at, lookup_at}
-use Rattle.residue.specs.Reading.{Head, place_fits}
+use Rattle.book.specs.Layout.{dimensions_at, lookup_at}
+use Rattle.residue.specs.Reading.{place_fits}
 use Rattle.residue.specs.Inner.FromTable.{books_of}
-use Rattle.residue.specs.Inner.Plans.{head_fits}
 use Rattle.residue.proofs.RowsLaws.{all_append}
-
--- the fields before the plan
-module _ (t : List ℕ) (h : Head) where
-  pub begin_above : h.end < h.begin → false ≡ head_fits (books_of 0 t) h
-  begin_above l = rw (lt-leb h.begin h.end l)
-
-  pub class_words_is : h.begin ≤ h.end → (d e : ℕ) → d ≡ dimensions_at t h.classbook → e ≡ entries_at t h.classbook
-      → (r : Bool) → r ≡ leb (h.classifications ^ d) e → r ≡ head_fits (books_of 0 t) h
-  class_words_is l d e p q r w = rw (le-leb h.begin h.end l, ← p, ← q) w
 
 -- a place
 module _ (t : List ℕ) (size b : ℕ) where

@@ -1,6 +1,5 @@
 -- Tables are the writing-out of residues that meet every rule exactly where the rows of each are, one after the other, and zeros stand behind them. Assumes nothing.
 use Prim.Native.Nat.{ℕ, suc, ◌+◌, ◌-◌, ◌*◌, ◌≤◌, ◌<◌}
-use native.Mathlib.Nat.{sub-zero}
 use native.Mathlib.Omega.{arith}
 use mathlib.Core.Bool.{Bool, true, false}
 use mathlib.Core.List.{List, [], ◌∷◌, ◌++◌}
@@ -115,9 +114,6 @@ pub record Recognising (books : Books) (n : ℕ) (residues plans : List ℕ) (i 
   pub left : Encoded books n residues plans ↔ Encoded books (n - i) (drop (6 * i) residues) (drop (plan_width * i) plans)
 
 module _ (books : Books) (n : ℕ) (residues plans : List ℕ) where
-  pub recognising_start : Recognising books n residues plans 0
-  recognising_start = record { within = omega arith; left = rw sub-zero ((λ s. s), (λ s. s)) }
-
   pub one_content : n ≤ 64 → OneContent books n residues plans
   one_content few =
       record {
