@@ -1,4 +1,5 @@
 -- The body of a packet by the tables, as the code asks it: floors, and then residues unless a floor was cut. Assumes nothing.
+use Rattle.std.specs.Prelude.{Result, Ok, Err}
 use Prim.Native.Nat.{ℕ, suc, ◌*◌, ◌≤◌}
 use native.Mathlib.Omega.{arith}
 use mathlib.Core.Bool.{Bool, true, false}
@@ -25,14 +26,17 @@ use Rattle.requests.proofs.Laws.{run_bind}
 use Rattle.requests.proofs.Values.{sequence}
 use Rattle.floor_requests.specs.Requests.{FloorRead, floor_requests}
 use Rattle.residue_requests.proofs.KindLaws.{both}
-use Rattle.codeword_list.specs.declared.ListRead.{ListRead}
-use Rattle.codeword_list.specs.declared.ListRead.TheVariants as L
+use Rattle.codeword_list.specs.declared.Progress.{Progress}
+use Rattle.codeword_list.specs.declared.Stop.{Stop}
+use Rattle.codeword_list.specs.declared.Stop.TheVariants.{Cut}
 use Rattle.codeword_list.specs.Inner.ListRead.{ending_of, ReadIntoList}
 use Rattle.audio.specs.Channels.{floor_number, floors_of, is_used, coupled}
 use Rattle.audio_channels.specs.Inner.Live.{used_bools}
 use Rattle.audio_channels.proofs.LiveLaws.{used_of}
+use Rattle.bits.specs.declared.Cursor.{Cursor}
+use Rattle.audio_floors.specs.declared.channel.Cut as F
 use Rattle.audio_floors.specs.declared.FloorsRead.{FloorsRead}
-use Rattle.audio_floors.specs.Inner.Floors.{is_cut, FloorsReadable, FloorsAre}
+use Rattle.audio_floors.specs.Inner.Floors.{is_cut, has_cut, floors_end, FloorsReadable, FloorsAre}
 use Rattle.audio_residues.specs.Inner.Reading.{submaps_run, ResiduesReadable}
 use Rattle.audio_body.specs.Inner.Body.{floors_in, residues_in, body_in, BodyIs, BodyReadable}
 use Rattle.audio_body.proofs.BodyWords.{Asks, all_ask}
@@ -76,7 +80,7 @@ module _ (books lengths floors residues plans mappings : List ℕ) (n channels h
 
   module _ {r : FloorsRead} {entry exit : List ℕ} (f : FloorsAre lens channels half fs s k r entry exit) (list : List ℕ) where
     -- a floor was cut
-    was_cut : r.cut ≡ true → floors_run.value ≡ none
+    was_cut : has_cut r.end ≡ true → floors_run.value ≡ none
     unfolding is_cut
     was_cut e = go floors_run.value refl (sym f.cut ∙ e)
       where
@@ -84,13 +88,14 @@ module _ (books lengths floors residues plans mappings : List ℕ) (n channels h
         go none q h = q
         go (some vs) q h = let z : ◌≡◌ {A = ℕ} 0 1 = cc in absurd (omega arith)
 
-    pub body_cut : r.cut ≡ true → BodyIs body_run fs whole channels half (record { used = r.used; words = L.Cut (record { at = r.at; count = 0 }) }) entry exit list list
+    pub body_cut : {z : F.Cut} → r.end ≡ Err z → BodyIs body_run fs whole channels half (record { used = r.used; words = Err (Cut (record { at = z.place; count = 0 })) }) entry exit list list
     unfolding body_in ending_of
-    body_cut e =
-        let v = was_cut e in
+    body_cut {z} e =
+        let v = was_cut (ap has_cut e) in
+        let p : position z.place ≡ floors_run.position = sym (ap floors_end e) ∙ f.position in
         record {
           used = f.used;
-          ending = rw f.position (sym (cut_ending lens s k fs rest asks v (length list)));
+          ending = rw p (sym (cut_ending lens s k fs rest asks v (length list)));
           curves = f.curves;
           words = cut_list lens s k fs rest asks v list;
         }
@@ -100,7 +105,7 @@ module _ (books lengths floors residues plans mappings : List ℕ) (n channels h
       pub read_floors : List FloorRead
       pub value : floors_run.value ≡ some read_floors
 
-    was_whole : r.cut ≡ false → AllWhole
+    was_whole : has_cut r.end ≡ false → AllWhole
     unfolding is_cut
     was_whole e = go floors_run.value refl (sym f.cut ∙ e)
       where
@@ -108,12 +113,13 @@ module _ (books lengths floors residues plans mappings : List ℕ) (n channels h
         go none q h = let z : ◌≡◌ {A = ℕ} 0 1 = cc in absurd (omega arith)
         go (some vs) q h = record { read_floors = vs; value = q }
 
-    pub body_whole : channels ≤ 255 → r.cut ≡ false → {x : ListRead} {list' : List ℕ}
-        → ReadIntoList (submaps_run books lengths residues plans half (mapping_in mappings n) (coupled (mapping_in mappings n).couplings (used_bools channels r.used)) 0 (mapping_in mappings n).submaps s (position r.at)) list 0 x list'
+    pub body_whole : channels ≤ 255 → {at : Cursor} → r.end ≡ Ok at → {x : Result Progress Stop} {list' : List ℕ}
+        → ReadIntoList (submaps_run books lengths residues plans half (mapping_in mappings n) (coupled (mapping_in mappings n).couplings (used_bools channels r.used)) 0 (mapping_in mappings n).submaps s (position at)) list 0 x list'
         → BodyIs body_run fs whole channels half (record { used = r.used; words = x }) entry exit list list'
     unfolding body_in used_bools floors_of residues_in
-    body_whole few e {x} {list'} g =
-        let w = was_whole e in
+    body_whole few {at} e {x} {list'} g =
+        let w = was_whole (ap has_cut e) in
+        let p : position at ≡ floors_run.position = sym (ap floors_end e) ∙ f.position in
         let same = (sequence lens floor_requests fs).whole s k w.read_floors w.value in
         let maps = length-map (tabulate (floor_number (mapping_in mappings n)) channels) (floor_in floors) in
         let long : length w.read_floors ≡ channels = all_long (read lens) s fs k w.read_floors w.value ∙ maps ∙ tabulate-length (floor_number (mapping_in mappings n)) channels in
@@ -121,7 +127,7 @@ module _ (books lengths floors residues plans mappings : List ℕ) (n channels h
         ap (used_bools channels) (f.used ∙ ap (λ (vs : List FloorRead). pad 255 (map (λ v. one (is_used v)) vs)) same)
         ∙ ap (λ (m : ℕ). used_bools m (pad 255 (map (λ v. one (is_used v)) w.read_floors))) (sym long)
         ∙ used_of is_used w.read_floors (omega arith) in
-        let read_all : ReadIntoList (run (read lens) (rest w.read_floors) s floors_run.position) list 0 x list' = go (used_bools channels r.used) (position r.at) w.read_floors used f.position g in
+        let read_all : ReadIntoList (run (read lens) (rest w.read_floors) s floors_run.position) list 0 x list' = go (used_bools channels r.used) (position at) w.read_floors used p g in
         record {
           used = f.used;
           ending = read_all.ending ∙ whole_ending lens s k fs rest asks w.value (length list);
@@ -136,11 +142,11 @@ module _ (books lengths floors residues plans mappings : List ℕ) (n channels h
             subst (λ (q : ℕ). ReadIntoList (run (read lens) (rest vs) s q) list 0 x list') b
             (subst (λ (m : List Bool). ReadIntoList (submaps_run books lengths residues plans half (mapping_in mappings n) (coupled (mapping_in mappings n).couplings m) 0 (mapping_in mappings n).submaps s p) list 0 x list') a y)
 
--- what the functions that are called ask for; `wide` is the same number in another width
+-- what the functions that are called ask for
 module _ {mappings floors residues plans books lengths codewords : List ℕ} {n channels half : ℕ} (b : BodyReadable mappings floors residues plans books lengths codewords n channels half) where
-  pub floors_asked : {wide room : ℕ} → wide ≡ half → channels * half ≤ room
-      → (channels ≤ 255) × (wide ≤ 4096) × (channels * wide ≤ room) × FloorsReadable channels n mappings floors books lengths codewords
-  floors_asked e h = let few = b.half_few in (b.channels_few, omega arith, rw e h, b.floors_readable)
+  pub floors_asked : {room : ℕ} → channels * half ≤ room
+      → (channels ≤ 255) × (half ≤ 4096) × (channels * half ≤ room) × FloorsReadable channels n mappings floors books lengths codewords
+  floors_asked h = (b.channels_few, b.half_few, h, b.floors_readable)
 
   pub residues_asked : {used : List ℕ} (l : List ℕ) → used ≡ pad 255 l → ResiduesReadable books lengths codewords residues plans mappings used channels n half
   residues_asked l e =
@@ -151,8 +157,3 @@ module _ {mappings floors residues plans books lengths codewords : List ℕ} {n 
         flags-length = ap length e ∙ length-pad 255 l;
         residue_is = b.residue_is;
       }
-
--- of floors that were read with half a block in another width
-pub floors_at : {lengths_of : ℕ → List ℕ} {channels wide half : ℕ} {fs : List Floor} {s : List ℕ} {k : ℕ} {r : FloorsRead} {entry exit : List ℕ} → wide ≡ half
-    → FloorsAre lengths_of channels wide fs s k r entry exit → FloorsAre lengths_of channels half fs s k r entry exit
-floors_at {lengths_of} {channels} {wide} {half} {fs} {s} {k} {r} {entry} {exit} e f = subst (λ (w : ℕ). FloorsAre lengths_of channels w fs s k r entry exit) e f

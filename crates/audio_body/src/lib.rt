@@ -9,15 +9,17 @@ ghost use Rattle.requests.specs.Values.{whole_values};
 ghost use Rattle.floor_requests.specs.Requests.{floor_requests};
 ghost use Rattle.audio_body.specs.Inner.Body.{floors_in, body_in, BodyReadable, BodyIs};
 
+use audio_floors::read_floors;
+use audio_residues::read_residues;
 use bits::Cursor;
-use codeword_list::{ListRead, Progress};
-use reading::widths::wide_u32;
+use codeword_list::{Progress, Stop};
+use setup::lent::LentTables;
 
 // Which floors are used, and how reading the codewords of the residues ended.
 #[derive(Clone, Copy)]
 pub struct BodyRead {
     pub used: [u8; 255],
-    pub words: ListRead,
+    pub words: Result<Progress, Stop>,
 }
 
 // The floors, drawn into the curves; then, unless a floor was cut, the residues, whose codewords go into the list.
@@ -27,55 +29,45 @@ pub fn read_body(
     channels: u32,
     mapping: usize,
     half: u32,
-    mappings: &[u8],
-    floors: &[u16],
-    residues: &[u32],
-    plans: &[u16],
-    books: &[u32],
-    lengths: &[u8],
-    codewords: &[u32],
+    tables: LentTables<'_>,
     curves: &mut [u8],
     words: &mut [u32],
 ) -> BodyRead
-    requires { BodyReadable mappings.now floors.now residues.now plans.now books.now lengths.now codewords.now mapping channels half
+    requires { BodyReadable tables.mappings.now tables.floors.now tables.residues.now tables.plans.now tables.books.now tables.lengths.now tables.codewords.now mapping channels half
         × (channels * half ≤ length curves.old) }
     ensures { BodyIs
-        (run (read (lengths_in books.now lengths.now))
-        (body_in books.now floors.now residues.now plans.now mappings.now mapping channels half)
+        (run (read (lengths_in tables.entry.books.now tables.entry.lengths.now))
+        (body_in tables.entry.books.now tables.entry.floors.now tables.entry.residues.now tables.entry.plans.now tables.entry.mappings.now mapping channels half)
         packet.now (position from))
-        (floors_in mappings.now floors.now mapping channels)
-        (whole_values (read (lengths_in books.now lengths.now)) floor_requests
-        (floors_in mappings.now floors.now mapping channels) packet.now (position from))
+        (floors_in tables.entry.mappings.now tables.entry.floors.now mapping channels)
+        (whole_values (read (lengths_in tables.entry.books.now tables.entry.lengths.now)) floor_requests
+        (floors_in tables.entry.mappings.now tables.entry.floors.now mapping channels) packet.now (position from))
         channels half result curves.old curves.new words.old words.new }
 {
-    let read = audio_floors::read_floors(
+    let floors = read_floors(
         packet,
         from,
         channels,
         mapping,
-        wide_u32(half),
-        mappings,
-        floors,
-        books,
-        lengths,
-        codewords,
+        half as usize,
+        tables,
         curves,
     );
-    let at = read.at;
-    let used = read.used;
-    if read.cut {
-        let progress = Progress { at, count: 0 };
-        return BodyRead {
+    let used = floors.used;
+    match floors.end {
+        Ok(at) => BodyRead {
             used,
-            words: ListRead::Cut(progress),
-        };
-    }
-    let read_words = audio_residues::read_residues(
-        packet, at, channels, &used, mapping, half, mappings, residues, plans, books, lengths,
-        codewords, words,
-    );
-    BodyRead {
-        used,
-        words: read_words,
+            words: read_residues(packet, at, channels, &used, mapping, half, tables, words),
+        },
+        Err(cut) => {
+            let none = Progress {
+                at: cut.place,
+                count: 0,
+            };
+            BodyRead {
+                used,
+                words: Err(Stop::Cut(none)),
+            }
+        }
     }
 }
