@@ -1,5 +1,5 @@
 // An audio packet: what the call for one is lent and answers. Definitions and laws; the crates audio_head, audio_floors, audio_residues, audio_tally and
-// audio_call have the functions.
+// audio_call have the functions. What is repr(C) here is C's as it stands (include/torchvalley.h): a refusal and whether a floor is used stay plain numbers.
 #![tactic(auto)]
 
 // How far a stream has come: the last accepted block size, 0 before the first, and the samples so far (01, "What the reader takes and gives").

@@ -10,7 +10,8 @@ ghost use Rattle.floor_points.specs.FinalY.{range_of, left, final_ys, Multiplies
 use heights::final_points;
 use reading::buffers::clear;
 
-// The range that goes with a multiplier (004, step 1); 0 where there is no such multiplier.
+// The range that goes with a multiplier (004, step 1); 0 where there is no such multiplier. Not an Option: a floor's multiplier always has a range, and who
+// reads one would unwrap it.
 pub fn range_of(multiplier: u8) -> u32
     ensures { (result ≡ range_of multiplier) × (result ≤ 256) }
 {
