@@ -1,4 +1,5 @@
 -- Laws of what is judged before the content, as the code asks them, and of the content behind it. Assumes nothing.
+use Rattle.std.specs.Prelude.{Result, Ok, Err}
 use Prim.Native.Nat.{ℕ, ◌≤◌}
 use native.Mathlib.Omega.{arith}
 use borrow.Author.Tests.{not-true, not-false}
@@ -9,9 +10,7 @@ use mathlib.Core.Path.{◌≡◌, refl, sym, ◌∙◌}
 use Rattle.reading.specs.Outcome.{refusal, bad, then, need}
 use Rattle.reading.proofs.Outcomes.{need-ok}
 use Rattle.bits.specs.declared.Cursor.{Cursor}
-use Rattle.bits.specs.declared.Refusal.{Refusal}
-use Rattle.bits.specs.declared.Step.{Step}
-use Rattle.bits.specs.declared.Step.TheVariants.{Next, Refused}
+use Rattle.bits.specs.declared.refusal.Refusal.{Refusal}
 use Rattle.bits.specs.Inner.Cursors.{position, stepped}
 use Rattle.bits.proofs.Steps.{next_is, stop_is}
 use Rattle.header.specs.Header.{common_header}
@@ -31,16 +30,16 @@ said_false {P} {x} false e f n = refl
 
 -- each way out of what is judged before the content
 module _ (limits : Limits) (i : Identity) (room : Bool) (s : List ℕ) {x : Bool} (sound : (x ≡ true) ↔ Sound limits.channels i) where
-  pub identity_unsound : (answer : Step) → not x ≡ true → stepped answer ≡ bad (refusal 18 0) → stepped answer ≡ begun limits i room s
+  pub identity_unsound : (answer : Result Cursor Refusal) → not x ≡ true → stepped answer ≡ bad (refusal 18 0) → stepped answer ≡ begun limits i room s
   unfolding begun
   identity_unsound answer n e = rw (e, said_false _ sound (sound_test_lem limits.channels i) n) refl
 
   module _ (y : not x ≡ false) where
-    pub no_room : (answer : Step) → not room ≡ true → stepped answer ≡ bad (refusal 17 0) → stepped answer ≡ begun limits i room s
+    pub no_room : (answer : Result Cursor Refusal) → not room ≡ true → stepped answer ≡ bad (refusal 17 0) → stepped answer ≡ begun limits i room s
     unfolding begun
     no_room answer n e = rw (e, (sound_test_lem limits.channels i).1 (sound.0 (not-false x y)), not-true room n) refl
 
-    pub header_judged : (answer : Step) → not room ≡ false → stepped answer ≡ common_header 5 s → stepped answer ≡ begun limits i room s
+    pub header_judged : (answer : Result Cursor Refusal) → not room ≡ false → stepped answer ≡ common_header 5 s → stepped answer ≡ begun limits i room s
     unfolding begun
     header_judged answer n e = rw ((sound_test_lem limits.channels i).1 (sound.0 (not-false x y)), not-false room n) e
 
@@ -55,14 +54,14 @@ checked_whole limits i s t = go (is_sound limits.channels i) (has_room limits t)
     go true false = refl
     go true true = refl
 
-module _ (limits : Limits) (i : Identity) (s : List ℕ) (t : Tables) {room : Bool} {st : Step} (e : room ≡ has_room limits t) (h : stepped st ≡ begun limits i room s) where
-  pub checked_refused : {z : Refusal} {L : Setup → Type 0} → st ≡ Refused z → ReadInto (checked_part limits i s t) (Refused z) L
+module _ (limits : Limits) (i : Identity) (s : List ℕ) (t : Tables) {room : Bool} {st : Result Cursor Refusal} (e : room ≡ has_room limits t) (h : stepped st ≡ begun limits i room s) where
+  pub checked_refused : {z : Refusal} {L : Setup → Type 0} → st ≡ Err z → ReadInto (checked_part limits i s t) (Err z) L
   checked_refused q = read_into_refused (rw (checked_whole limits i s t, ← e, stop_is h q) refl)
 
-  pub checked_read : {c : Cursor} {answer : Step} {L : Setup → Type 0} → st ≡ Next c → ReadInto (after_header limits i.channels s (position c)) answer L → ReadInto (checked_part limits i s t) answer L
+  pub checked_read : {c : Cursor} {answer : Result Cursor Refusal} {L : Setup → Type 0} → st ≡ Ok c → ReadInto (after_header limits i.channels s (position c)) answer L → ReadInto (checked_part limits i s t) answer L
   checked_read q l = rw (checked_whole limits i s t, ← e, next_is h q) l
 
-  pub content_ready : {c : Cursor} → Small limits → st ≡ Next c → (has_room limits t ≡ true) × Small limits × (1 ≤ i.channels) × (i.channels ≤ 255)
+  pub content_ready : {c : Cursor} → Small limits → st ≡ Ok c → (has_room limits t ≡ true) × Small limits × (1 ≤ i.channels) × (i.channels ≤ 255)
   unfolding begun
   content_ready {c} small q =
       let a = need-ok (is_sound limits.channels i) (refusal 18 0) (need room (refusal 17 0) (common_header 5 s)) (next_is h q) in

@@ -2,38 +2,42 @@
 ghost use Rattle.std.specs.Prelude.{◌≡◌};
 ghost use Rattle.reading.specs.Outcome.{refusal, bad};
 ghost use Rattle.bits.specs.Inner.Cursors.{stepped};
-ghost use Rattle.setup.specs.Handed.{handed, left_in};
+ghost use Rattle.bits.specs.Reasons.{number};
+ghost use Rattle.setup.specs.Handed.{held_mut, StaysLent};
 ghost use Rattle.setup.specs.Inner.Parts.{ReadInto, Small, WrittenOut, checked_part};
 ghost use Rattle.setup_call.specs.Inner.Begun.{begun};
+ghost use Rattle.setup_call.specs.Inner.Lengths.{SameLengths};
 
+use bits::Cursor;
 use bits::kind::PacketKind;
-use bits::{Cursor, Refusal, Step};
+use bits::refusal::{Reason, Refusal};
 use header::common_header;
 use identification::Identity;
 use identification::sound::is_sound;
 use limits::Limits;
+use setup::lent::LentTablesMut;
 use setup_buffers::have_room;
 use setup_content::read_content;
 
 // A refusal of an argument beside the packet, which no field has: its place is 0.
-fn refused_arguments(number: u8) -> Step
-    ensures { stepped result ≡ bad (refusal number 0) }
+fn refused_arguments(reason: Reason) -> Result<Cursor, Refusal>
+    ensures { stepped result ≡ bad (refusal (number reason) 0) }
 {
-    Step::Refused(Refusal {
-        number,
+    Err(Refusal {
+        reason,
         place: Cursor::start(),
     })
 }
 
 // What is judged before the content: the identity, the tables' room, and the packet's header.
-fn begin(packet: &[u8], identity: Identity, limits: Limits, room: bool) -> Step
+fn begin(packet: &[u8], identity: Identity, limits: Limits, room: bool) -> Result<Cursor, Refusal>
     ensures { stepped result ≡ begun limits identity room packet.now }
 {
     if !is_sound(identity, limits) {
-        return refused_arguments(18);
+        return refused_arguments(Reason::Unsound);
     }
     if !room {
-        return refused_arguments(17);
+        return refused_arguments(Reason::Room);
     }
     common_header(
         packet,
@@ -48,53 +52,29 @@ pub fn read_checked(
     packet: &[u8],
     identity: Identity,
     limits: Limits,
-    counts: &mut [u32],
-    books: &mut [u32],
-    lengths: &mut [u8],
-    codewords: &mut [u32],
-    multiplicands: &mut [u16],
-    floors: &mut [u16],
-    residues: &mut [u32],
-    plans: &mut [u16],
-    mappings: &mut [u8],
-    modes: &mut [u8],
-) -> Step
+    tables: &mut LentTablesMut<'_>,
+) -> Result<Cursor, Refusal>
     requires { Small limits }
-    ensures { ReadInto (checked_part limits identity packet.now
-        (handed counts books lengths codewords multiplicands floors residues plans mappings modes)) result
-        (WrittenOut (handed counts books lengths codewords multiplicands floors residues plans mappings modes)
-        (left_in counts books lengths codewords multiplicands floors residues plans mappings modes)) }
+    ensures read_into { ReadInto (checked_part limits identity packet.now (held_mut tables.old)) result (WrittenOut (held_mut tables.old) (held_mut tables.new)) }
+    ensures long { SameLengths (held_mut tables.new) (held_mut tables.old) }
+    ensures lent { StaysLent tables.old tables.new }
 {
-    let room = have_room(
+    let room = have_room(limits, tables.shared());
+    let from = begin(packet, identity, limits, room)?;
+    read_content(
+        packet,
+        from,
         limits,
-        counts,
-        books,
-        lengths,
-        codewords,
-        multiplicands,
-        floors,
-        residues,
-        plans,
-        mappings,
-        modes,
-    );
-    match begin(packet, identity, limits, room) {
-        Step::Refused(z) => Step::Refused(z),
-        Step::Next(from) => read_content(
-            packet,
-            from,
-            limits,
-            identity.channels,
-            counts,
-            books,
-            lengths,
-            codewords,
-            multiplicands,
-            floors,
-            residues,
-            plans,
-            mappings,
-            modes,
-        ),
-    }
+        identity.channels,
+        tables.counts,
+        tables.books,
+        tables.lengths,
+        tables.codewords,
+        tables.multiplicands,
+        tables.floors,
+        tables.residues,
+        tables.plans,
+        tables.mappings,
+        tables.modes,
+    )
 }
