@@ -7,8 +7,8 @@ pub returns-then-lengths-first : goal.returns-then-lengths-first
 returns-then-lengths-first c =
     let n = c.next_used-first.ensures in
     elim c.then-lengths-first.branch [
-      then-lengths-first-via-then-lengths-first w ↦ lone_none _ _ n w.if-lengths-first.true
-    | then-lengths-first-via-else-lengths-first+then-lengths-first-ne1 w ↦ lone_other _ _ n w.if-lengths-first.false w.if-lengths-first-ne1.true
+      | then-lengths-first-via-then-lengths-first w ↦ lone_none _ _ n w.if-lengths-first.true
+      | then-lengths-first-via-else-lengths-first+then-lengths-first-ne1 w ↦ lone_other _ _ n w.if-lengths-first.false w.if-lengths-first-ne1.true
     ]
 
 pub returns : goal.returns
