@@ -25,17 +25,17 @@ module _ (cs : List ℕ) (recognise : CountsRecognised cs) where
   pub few_books : {n : ℕ} → n ≡ get_or cs 0 0 → n ≤ 256
   few_books e = let h = recognise.books.high in omega arith
 
-  pub few_floors : {n m : ℕ} → n ≡ get_or cs 1 0 → m ≡ n → m ≤ 64
-  few_floors e f = let h = recognise.floors.high in omega arith
+  pub few_floors : {n : ℕ} → n ≡ get_or cs 1 0 → n ≤ 64
+  few_floors e = let h = recognise.floors.high in omega arith
 
   pub few_residues : {n : ℕ} → n ≡ get_or cs 2 0 → n ≤ 64
   few_residues e = let h = recognise.residues.high in omega arith
 
-  pub few_mappings : {n m : ℕ} → n ≡ get_or cs 3 0 → m ≡ n → m ≤ 64
-  few_mappings e f = let h = recognise.mappings.high in omega arith
+  pub few_mappings : {n : ℕ} → n ≡ get_or cs 3 0 → n ≤ 64
+  few_mappings e = let h = recognise.mappings.high in omega arith
 
-  pub few_modes : {n m : ℕ} → n ≡ get_or cs 4 0 → m ≡ n → m ≤ 64
-  few_modes e f = let h = recognise.modes.high in omega arith
+  pub few_modes : {n : ℕ} → n ≡ get_or cs 4 0 → n ≤ 64
+  few_modes e = let h = recognise.modes.high in omega arith
 
   pub books_countable : (limits : Limits) → Small limits → {n : ℕ} → n ≡ get_or cs 0 0 → Countable limits n
   books_countable limits small e = let h = recognise.books.high in record { few_books = omega arith; few_entries = small.few_entries; few_values = small.few_values }
@@ -45,21 +45,21 @@ module _ {r : Bool} where
   pub books_said : (limits : Limits) (bs ls ws vs : List ℕ) {k k' : ℕ} → k' ≡ k → (r ≡ true) ↔ BooksRecognised limits k' bs ls ws vs → (r ≡ true) ↔ BooksRecognised limits k bs ls ws vs
   books_said limits bs ls ws vs e p = rw e at p
 
-  pub floors_said : (fs : List ℕ) {k k' n n' m : ℕ} → k' ≡ k → n' ≡ n → m ≡ n' → (r ≡ true) ↔ FloorsRecognised k' m fs → (r ≡ true) ↔ FloorsRecognised k n fs
-  floors_said fs d e f p = rw (d, f, e) at p
+  pub floors_said : (fs : List ℕ) {k k' n n' : ℕ} → k' ≡ k → n' ≡ n → (r ≡ true) ↔ FloorsRecognised k' n' fs → (r ≡ true) ↔ FloorsRecognised k n fs
+  floors_said fs d e p = rw (d, e) at p
 
   pub residues_said : (d e l : ℕ → ℕ) (rs ps : List ℕ) {k k' n n' : ℕ} → k' ≡ k → n' ≡ n
       → (r ≡ true) ↔ ResiduesRecognised (record { count = k'; dimensions = d; entries = e; lookup = l }) n' rs ps
       → (r ≡ true) ↔ ResiduesRecognised (record { count = k; dimensions = d; entries = e; lookup = l }) n rs ps
   residues_said d e l rs ps f g p = rw (f, g) at p
 
-  pub mappings_said : (channels : ℕ) (ms : List ℕ) {f f' q q' n n' m : ℕ} → f' ≡ f → q' ≡ q → n' ≡ n → m ≡ n'
-      → (r ≡ true) ↔ MappingsRecognised (record { channels = channels; floors = f'; residues = q' }) m ms
+  pub mappings_said : (channels : ℕ) (ms : List ℕ) {f f' q q' n n' : ℕ} → f' ≡ f → q' ≡ q → n' ≡ n
+      → (r ≡ true) ↔ MappingsRecognised (record { channels = channels; floors = f'; residues = q' }) n' ms
       → (r ≡ true) ↔ MappingsRecognised (record { channels = channels; floors = f; residues = q }) n ms
-  mappings_said channels ms a b d e p = rw (a, b, e, d) at p
+  mappings_said channels ms a b d p = rw (a, b, d) at p
 
-  pub modes_said : (os : List ℕ) {k k' n n' m : ℕ} → k' ≡ k → n' ≡ n → m ≡ n' → (r ≡ true) ↔ ModesRecognised k' m os → (r ≡ true) ↔ ModesRecognised k n os
-  modes_said os d e f p = rw (d, f, e) at p
+  pub modes_said : (os : List ℕ) {k k' n n' : ℕ} → k' ≡ k → n' ≡ n → (r ≡ true) ↔ ModesRecognised k' n' os → (r ≡ true) ↔ ModesRecognised k n os
+  modes_said os d e p = rw (d, e) at p
 
 -- books and floors
 module _ (limits : Limits) (cs bs ls ws vs fs : List ℕ) {b₁ : Bool} (p₁ : (b₁ ≡ true) ↔ BooksRecognised limits (get_or cs 0 0) bs ls ws vs) where

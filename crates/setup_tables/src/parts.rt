@@ -12,14 +12,14 @@ ghost use Rattle.setup_tables.specs.Inner.Recognised.{CountsRecognised, FrontRec
 
 use limits::Limits;
 use mapping::Known;
-use reading::buffers::get_u32;
-use reading::widths::wide_u32;
+use reading::buffers::get;
+use setup::lent::LentTables;
 
 // Whether a count is one that a field less one carries, up to `most`.
 fn is_count(counts: &[u32], place: usize, most: u32) -> bool
     ensures { (result ≡ true) ↔ Counted most (get_or counts.now place 0) }
 {
-    let count = get_u32(counts, place);
+    let count = get(counts, place);
     if count < 1 {
         return false;
     }
@@ -48,106 +48,94 @@ pub fn are_counts(counts: &[u32]) -> bool
     if !is_count(counts, 4, 64) {
         return false;
     }
-    reading::zeros::zeros_u32(counts, 5)
+    reading::zeros::zeros(counts, 5)
 }
 
 // Each kind's tables with its count.
-fn are_books(
-    limits: Limits,
-    counts: &[u32],
-    books: &[u32],
-    lengths: &[u8],
-    codewords: &[u32],
-    multiplicands: &[u16],
-) -> bool
-    requires { Small limits × CountsRecognised counts.now }
-    ensures { (result ≡ true) ↔ BooksRecognised limits (get_or counts.now 0 0) books.now lengths.now
-        codewords.now multiplicands.now }
+fn are_books(limits: Limits, tables: LentTables<'_>) -> bool
+    requires { Small limits × CountsRecognised tables.counts.now }
+    ensures { (result ≡ true) ↔ BooksRecognised limits (get_or tables.entry.counts.now 0 0) tables.entry.books.now
+        tables.entry.lengths.now tables.entry.codewords.now tables.entry.multiplicands.now }
 {
     book_tables::recognise::are_books(
-        get_u32(counts, 0),
+        get(tables.counts, 0),
         limits,
-        books,
-        lengths,
-        codewords,
-        multiplicands,
+        tables.books,
+        tables.lengths,
+        tables.codewords,
+        tables.multiplicands,
     )
 }
 
-fn are_floors(counts: &[u32], floors: &[u16]) -> bool
-    requires { CountsRecognised counts.now }
-    ensures { (result ≡ true) ↔ FloorsRecognised (get_or counts.now 0 0) (get_or counts.now 1 0) floors.now }
+fn are_floors(tables: LentTables<'_>) -> bool
+    requires { CountsRecognised tables.counts.now }
+    ensures { (result ≡ true) ↔ FloorsRecognised (get_or tables.entry.counts.now 0 0) (get_or tables.entry.counts.now 1 0) tables.entry.floors.now }
 {
-    floor_tables::recognise::are_floors(floors, wide_u32(get_u32(counts, 1)), get_u32(counts, 0))
+    let book_count = get(tables.counts, 0);
+    let floor_count = get(tables.counts, 1) as usize;
+    floor_tables::recognise::are_floors(tables.floors, floor_count, book_count)
 }
 
-fn are_residues(counts: &[u32], books: &[u32], residues: &[u32], plans: &[u16]) -> bool
-    requires { CountsRecognised counts.now }
-    ensures { (result ≡ true) ↔ ResiduesRecognised (books_of (get_or counts.now 0 0) books.now)
-        (get_or counts.now 2 0) residues.now plans.now }
+fn are_residues(tables: LentTables<'_>) -> bool
+    requires { CountsRecognised tables.counts.now }
+    ensures { (result ≡ true) ↔ ResiduesRecognised (books_of (get_or tables.entry.counts.now 0 0) tables.entry.books.now)
+        (get_or tables.entry.counts.now 2 0) tables.entry.residues.now tables.entry.plans.now }
 {
-    let book_count = get_u32(counts, 0);
-    residue_tables::recognise::are_residues(residues, plans, get_u32(counts, 2), book_count, books)
+    let book_count = get(tables.counts, 0);
+    let residue_count = get(tables.counts, 2);
+    residue_tables::recognise::are_residues(
+        tables.residues,
+        tables.plans,
+        residue_count,
+        book_count,
+        tables.books,
+    )
 }
 
-fn are_mappings(channels: u32, counts: &[u32], mappings: &[u8]) -> bool
-    requires { CountsRecognised counts.now × (channels ≤ 255) }
-    ensures { (result ≡ true) ↔ MappingsRecognised (known_by channels counts.now) (get_or counts.now 3 0) mappings.now }
+fn are_mappings(channels: u32, tables: LentTables<'_>) -> bool
+    requires { CountsRecognised tables.counts.now × (channels ≤ 255) }
+    ensures { (result ≡ true) ↔ MappingsRecognised (known_by channels tables.entry.counts.now) (get_or tables.entry.counts.now 3 0) tables.entry.mappings.now }
 {
     let known = Known {
         channels,
-        floors: get_u32(counts, 1),
-        residues: get_u32(counts, 2),
+        floors: get(tables.counts, 1),
+        residues: get(tables.counts, 2),
     };
-    mapping_tables::recognise::are_mappings(mappings, wide_u32(get_u32(counts, 3)), known)
+    let mapping_count = get(tables.counts, 3) as usize;
+    mapping_tables::recognise::are_mappings(tables.mappings, mapping_count, known)
 }
 
-fn are_modes(counts: &[u32], modes: &[u8]) -> bool
-    requires { CountsRecognised counts.now }
-    ensures { (result ≡ true) ↔ ModesRecognised (get_or counts.now 3 0) (get_or counts.now 4 0) modes.now }
+fn are_modes(tables: LentTables<'_>) -> bool
+    requires { CountsRecognised tables.counts.now }
+    ensures { (result ≡ true) ↔ ModesRecognised (get_or tables.entry.counts.now 3 0) (get_or tables.entry.counts.now 4 0) tables.entry.modes.now }
 {
-    mode_tables::recognise::are_modes(modes, wide_u32(get_u32(counts, 4)), get_u32(counts, 3))
+    let mode_count = get(tables.counts, 4) as usize;
+    mode_tables::recognise::are_modes(tables.modes, mode_count, get(tables.counts, 3))
 }
 
 // Books and floors.
-pub fn are_front(
-    limits: Limits,
-    counts: &[u32],
-    books: &[u32],
-    lengths: &[u8],
-    codewords: &[u32],
-    multiplicands: &[u16],
-    floors: &[u16],
-) -> bool
-    requires { Small limits × CountsRecognised counts.now }
-    ensures { (result ≡ true) ↔ FrontRecognised limits counts.now books.now lengths.now
-        codewords.now multiplicands.now floors.now }
+pub fn are_front(limits: Limits, tables: LentTables<'_>) -> bool
+    requires { Small limits × CountsRecognised tables.counts.now }
+    ensures { (result ≡ true) ↔ FrontRecognised limits tables.entry.counts.now tables.entry.books.now tables.entry.lengths.now
+        tables.entry.codewords.now tables.entry.multiplicands.now tables.entry.floors.now }
 {
-    if !are_books(limits, counts, books, lengths, codewords, multiplicands) {
+    if !are_books(limits, tables) {
         return false;
     }
-    are_floors(counts, floors)
+    are_floors(tables)
 }
 
-// Residues, mappings and modes, where `books` is the table of books.
-pub fn are_back(
-    channels: u32,
-    counts: &[u32],
-    books: &[u32],
-    residues: &[u32],
-    plans: &[u16],
-    mappings: &[u8],
-    modes: &[u8],
-) -> bool
-    requires { CountsRecognised counts.now × (channels ≤ 255) }
-    ensures { (result ≡ true) ↔ BackRecognised channels counts.now books.now residues.now plans.now
-        mappings.now modes.now }
+// Residues, mappings and modes.
+pub fn are_back(channels: u32, tables: LentTables<'_>) -> bool
+    requires { CountsRecognised tables.counts.now × (channels ≤ 255) }
+    ensures { (result ≡ true) ↔ BackRecognised channels tables.entry.counts.now tables.entry.books.now tables.entry.residues.now
+        tables.entry.plans.now tables.entry.mappings.now tables.entry.modes.now }
 {
-    if !are_residues(counts, books, residues, plans) {
+    if !are_residues(tables) {
         return false;
     }
-    if !are_mappings(channels, counts, mappings) {
+    if !are_mappings(channels, tables) {
         return false;
     }
-    are_modes(counts, modes)
+    are_modes(tables)
 }

@@ -6,4 +6,4 @@ pub are_books-requires : goal.are_books-requires
 are_books-requires c = search books_countable
 
 pub returns : goal.returns
-returns c = books_said _ _ _ _ _ c.get_u32.ensures c.are_books.ensures.variant
+returns c = books_said _ _ _ _ _ c.get.ensures c.are_books.ensures.variant

@@ -23,4 +23,4 @@ pub returns : goal.returns
 returns c =
     counts_end _ c.is_count.ensures (ap not c.if-not-is_count.false) c.is_count-2.ensures (ap not c.if-not-is_count-2.false)
     c.is_count-3.ensures (ap not c.if-not-is_count-3.false) c.is_count-4.ensures (ap not c.if-not-is_count-4.false) c.is_count-5.ensures
-    (ap not c.if-not-is_count-5.false) c.zeros_u32.ensures
+    (ap not c.if-not-is_count-5.false) c.zeros.ensures

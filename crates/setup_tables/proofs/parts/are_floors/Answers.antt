@@ -6,4 +6,4 @@ pub are_floors-requires : goal.are_floors-requires
 are_floors-requires c = search (few_books, few_floors)
 
 pub returns : goal.returns
-returns c = floors_said _ c.get_u32-2.ensures c.get_u32.ensures c.wide_u32.ensures c.are_floors.ensures
+returns c = floors_said _ c.get-book_count.ensures c.get-floor_count.ensures c.are_floors.ensures

@@ -6,4 +6,4 @@ pub are_mappings-requires : goal.are_mappings-requires
 are_mappings-requires c = search few_mappings
 
 pub returns : goal.returns
-returns c = mappings_said _ _ c.get_u32.ensures c.get_u32-2.ensures c.get_u32-3.ensures c.wide_u32.ensures c.are_mappings.ensures
+returns c = mappings_said _ _ c.get.ensures c.get-2.ensures c.get-mapping_count.ensures c.are_mappings.ensures

@@ -6,4 +6,4 @@ pub are_modes-requires : goal.are_modes-requires
 are_modes-requires c = search few_modes
 
 pub returns : goal.returns
-returns c = modes_said _ c.get_u32-2.ensures c.get_u32.ensures c.wide_u32.ensures c.are_modes.ensures
+returns c = modes_said _ c.get.ensures c.get-mode_count.ensures c.are_modes.ensures

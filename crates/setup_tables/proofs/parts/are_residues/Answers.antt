@@ -6,4 +6,4 @@ pub are_residues-requires : goal.are_residues-requires
 are_residues-requires c = search few_residues
 
 pub returns : goal.returns
-returns c = residues_said _ _ _ _ _ c.get_u32-book_count.ensures c.get_u32.ensures c.are_residues.ensures.variant
+returns c = residues_said _ _ _ _ _ c.get-book_count.ensures c.get-residue_count.ensures c.are_residues.ensures.variant
