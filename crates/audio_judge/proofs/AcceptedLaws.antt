@@ -1,4 +1,5 @@
 -- A whole packet judged: 18 for the tally, the head, then what follows it. Assumes nothing.
+use Rattle.std.specs.Prelude.{Result, Err}
 use Prim.Native.Nat.{ℕ}
 use mathlib.Core.Bool.{Bool, true, false}
 use mathlib.Core.List.{List}
@@ -16,7 +17,10 @@ use Rattle.audio.specs.Call.{Room, Accepted, judged, accepted}
 use Rattle.audio.specs.Inner.Plain.{plain_at}
 use Rattle.audio.proofs.Plain.{audio_plain}
 use Rattle.audio_settle.specs.declared.Judged.{Judged}
-use Rattle.audio_settle.specs.Inner.Judged.{refused_by, JudgedIs}
+use Rattle.audio_settle.specs.declared.Rejected.{Rejected}
+use Rattle.bits.specs.declared.refusal.Reason.TheVariants as R
+use Rattle.bits.specs.Reasons.{number}
+use Rattle.audio_settle.specs.Inner.Judged.{JudgedIs}
 use Rattle.audio_judge.proofs.PacketLaws.{refused_is}
 
 module _ (i : Identity) (c : Setup) (t : Tally) (s : List ℕ) (entry list : List ℕ) where
@@ -24,12 +28,12 @@ module _ (i : Identity) (c : Setup) (t : Tally) (s : List ℕ) (entry list : Lis
   room = record { curves = length entry; codewords = length list }
 
   -- nothing was written
-  untouched : {z : Refusal} {r : Judged} → accepted i t room s c ≡ bad z → r ≡ refused_by false z.number → JudgedIs i.channels c (accepted i t room s c) r entry entry list list
-  untouched e a = refused_is i.channels c false entry entry list list e a refl refl (λ _. (refl, refl))
+  untouched : {z : Refusal} {x : Rejected} → accepted i t room s c ≡ bad z → number x.reason ≡ z.number → JudgedIs i.channels c (accepted i t room s c) (Err x) entry entry list list
+  untouched e a = refused_is i.channels c entry entry list list e a refl refl (λ _. (refl, refl))
 
-  pub tally_refused : {r : Judged} → tally_sound i t ≡ false → r ≡ refused_by false 18 → JudgedIs i.channels c (accepted i t room s c) r entry entry list list
+  pub tally_refused : tally_sound i t ≡ false → JudgedIs i.channels c (accepted i t room s c) (Err (record { reason = R.Unsound; written = false })) entry entry list list
   unfolding accepted
-  tally_refused e a = untouched (ap (λ (b : Bool). need b (refusal 18 0) (then (audio i c s) (λ x. judged i.channels t room x))) e) a
+  tally_refused e = untouched (ap (λ (b : Bool). need b (refusal 18 0) (then (audio i c s) (λ x. judged i.channels t room x))) e) refl
 
   module _ (sound : tally_sound i t ≡ true) where
     by_head : (o : Outcome (Head × ℕ)) → came_to (head_run i c s) ≡ o
@@ -40,10 +44,10 @@ module _ (i : Identity) (c : Setup) (t : Tally) (s : List ℕ) (entry list : Lis
         ∙ ap (λ (q : Outcome Audio). then q (λ x. judged i.channels t room x)) (audio_plain i c s)
         ∙ ap (λ (q : Outcome (Head × ℕ)). then (then q (λ h. ok (plain_at i.channels c s (head_run i c s).items h.0 h.1))) (λ x. judged i.channels t room x)) e
 
-    pub head_refused : {z : Refusal} {r : Judged} → came_to (head_run i c s) ≡ bad z → r ≡ refused_by false z.number → JudgedIs i.channels c (accepted i t room s c) r entry entry list list
+    pub head_refused : {z : Refusal} {x : Rejected} → came_to (head_run i c s) ≡ bad z → number x.reason ≡ z.number → JudgedIs i.channels c (accepted i t room s c) (Err x) entry entry list list
     head_refused {z} e a = untouched (by_head (bad z) e) a
 
-    pub head_read_lem : {h : Head} {k : ℕ} {r : Judged} {exit list' : List ℕ} → came_to (head_run i c s) ≡ ok (h, k)
+    pub head_read_lem : {h : Head} {k : ℕ} {r : Result Judged Rejected} {exit list' : List ℕ} → came_to (head_run i c s) ≡ ok (h, k)
         → JudgedIs i.channels c (judged i.channels t room (plain_at i.channels c s (head_run i c s).items h k)) r entry exit list list'
         → JudgedIs i.channels c (accepted i t room s c) r entry exit list list'
     head_read_lem {h} {k} {r} {exit} {list'} e j = subst (λ (o : Outcome Accepted). JudgedIs i.channels c o r entry exit list list') (sym (by_head (ok (h, k)) e)) j

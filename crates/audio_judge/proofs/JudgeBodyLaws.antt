@@ -1,9 +1,10 @@
 -- What follows a head that was read by tables that are ready, as the code asks it: one law for each way out. Assumes nothing.
+use Rattle.std.specs.Prelude.{Result, Ok, Err}
 use Prim.Native.Nat.{ℕ, ◌+◌, ◌*◌, ◌/◌, ◌≤◌, ◌<◌}
 use native.Mathlib.Omega.{arith}
 use mathlib.Core.Bool.{true, false}
 use mathlib.Core.List.{List}
-use mathlib.Core.Path.{◌≡◌, sym, subst, ◌∙◌}
+use mathlib.Core.Path.{◌≡◌, ap, sym, subst, ◌∙◌}
 use lib.ListN.{length, get_or}
 use Rattle.identification.specs.declared.Identity.{Identity}
 use Rattle.book_codeword.specs.Inner.Stored.{lengths_in}
@@ -14,7 +15,8 @@ use Rattle.setup.specs.Inner.Decode.{decode_setup}
 use Rattle.requests.specs.Run.{read, run}
 use Rattle.requests.specs.Values.{whole_values}
 use Rattle.floor_requests.specs.Requests.{floor_requests}
-use Rattle.codeword_list.specs.declared.ListRead.TheVariants as L
+use Rattle.codeword_list.specs.declared.Stop.{Stop}
+use Rattle.codeword_list.specs.declared.Stop.TheVariants.{Cut, Full}
 use Rattle.codeword_list.specs.declared.Progress.{Progress}
 use Rattle.audio.specs.declared.Head.{Head}
 use Rattle.audio.specs.declared.Tally.{Tally}
@@ -25,9 +27,11 @@ use Rattle.audio.specs.Call.{room_of}
 use Rattle.audio.specs.Inner.Plain.{plain_body}
 use Rattle.audio_body.specs.declared.BodyRead.{BodyRead}
 use Rattle.audio_settle.specs.declared.Judged.{Judged}
+use Rattle.audio_settle.specs.declared.Rejected.{Rejected}
+use Rattle.bits.specs.declared.refusal.Reason.TheVariants as R
 use Rattle.audio_judge.specs.Inner.Ready.{Ready}
 use Rattle.audio_body.specs.Inner.Body.{floors_in, body_in, BodyIs, BodyReadable}
-use Rattle.audio_settle.specs.Inner.Judged.{refused_by, finished_by, JudgedIs, after_head, HeadIs}
+use Rattle.audio_settle.specs.Inner.Judged.{numbered, was_written, finished_by, JudgedIs, after_head, HeadIs}
 use Rattle.audio_judge.proofs.ContentLaws.{body_readable, body_content}
 use Rattle.audio_judge.proofs.PacketLaws.{no_curves_is, full_is, whole_is, cut_is}
 use Rattle.audio_judge.proofs.ReadyLaws.{rows, channels_few, mode_set_up, mode_few, size_high, mapping_number}
@@ -55,8 +59,9 @@ module _ (i : Identity) (t : Tables) (x : Ready i t) (s : List ℕ) (h : Head) (
     )
 
   module _ (tally : Tally) (entry list : List ℕ) {bytes : ℕ} (size : bytes ≡ i.channels * (h.blocksize / 2)) where
-    pub judged_no_room : {r : Judged} → length entry < bytes → r ≡ refused_by false 17 → JudgedIs i.channels c (after_head i c tally s h k (room_of entry list)) r entry entry list list
-    judged_no_room few a = no_curves_is i c tally s h k entry list (omega arith) a
+    pub judged_no_room : length entry < bytes
+        → JudgedIs i.channels c (after_head i c tally s h k (room_of entry list)) (Err (record { reason = R.Room; written = false })) entry entry list list
+    judged_no_room few = no_curves_is i c tally s h k entry list (omega arith)
 
     module _ (fits : bytes ≤ length entry) {n : ℕ} (m : n ≡ get_or t.modes (mode_width * h.mode + 1) 0) where
       module _ {y : BodyRead} {exit list' : List ℕ} (b : BodyIs
@@ -77,13 +82,16 @@ module _ (i : Identity) (t : Tables) (x : Ready i t) (s : List ℕ) (h : Head) (
         room : i.channels * (h.blocksize / 2) ≤ length entry
         room = omega arith
 
-        pub judged_full : {r : Judged} → y.words ≡ L.Full → r ≡ refused_by true 17 → JudgedIs i.channels c (after_head i c tally s h k (room_of entry list)) r entry exit list list'
-        judged_full w a = full_is i c tally s h k entry list (size_high i t x s h k e) room own w a
+        pub judged_full : y.words ≡ Err Full
+            → JudgedIs i.channels c (after_head i c tally s h k (room_of entry list)) (Err (record { reason = R.Room; written = true })) entry exit list list'
+        judged_full w = full_is i c tally s h k entry list (size_high i t x s h k e) room own w
 
-        pub judged_whole : {r : Judged} {p : Progress} → y.words ≡ L.Whole p → ((stop : ℕ) → r ≡ finished_by (counted tally h.blocksize stop) h y.used p.count)
+        pub judged_whole : {r : Result Judged Rejected} {p : Progress} → y.words ≡ Ok p
+            → ((stop : ℕ) → numbered r ≡ finished_by (counted tally h.blocksize stop) h y.used p.count) × (was_written r ≡ true)
             → JudgedIs i.channels c (after_head i c tally s h k (room_of entry list)) r entry exit list list'
-        judged_whole w a = whole_is i c tally s h k entry list (size_high i t x s h k e) room own w a
+        judged_whole w a = whole_is i c tally s h k entry list (size_high i t x s h k e) room own w a.0 a.1
 
-        pub judged_cut : {r : Judged} {p : Progress} → y.words ≡ L.Cut p → ((stop : ℕ) → r ≡ finished_by (counted tally h.blocksize stop) h y.used p.count)
+        pub judged_cut : {r : Result Judged Rejected} {e : Stop} {p : Progress} → y.words ≡ Err e → e ≡ Cut p
+            → ((stop : ℕ) → numbered r ≡ finished_by (counted tally h.blocksize stop) h y.used p.count) × (was_written r ≡ true)
             → JudgedIs i.channels c (after_head i c tally s h k (room_of entry list)) r entry exit list list'
-        judged_cut w a = cut_is i c tally s h k entry list (size_high i t x s h k e) room own w a
+        judged_cut w g a = cut_is i c tally s h k entry list (size_high i t x s h k e) room own (w ∙ ap Err g) a.0 a.1

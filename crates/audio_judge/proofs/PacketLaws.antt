@@ -1,4 +1,5 @@
 -- A packet behind its head, judged: 17 for the curves, the body, 17 for the codewords, the tally's step. Assumes nothing.
+use Rattle.std.specs.Prelude.{Result, Ok, Err}
 use Prim.Native.Nat.{ℕ, suc, ◌+◌, ◌*◌, ◌/◌, ◌≤◌, ◌<◌}
 use native.Mathlib.Nat.{zero-mul, suc-mul}
 use native.Mathlib.Omega.{arith}
@@ -27,7 +28,7 @@ use Rattle.floor_requests.specs.Requests.{FloorRead, floor_requests}
 use Rattle.residue_requests.specs.Listed.{residue_words, listed}
 use Rattle.residue_requests.proofs.ListedLaws.{words_append}
 use Rattle.codeword_list.specs.Inner.ListRead.{all, cut, full, ending_of, ending_by}
-use Rattle.codeword_list.specs.declared.ListRead.TheVariants as L
+use Rattle.codeword_list.specs.declared.Stop.TheVariants.{Cut, Full}
 use Rattle.codeword_list.specs.declared.Progress.{Progress}
 use Rattle.audio.specs.declared.Head.{Head}
 use Rattle.audio.specs.declared.Tally.{Tally}
@@ -43,8 +44,11 @@ use Rattle.audio_floors.proofs.Agreement.{flags_agree, whole_few}
 use Rattle.audio_floors.proofs.FloorsLaws.{curve_long}
 use Rattle.audio_body.specs.declared.BodyRead.{BodyRead}
 use Rattle.audio_settle.specs.declared.Judged.{Judged}
+use Rattle.audio_settle.specs.declared.Rejected.{Rejected}
+use Rattle.bits.specs.declared.refusal.Reason.TheVariants as R
+use Rattle.bits.specs.Reasons as reasons
 use Rattle.audio_body.specs.Inner.Body.{ending_words, BodyIs}
-use Rattle.audio_settle.specs.Inner.Judged.{refused_by, accepted_by, finished_by, judgement, curves_by, JudgedIs}
+use Rattle.audio_settle.specs.Inner.Judged.{numbered, was_written, accepted_by, finished_by, judgement, curves_by, JudgedIs}
 use Rattle.audio_body.proofs.BodyWords.{Asks, asks_bind, asks_done, asks_if, asks_request, run_kept}
 
 -- no field of the head is a codeword
@@ -104,20 +108,22 @@ bad-ok : {A : Type 0} {z : Refusal} {a : A} → bad z ≡ ok a → ⊥
 bad-ok e = let z : ◌≡◌ {A = ℕ} 0 1 = cc in omega arith
 
 -- a refusal: what is known of the outputs, whose lengths are the same, and which are the same where nothing was written
-pub refused_is : (channels : ℕ) (c : Setup) {o : Outcome Accepted} {z : Refusal} (w : Bool) {r : Judged} (entry exit list list' : List ℕ) → o ≡ bad z → r ≡ refused_by w z.number
-    → length exit ≡ length entry → length list' ≡ length list → (w ≡ false → (exit ≡ entry) × (list' ≡ list)) → JudgedIs channels c o r entry exit list list'
-refused_is channels c w {r} entry exit list list' e a l m same =
-    let known : r.written ≡ w = ap (λ (q : Judged). q.written) a in
+pub refused_is : (channels : ℕ) (c : Setup) {o : Outcome Accepted} {z : Refusal} {x : Rejected} (entry exit list list' : List ℕ) → o ≡ bad z → reasons.number x.reason ≡ z.number
+    → length exit ≡ length entry → length list' ≡ length list → (x.written ≡ false → (exit ≡ entry) × (list' ≡ list)) → JudgedIs channels c o (Err x) entry exit list list'
+refused_is channels c entry exit list list' e a l m same =
     record {
-      answer = a ∙ (λ j. judgement (sym known j) (sym e j));
-      size = rw a (omega arith);
+      answer = rw e (ap Err a);
+      size = tt;
       curves_long = l;
       words_long = m;
-      curves = λ x g. absurd (bad-ok (sym e ∙ g));
-      bytes = λ x g. absurd (bad-ok (sym e ∙ g));
-      words = λ x g. absurd (bad-ok (sym e ∙ g));
-      unwritten = λ g. same (sym known ∙ g);
+      curves = λ y g. absurd (bad-ok (sym e ∙ g));
+      bytes = λ y g. absurd (bad-ok (sym e ∙ g));
+      words = λ y g. absurd (bad-ok (sym e ∙ g));
+      unwritten = same;
     }
+
+ok-err : {A E : Type 0} {a : A} {b : E} → ◌≡◌ {A = Result A E} (Ok a) (Err b) → ⊥
+ok-err e = cc
 
 true-false : true ≡ false → ⊥
 true-false e = let z : ◌≡◌ {A = ℕ} 0 1 = cc in omega arith
@@ -196,8 +202,8 @@ module _ (i : Identity) (c : Setup) (t : Tally) (s : List ℕ) (h : Head) (k : �
       all_words : leb (length (residue_words body.items)) (length list) ≡ true → outcome ≡ stepped
       all_words e = by_room ∙ ap (λ (b : Bool). need b (refusal 17 0) stepped) e
 
-    pub no_curves_is : {r : Judged} → length entry < i.channels * (h.blocksize / 2) → r ≡ refused_by false 17 → JudgedIs i.channels c outcome r entry entry list list
-    no_curves_is few a = refused_is i.channels c false entry entry list list (no_curves few) a refl refl (λ _. (refl, refl))
+    pub no_curves_is : length entry < i.channels * (h.blocksize / 2) → JudgedIs i.channels c outcome (Err (record { reason = R.Room; written = false })) entry entry list list
+    no_curves_is few = refused_is i.channels c entry entry list list (no_curves few) refl refl refl (λ _. (refl, refl))
 
     module _ (high : h.blocksize ≤ 8192) (fits : i.channels * (h.blocksize / 2) ≤ length entry) {exit list' : List ℕ} {x : BodyRead}
         (b : BodyIs body (channel_floors i.channels c h) floors i.channels (h.blocksize / 2) x entry exit list list') where
@@ -208,18 +214,18 @@ module _ (i : Identity) (c : Setup) (t : Tally) (s : List ℕ) (h : Head) (k : �
       words_long = ap length b.words ∙ length-sets list 0 (map listed (residue_words body.items))
 
       -- a refusal behind the body settles nothing of the outputs but their lengths
-      after_body_is : {z : Refusal} {r : Judged} → outcome ≡ bad z → r ≡ refused_by true z.number → JudgedIs i.channels c outcome r entry exit list list'
-      after_body_is e a = refused_is i.channels c true entry exit list list' e a curves_long words_long (λ g. absurd (true-false g))
+      after_body_is : {z : Refusal} {y : Rejected} → outcome ≡ bad z → reasons.number y.reason ≡ z.number → y.written ≡ true → JudgedIs i.channels c outcome (Err y) entry exit list list'
+      after_body_is e a b = refused_is i.channels c entry exit list list' e a curves_long words_long (λ g. absurd (true-false (sym b ∙ g)))
 
-      pub full_is : {r : Judged} → x.words ≡ L.Full → r ≡ refused_by true 17 → JudgedIs i.channels c outcome r entry exit list list'
+      pub full_is : x.words ≡ Err Full → JudgedIs i.channels c outcome (Err (record { reason = R.Room; written = true })) entry exit list list'
       unfolding ending_of
-      full_is e a = after_body_is (no_words fits (full_fits_not (length list) body (ap ending_of (sym e) ∙ b.ending))) a
+      full_is e = after_body_is (no_words fits (full_fits_not (length list) body (ap ending_of (sym e) ∙ b.ending))) refl refl
 
       -- so many codewords, all of which have room
-      read_is : {r : Judged} {n : ℕ} → (leb (length (residue_words body.items)) (length list) ≡ true) × (n ≡ length (residue_words body.items))
-          → ((stop : ℕ) → r ≡ finished_by (counted t h.blocksize stop) h x.used n) → JudgedIs i.channels c outcome r entry exit list list'
+      read_is : {r : Result Judged Rejected} {n : ℕ} → (leb (length (residue_words body.items)) (length list) ≡ true) × (n ≡ length (residue_words body.items))
+          → ((stop : ℕ) → numbered r ≡ finished_by (counted t h.blocksize stop) h x.used n) → was_written r ≡ true → JudgedIs i.channels c outcome r entry exit list list'
       unfolding plain_at
-      read_is {r} {n} f a = go (counted t h.blocksize body.position) (all_words fits f.0) (a body.position)
+      read_is {r} {n} f a written = go r (counted t h.blocksize body.position) (all_words fits f.0) (a body.position) written
         where
           used_are : x.used ≡ pad 255 (map (λ g. one (is_used g)) (by_channel i.channels floors))
           used_are = b.used ∙ sym (flags_agree 255 i.channels floors few_floors)
@@ -227,27 +233,30 @@ module _ (i : Identity) (c : Setup) (t : Tally) (s : List ℕ) (h : Head) (k : �
           same : (y : Accepted) → whole ≡ y.packet → curves_of (h.blocksize / 2) (channel_floors i.channels c h) (by_channel i.channels floors) ≡ curves_by i.channels c y
           same y e = ap (λ (q : Audio). curves_of (q.head.blocksize / 2) (channel_floors i.channels c q.head) q.floors) e
 
-          go : (o : Outcome (Tally × ℕ)) → outcome ≡ then o (λ y. ok (record { packet = whole; tally = y.0; samples = y.1 })) → r ≡ finished_by o h x.used n
-              → JudgedIs i.channels c outcome r entry exit list list'
-          go (bad z) e d = after_body_is e d
-          go (ok y) e d =
+          go : (r : Result Judged Rejected) (o : Outcome (Tally × ℕ)) → outcome ≡ then o (λ y. ok (record { packet = whole; tally = y.0; samples = y.1 }))
+              → numbered r ≡ finished_by o h x.used n → was_written r ≡ true → JudgedIs i.channels c outcome r entry exit list list'
+          go (Err y) (bad z) e d g = after_body_is e (cc) g
+          go (Ok y) (bad z) e d g = absurd (ok-err d)
+          go (Err y) (ok z) e d g = absurd (ok-err (sym d))
+          go (Ok z) (ok y) e d g =
+              let is : z ≡ accepted_by h x.used n y.1 y.0 = cc in
               record {
-                answer = d ∙ (λ j. accepted_by h (used_are j) ((f.1 ∙ ap length (sym packet_words)) j) y.1 y.0) ∙ ap (judgement r.written) (sym e);
-                size = rw d high;
+                answer = d ∙ (λ j. Ok (accepted_by h (used_are j) ((f.1 ∙ ap length (sym packet_words)) j) y.1 y.0)) ∙ ap judgement (sym e);
+                size = rw is high;
                 curves_long = curves_long;
                 words_long = words_long;
                 curves = λ v g. b.curves ∙ ap (sets entry 0) (same v (ap (λ (q : Accepted). q.packet) (ok_is (sym e ∙ g))));
                 bytes = λ v g. ap (λ (q : Audio). length (curves_of (q.head.blocksize / 2) (channel_floors i.channels c q.head) q.floors)) (sym (ap (λ (q : Accepted). q.packet) (ok_is (sym e ∙ g)))) ∙ whole_bytes ∙ ap (λ (q : Accepted). i.channels * (q.packet.head.blocksize / 2)) (ok_is (sym e ∙ g));
                 words = λ v g. b.words ∙ ap (λ (l : List Item). sets list 0 (map listed l)) (sym packet_words ∙ ap (λ (q : Accepted). residue_words q.packet.items) (ok_is (sym e ∙ g)));
-                unwritten = λ g. absurd (true-false (sym (ap (λ (q : Judged). q.written) d) ∙ g));
+                unwritten = λ g. absurd (true-false g);
               }
 
-      pub whole_is : {r : Judged} {p : Progress} → x.words ≡ L.Whole p → ((stop : ℕ) → r ≡ finished_by (counted t h.blocksize stop) h x.used p.count)
-          → JudgedIs i.channels c outcome r entry exit list list'
+      pub whole_is : {r : Result Judged Rejected} {p : Progress} → x.words ≡ Ok p → ((stop : ℕ) → numbered r ≡ finished_by (counted t h.blocksize stop) h x.used p.count)
+          → was_written r ≡ true → JudgedIs i.channels c outcome r entry exit list list'
       unfolding ending_of
       whole_is {r} {p} e a = read_is (whole_fits (length list) body (ap ending_of (sym e) ∙ b.ending)) a
 
-      pub cut_is : {r : Judged} {p : Progress} → x.words ≡ L.Cut p → ((stop : ℕ) → r ≡ finished_by (counted t h.blocksize stop) h x.used p.count)
-          → JudgedIs i.channels c outcome r entry exit list list'
+      pub cut_is : {r : Result Judged Rejected} {p : Progress} → x.words ≡ Err (Cut p) → ((stop : ℕ) → numbered r ≡ finished_by (counted t h.blocksize stop) h x.used p.count)
+          → was_written r ≡ true → JudgedIs i.channels c outcome r entry exit list list'
       unfolding ending_of
       cut_is {r} {p} e a = read_is (cut_fits (length list) body (ap ending_of (sym e) ∙ b.ending)) a

@@ -2,40 +2,26 @@
 use mathlib.Core.Bool.{not}
 use mathlib.Core.Path.{ap}
 use Rattle.audio_judge.proofs.JudgeWholeLaws.{modes_asked, judged_unsound, judged_head_refused, head_asked, judged_head_read}
-use borrow.Author.Rules.{rules}
 use Rattle.audio_judge.proofs.judge.Goals as goal
 
 pub returns-then-not-is_sound : goal.returns-then-not-is_sound
 returns-then-not-is_sound c =
-    judged_unsound _ _ c.requires _ _ _ _ c.is_sound.ensures (ap not c.if-not-is_sound.true) c.refused.ensures
+    judged_unsound _ _ c.requires _ _ _ _ c.is_sound.ensures (ap not c.if-not-is_sound.true)
 
 pub read_head-requires : goal.read_head-requires
-read_head-requires c =
-    modes_asked _ _ c.requires c.get_u32-mode_count.ensures
+read_head-requires c = modes_asked _ _ c.requires c.get-mode_count.ensures
 
 pub judge_body-requires : goal.judge_body-requires
 judge_body-requires c =
-    (c.requires, head_asked _ _ c.requires c.args.packet.now c.get_u32-mode_count.ensures _ c.read_head.ensures (search rules))
+    (c.requires, head_asked _ _ c.requires c.args.packet.now c.get-mode_count.ensures _ c.read_head.ensures c.in-Ok.is)
 
-pub returns-in-Refused : goal.returns-in-Refused
-returns-in-Refused c =
-    search (
-      rules,
-      judged_head_refused _ _
-          c.requires
-          c.args.packet.now
-          c.get_u32-mode_count.ensures _
-          c.read_head.ensures
-          c.args.tally
-          c.args.curves.now
-          c.args.words.now
-          c.is_sound.ensures
-          (ap not c.if-not-is_sound.false),
-    )
+pub returns-in-Err : goal.returns-in-Err
+returns-in-Err c =
+    judged_head_refused _ _ c.requires c.args.packet.now c.get-mode_count.ensures _ c.read_head.ensures
+    c.args.tally c.args.curves.now c.args.words.now c.is_sound.ensures (ap not c.if-not-is_sound.false) c.in-Err.is
 
-pub returns-in-Value : goal.returns-in-Value
-returns-in-Value c =
-    (judged_head_read _ _ c.requires c.args.packet.now c.get_u32-mode_count.ensures _ c.read_head.ensures
-    c.args.tally c.args.curves.now c.args.words.now c.is_sound.ensures (ap not c.if-not-is_sound.false))
-    (search rules)
+pub returns-in-Ok : goal.returns-in-Ok
+returns-in-Ok c =
+    judged_head_read _ _ c.requires c.args.packet.now c.get-mode_count.ensures _ c.read_head.ensures
+    c.args.tally c.args.curves.now c.args.words.now c.is_sound.ensures (ap not c.if-not-is_sound.false) c.in-Ok.is
     c.judge_body.ensures

@@ -1,10 +1,9 @@
 -- Identity and tables that an accepted setup left, or that the recogniser took: what the inner call asks for (01: a later call accepts tables exactly when they
 -- are the writing-out of some content that meets every rule).
-use Rattle.std.specs.Prelude.{ℕ, ◌≤◌, true, List, ◌≡◌}
-use Rattle.std.specs.Borrow.{Bor, MutBor}
+use Rattle.std.specs.Prelude.{◌≤◌, true, ◌≡◌}
 use Rattle.limits.specs.declared.Limits.{Limits}
 use Rattle.identification.specs.declared.Identity.{Identity}
-use Rattle.setup.specs.Layout.{Tables, tables}
+use Rattle.setup.specs.Layout.{Tables}
 use Rattle.setup.specs.SoundTest.{sound_test}
 use Rattle.setup.specs.Inner.Parts.{Small}
 
@@ -14,13 +13,3 @@ pub record Ready (i : Identity) (t : Tables) : Type 0 where
   pub sound : sound_test limits i t ≡ true
   pub small : Small limits
   pub few_entries : limits.book_entries ≤ 65536
-
--- the ten tables as a condition names them
-abbrev pub lent_tables : Bor (List ℕ) → Bor (List ℕ) → Bor (List ℕ) → Bor (List ℕ) → Bor (List ℕ) → Bor (List ℕ) → Bor (List ℕ) → Bor (List ℕ) → Bor (List ℕ) → Bor (List ℕ) → Tables
-lent_tables counts books lengths codewords multiplicands floors residues plans mappings modes =
-    tables counts.now books.now lengths.now codewords.now multiplicands.now floors.now residues.now plans.now mappings.now modes.now
-
--- the same of tables that are lent to be written
-abbrev pub writable_tables : MutBor (List ℕ) → MutBor (List ℕ) → MutBor (List ℕ) → MutBor (List ℕ) → MutBor (List ℕ) → MutBor (List ℕ) → MutBor (List ℕ) → MutBor (List ℕ) → MutBor (List ℕ) → MutBor (List ℕ) → Tables
-writable_tables counts books lengths codewords multiplicands floors residues plans mappings modes =
-    tables counts.now books.now lengths.now codewords.now multiplicands.now floors.now residues.now plans.now mappings.now modes.now
