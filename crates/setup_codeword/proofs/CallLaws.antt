@@ -1,4 +1,5 @@
 -- Laws of the call for one codeword, as the code asks them: one for each of its answers. Assumes nothing.
+use Rattle.std.specs.Prelude.{Err}
 use Prim.Native.Nat.{ℕ, ◌*◌, ◌≤◌, ◌<◌}
 use native.Mathlib.Omega.{arith}
 use borrow.Author.Tests.{not-true, not-false, ltb-true}
@@ -13,8 +14,9 @@ use Rattle.reading.proofs.Least.{true_not_false}
 use Rattle.reading.proofs.Outcomes.{need-ok}
 use Rattle.reading.proofs.Encodes.{iff_false}
 use Rattle.bits.specs.declared.Cursor.{Cursor}
-use Rattle.bits.specs.declared.Field.TheVariants.{Refused}
 use Rattle.bits.specs.Inner.Cursors.{position, outcome}
+use Rattle.bits.specs.Reasons.{number}
+use Rattle.bits.specs.declared.refusal.Reason.{Reason}
 use Rattle.limits.specs.declared.Limits.{Limits}
 use Rattle.identification.specs.declared.Identity.{Identity}
 use Rattle.identification.specs.Sound as I
@@ -36,9 +38,9 @@ use Rattle.setup_codeword.specs.Call.{codeword_of, codeword_call}
 use Rattle.setup_codeword.specs.Demand3.{Demand3}
 use Rattle.setup_codeword.proofs.DecodesLaws.{demand3}
 
-pub refused_is : (number : ℕ) (place : Cursor) → position place ≡ 0 → outcome (Refused (record { number = number; place = place })) ≡ bad (refusal number 0)
+pub refused_is : (reason : Reason) (place : Cursor) → position place ≡ 0 → outcome {A = ℕ} (Err (record { reason = reason; place = place })) ≡ bad (refusal (number reason) 0)
 unfolding outcome
-refused_is number place e = rw e refl
+refused_is reason place e = rw e refl
 
 -- so many channels as the test of the tables takes
 pub few_channels : {limits : Limits} {i : Identity} {a : Bool} → (a ≡ true) ↔ I.Sound limits.channels i → Small limits → not a ≡ false → i.channels ≤ 255

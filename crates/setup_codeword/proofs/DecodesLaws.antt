@@ -8,8 +8,7 @@ use lib.ListN.{length, get_or}
 use Rattle.reading.specs.Outcome.{ok}
 use Rattle.limits.specs.declared.Limits.{Limits}
 use Rattle.identification.specs.declared.Identity.{Identity}
-use Rattle.codeword_assignment.specs.Book.{used, ledger_codewords, verdict, Begins}
-use Rattle.codeword_assignment.specs.declared.book.Assigned.TheVariants.{Accepted}
+use Rattle.codeword_assignment.specs.Book.{used, ledger_codewords, verdict, Accepted, Begins}
 use Rattle.codespace.proofs.Claimed.{balanced}
 use Rattle.codeword_assignment.proofs.Laws.{exactly_one_entry}
 use Rattle.codeword.specs.Codeword.{codeword}

@@ -8,8 +8,7 @@ use mathlib.Core.Option.{Option, none, some}
 use mathlib.Core.Path.{◌≡◌, refl, ap}
 use Rattle.codespace.specs.Ledger.{answer, answers, after, free_strings}
 use Rattle.codespace.specs.Claims.{accepted, accepted_share}
-use Rattle.codeword_assignment.specs.Book.{used, is_lone, free_after, verdict, refusal}
-use Rattle.codeword_assignment.specs.declared.book.Assigned.TheVariants.{Accepted}
+use Rattle.codeword_assignment.specs.Book.{used, is_lone, free_after, verdict, Accepted, refusal}
 use Rattle.codespace.proofs.Whole.{balance}
 use Rattle.setup_judged.specs.Judged.{LedgerTakes}
 use Rattle.setup_judged.proofs.JudgedLaws.{number_0}

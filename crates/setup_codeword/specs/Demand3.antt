@@ -2,13 +2,12 @@
 -- The ledger and its claim over a whole list of lengths, `Balanced`: crates/codespace/specs/Ledger.antt and Claims.antt. Entering, the program's
 -- call for one length, answers as the ledger does: crates/codespace/src/space.rt.
 use Rattle.std.specs.Prelude.{ℕ, ◌+◌, ◌*◌, ◌≤◌, ◌<◌, true, List, [], ◌≡◌, length, get_or}
-use Rattle.reading.specs.Outcome.{refusal, Outcome, ok, bad}
+use Rattle.reading.specs.Outcome.{refusal, ok, bad}
 use Rattle.limits.specs.declared.Limits.{Limits}
 use Rattle.identification.specs.declared.Identity.{Identity}
 use Rattle.codespace.specs.Ledger.{answers}
 use Rattle.codespace.specs.Claims.{Balanced}
-use Rattle.codeword_assignment.specs.Book.{used, is_lone, first_used, free_after, ledger_codewords, verdict, Begins}
-use Rattle.codeword_assignment.specs.declared.book.Assigned.TheVariants.{Accepted}
+use Rattle.codeword_assignment.specs.Book.{used, is_lone, first_used, free_after, ledger_codewords, verdict, Accepted, Begins}
 use Rattle.codeword.specs.Codeword.{bits_at}
 use Rattle.setup.specs.Content.{Setup, lengths_of}
 use Rattle.setup.specs.Layout.{Tables}

@@ -3,4 +3,4 @@ use Rattle.setup_codeword.proofs.CallLaws.{counted}
 use Rattle.setup_codeword.proofs.is_set_up.Goals as goal
 
 pub returns : goal.returns
-returns c = counted _ c.get_u32.ensures
+returns c = counted _ c.get.ensures
