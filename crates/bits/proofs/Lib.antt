@@ -6,7 +6,6 @@ pub mod Answers
 pub mod Steps
 pub mod Cuts
 pub mod Ilogs
-pub mod Signeds
 pub mod Written
 pub mod Parts
 pub mod Filling

@@ -90,10 +90,5 @@ fn low_bits(x: u64, width: usize) -> u32
 pub fn signed(v: u32) -> i32
     ensures { result ≡ signed v }
 {
-    if v < 2147483648 {
-        v as i32
-    } else {
-        let below = (4294967295 - v) as i32;
-        -1 - below
-    }
+    v.cast_signed()
 }

@@ -22,6 +22,7 @@ pub trait Number: Copy + Drop {
     ghost laws: { JoinLaws ZERO joined };
 }
 
+// Four impls that differ in the type alone: rt ci refuses one that a macro of the repository writes.
 impl Number for u8 {
     ghost ZERO = { 0 };
 
