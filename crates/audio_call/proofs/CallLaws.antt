@@ -1,4 +1,5 @@
 -- Both doors, as the code asks it. Assumes nothing.
+use Rattle.std.specs.Prelude.{Result, IfOk}
 use Prim.Native.Nat.{ℕ, ◌≤◌}
 use native.Mathlib.Omega.{arith}
 use mathlib.Core.Bool.{Bool, true, false, not}
@@ -18,15 +19,16 @@ use Rattle.setup.specs.Later.{later_call}
 use Rattle.audio.specs.declared.Tally.{Tally}
 use Rattle.audio.specs.Call.{Room, Left, accepted, answered, audio_by, audio_call, room_of}
 use Rattle.audio_settle.specs.declared.Judged.{Judged}
+use Rattle.audio_settle.specs.declared.Rejected.{Rejected}
 use Rattle.audio_judge.specs.Inner.Ready.{Ready}
 use Rattle.audio_settle.specs.Inner.Judged.{JudgedIs, ZeroFrom, refused_left, settled}
 use Rattle.audio_judge.proofs.ReadyLaws.{channels_few, first_high}
 use Rattle.audio_settle.proofs.SettleLaws.{settled_is, zero_past}
 
 -- THE INNER DOOR
-module _ (i : Identity) (t : Tables) (x : Ready i t) (tally : Tally) (s entry list : List ℕ) {r : Judged} {exit list' : List ℕ}
+module _ (i : Identity) (t : Tables) (x : Ready i t) (tally : Tally) (s entry list : List ℕ) {r : Result Judged Rejected} {exit list' : List ℕ}
     (j : JudgedIs i.channels (decode_setup t) (accepted i tally (room_of entry list) s (decode_setup t)) r entry exit list list') where
-  pub settle_asked : (i.channels ≤ 255) × (i.blocksize0 ≤ 8192) × (r.head.blocksize ≤ 8192)
+  pub settle_asked : (i.channels ≤ 255) × (i.blocksize0 ≤ 8192) × IfOk r (λ x. x.head.blocksize ≤ 8192)
   settle_asked = (channels_few i t x, first_high i t x, j.size)
 
   pub packet_left : {curves_end words_end : ℕ} {l : Left} → ZeroFrom curves_end entry → ZeroFrom words_end list → l ≡ settled i tally r exit list' curves_end words_end
@@ -36,11 +38,12 @@ module _ (i : Identity) (t : Tables) (x : Ready i t) (tally : Tally) (s entry li
 
 -- THE PUBLIC CALL
 module _ (limits : Limits) (i : Identity) (t : Tables) {b : Bool} (e : b ≡ sound_test limits i t) where
-  pub call_unsound : (tally : Tally) (s entry list : List ℕ) {l : Left} → not b ≡ true → l ≡ refused_left 18 tally entry list → l ≡ audio_call limits i t tally s (room_of entry list)
+  pub call_unsound : (tally : Tally) (s entry list : List ℕ) {l : Left} {n : ℕ} → not b ≡ true → n ≡ 18 → l ≡ refused_left n tally entry list → l ≡ audio_call limits i t tally s (room_of entry list)
   unfolding audio_call later_call answered
-  call_unsound tally s entry list n a =
+  call_unsound tally s entry list n number a =
       let q : sound_test limits i t ≡ false = sym e ∙ not-true b n in
-      a ∙ ap (λ (z : Bool). answered i tally (room_of entry list) (decode_setup t) (need z (refusal 18 0) (accepted i tally (room_of entry list) s (decode_setup t)))) (sym q)
+      a ∙ ap (λ (m : ℕ). refused_left m tally entry list) number
+      ∙ ap (λ (z : Bool). answered i tally (room_of entry list) (decode_setup t) (need z (refusal 18 0) (accepted i tally (room_of entry list) s (decode_setup t)))) (sym q)
 
   module _ (n : not b ≡ false) where
     is_sound_lem : sound_test limits i t ≡ true

@@ -4,14 +4,13 @@ use mathlib.Core.Path.{ap}
 use Rattle.audio_call.proofs.CallLaws.{call_unsound, packet_asked, call_sound}
 use Rattle.audio_call.proofs.read_audio.Goals as goal
 
-pub returns-then-not-sound : goal.returns-then-not-sound
-returns-then-not-sound c =
-    call_unsound _ _ _ c.are_sound-sound.ensures.value c.args.tally c.args.packet.now c.args.curves.now c.args.words.now (ap not c.if-not-sound.true) c.refuse.ensures
+pub returns-then-not-are_sound : goal.returns-then-not-are_sound
+returns-then-not-are_sound c =
+    call_unsound _ _ _ c.are_sound.ensures.value c.args.tally c.args.packet.now c.args.curves.now c.args.words.now (ap not c.if-not-are_sound.true) c.number-refusal.ensures c.refuse.ensures
 
 pub read_packet-requires : goal.read_packet-requires
-read_packet-requires c =
-    packet_asked _ _ _ c.are_sound-sound.ensures.value (ap not c.if-not-sound.false) c.requires.0 c.requires.1
+read_packet-requires c = packet_asked _ _ _ c.are_sound.ensures.value (ap not c.if-not-are_sound.false) c.requires.0 c.requires.1
 
 pub returns : goal.returns
 returns c =
-    call_sound _ _ _ c.are_sound-sound.ensures.value (ap not c.if-not-sound.false) c.args.tally c.args.packet.now c.args.curves.now c.args.words.now c.read_packet.ensures
+    call_sound _ _ _ c.are_sound.ensures.value (ap not c.if-not-are_sound.false) c.args.tally c.args.packet.now c.args.curves.now c.args.words.now c.read_packet.ensures
