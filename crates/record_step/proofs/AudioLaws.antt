@@ -61,13 +61,13 @@ without : (k : Kept) (s : List ℕ) (t : Tables) (i : Option Identity) (c : Opti
 without k s t (some i) c e = rw e refl
 without k s t none c e = refl
 
-pub no_tables : (k : Kept) (s : List ℕ) (t : Tables) (curves words : List ℕ) {r : Stepped} → KeptTables k t × KeptOutputs k curves words → not k.has_tables ≡ true
-    → r ≡ unchanged k (Refused 18) → AudioStep k s t r curves words
+pub no_tables : (k : Kept) (s : List ℕ) (t : Tables) (curves words : List ℕ) {r : Stepped} {number : ℕ} → KeptTables k t × KeptOutputs k curves words → not k.has_tables ≡ true
+    → number ≡ 18 → r ≡ unchanged k (Refused number) → AudioStep k s t r curves words
 unfolding stream_of
-no_tables k s t curves words x n a =
+no_tables k s t curves words x n e a =
     let no : k.has_tables ≡ false = not-true k.has_tables n in
     let none_kept : (stream_of k t).setup ≡ none = ap (λ (b : Bool). cond b (some (decode_setup t)) none) no in
-    rw a (record { stream = without k s t (stream_of k t).identity (stream_of k t).setup none_kept; tables = x.0; outputs = x.1 })
+    rw (a, e) (record { stream = without k s t (stream_of k t).identity (stream_of k t).setup none_kept; tables = x.0; outputs = x.1 })
 
 -- WITH THEM: what the inner call asks for, and what it left
 module _ (k : Kept) (s : List ℕ) (t : Tables) (curves words : List ℕ) (x : KeptTables k t × KeptOutputs k curves words) (n : not k.has_tables ≡ false) where

@@ -3,4 +3,3 @@ pub mod IdentificationLaws
 pub mod SetupLaws
 pub mod PacketLaws
 pub mod AudioLaws
-pub mod StepLaws

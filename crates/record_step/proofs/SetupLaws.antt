@@ -50,11 +50,11 @@ unfolding has_room cleared
 cleared_room t e = simp length-replicate e
 
 -- without an identity
-pub no_identity_is : (k : Kept) (s : List ℕ) (t : Tables) {r : Stepped} → KeptTables k t → not k.has_identity ≡ true → r ≡ unchanged k (Refused 18) → SetupStep k s t r t
+pub no_identity_is : (k : Kept) (s : List ℕ) (t : Tables) {r : Stepped} {number : ℕ} → KeptTables k t → not k.has_identity ≡ true → number ≡ 18 → r ≡ unchanged k (Refused number) → SetupStep k s t r t
 unfolding stream_of
-no_identity_is k s t x n a =
+no_identity_is k s t x n e a =
     let no : k.has_identity ≡ false = not-true k.has_identity n in
-    rw a (record { stream = rw no refl; tables = x; ends = record { curves = refl; words = refl } })
+    rw (a, e) (record { stream = rw no refl; tables = x; ends = record { curves = refl; words = refl } })
 
 -- WITH ONE: identity and room are good, so that the call is by the packet alone
 module _ (k : Kept) (s : List ℕ) (t : Tables) (x : KeptTables k t) (has : k.has_identity ≡ true) where

@@ -1,22 +1,15 @@
--- Before the first record: what `first` keeps, and that tables and outputs of the tool's lengths are all that the first step asks for. Assumes nothing.
+-- Before the first record: tables and outputs of the tool's lengths are all that the first step asks for. Assumes nothing.
 use Prim.Native.Nat.{ℕ}
 use native.Mathlib.Omega.{arith}
-use mathlib.Core.Bool.{true, false}
+use mathlib.Core.Bool.{true}
 use mathlib.Core.List.{List}
-use mathlib.Core.Path.{◌≡◌, refl, sym}
+use mathlib.Core.Path.{◌≡◌, refl}
 use lib.ListN.{length, get_or-eq_default}
 use Rattle.reading.proofs.Least.{true_not_false}
 use Rattle.limits.specs.Standard.{standard}
 use Rattle.setup.specs.Layout.{Tables, tables, has_room}
-use Rattle.setup.proofs.TableLaws.{roomy}
 use Rattle.record_step.specs.declared.Kept.{Kept}
-use Rattle.record_step.specs.Step.{no_tally}
-use Rattle.record_step.specs.Inner.Kept.{stream_of, KeptTables, KeptOutputs, StartsWith}
-
--- what is kept without identity, tables and samples is no stream
-pub starts_with : (k : Kept) → k.has_identity ≡ false → k.has_tables ≡ false → k.tally ≡ no_tally → k.curves_end ≡ 32768 → k.words_end ≡ 16384 → StartsWith k
-unfolding stream_of
-starts_with k e f g c w = record { stream = λ t. rw (e, f, g); no_identity_is = e; no_tables = f; curves_end_is = c; words_end_is = w }
+use Rattle.record_step.specs.Inner.Kept.{KeptTables, KeptOutputs, StartsWith}
 
 module _ {k : Kept} (x : StartsWith k) where
   -- tables that have their fixed need
@@ -41,14 +34,9 @@ module _ {k : Kept} (x : StartsWith k) where
         words_zero = record { zero = λ j h. get_or-eq_default words 0 (omega arith) };
       }
 
--- ALL THAT THE FIRST STEP ASKS FOR, from lengths alone: each table has exactly its fixed need, the outputs are the tool's
+-- ROOM, from lengths alone: each table has exactly its fixed need
 module _ (c b l w m f r p a o : List ℕ) (e0 : length c ≡ 5) (e1 : length b ≡ 2816) (e2 : length l ≡ 16384) (e3 : length w ≡ 16384) (e4 : length m ≡ 16384)
     (e5 : length f ≡ 17728) (e6 : length r ≡ 384) (e7 : length p ≡ 32768) (e8 : length a ≡ 51456) (e9 : length o ≡ 128) where
   pub tool_tables : has_room standard (tables c b l w m f r p a o) ≡ true
-  tool_tables =
-      sym (roomy standard c b l w m f r p a o (omega arith) (omega arith) {n2 = 16384} refl (omega arith) {n3 = 16384} refl (omega arith) {n4 = 16384} refl (omega arith)
-      (omega arith) (omega arith) (omega arith) (omega arith) (omega arith))
-
-  pub start_asked : {k : Kept} → StartsWith k → (curves words : List ℕ) → length curves ≡ 32768 → length words ≡ 16384
-      → KeptTables k (tables c b l w m f r p a o) × KeptOutputs k curves words
-  start_asked x curves words g h = (start_tables x (tables c b l w m f r p a o) tool_tables, start_outputs x curves words g h)
+  unfolding has_room
+  tool_tables = rw (e0, e1, e2, e3, e4, e5, e6, e7, e8, e9) refl

@@ -7,8 +7,7 @@ pub mod setup_step; // a setup record
 pub mod unchanged; // a record that changes nothing
 
 ghost use Rattle.std.specs.Prelude.{◌≡◌};
-ghost use Rattle.setup.specs.Handed.{handed, left_in};
-ghost use Rattle.audio_judge.specs.Inner.Ready.{writable_tables};
+ghost use Rattle.setup.specs.Handed.{held_mut, StaysLent};
 ghost use Rattle.record_step.specs.Step.{step as record_step};
 ghost use Rattle.record_step.specs.Inner.Kept.{stream_of, KeptTables, KeptOutputs, StartsWith};
 
@@ -18,6 +17,13 @@ use crate::setup_step::after_setup;
 use audio::Tally;
 use identification::Identity;
 use records::Answer;
+use setup::lent::LentTablesMut;
+
+// The tally of a stream of which nothing was read.
+pub const NO_TALLY: Tally = Tally {
+    blocksize: 0,
+    samples: 0,
+};
 
 // What is kept from record to record beside the lent tables and outputs.
 #[derive(Clone, Copy)]
@@ -40,6 +46,7 @@ pub struct Stepped {
 }
 
 // Before the first record: nothing is kept, and the outputs may hold anything.
+#[tactic(auto, unfolding(crate::specs::Inner::Kept::stream_of))]
 pub fn first() -> Kept
     ensures { StartsWith result }
 {
@@ -55,77 +62,34 @@ pub fn first() -> Kept
             blocksize1: 0,
         },
         has_tables: false,
-        tally: Tally {
-            blocksize: 0,
-            samples: 0,
-        },
+        tally: NO_TALLY,
         curves_end: 32768,
         words_end: 16384,
     }
 }
 
 // THE STEP, by one record: its kind, its body, and the tables and outputs that the stream has.
+#[tactic(auto, unfolding(crate::specs::Step::step))]
 pub fn step(
     kept: Kept,
     kind: u32,
     body: &[u8],
-    counts: &mut [u32],
-    books: &mut [u32],
-    lengths: &mut [u8],
-    codewords: &mut [u32],
-    multiplicands: &mut [u16],
-    floors: &mut [u16],
-    residues: &mut [u32],
-    plans: &mut [u16],
-    mappings: &mut [u8],
-    modes: &mut [u8],
+    tables: &mut LentTablesMut<'_>,
     curves: &mut [u8],
     words: &mut [u32],
 ) -> Stepped
-    requires { KeptTables kept (writable_tables counts books lengths codewords multiplicands floors residues plans mappings modes)
-        × KeptOutputs kept curves.old words.old }
-    ensures answer_and_stream { (stream_of result.kept (left_in counts books lengths codewords multiplicands floors residues plans mappings modes), result.answer)
-        ≡ record_step (stream_of kept (handed counts books lengths codewords multiplicands floors residues plans mappings modes)) kind body.now }
-    ensures kept_tables { KeptTables result.kept (left_in counts books lengths codewords multiplicands floors residues plans mappings modes)
-        × KeptOutputs result.kept curves.new words.new }
+    requires { KeptTables kept (held_mut tables.old) × KeptOutputs kept curves.old words.old }
+    ensures answer_and_stream { (stream_of result.kept (held_mut tables.new), result.answer) ≡ record_step (stream_of kept (held_mut tables.old)) kind body.now }
+    ensures kept_tables { KeptTables result.kept (held_mut tables.new) × KeptOutputs result.kept curves.new words.new }
+    ensures lent { StaysLent tables.old tables.new }
 {
-    if kind == 1 {
-        return after_identification(kept, body);
-    }
-    if kind == 2 {
-        return after_setup(
+    match kind {
+        1 => after_identification(kept, body),
+        2 => after_setup(kept, body, tables),
+        3 => after_audio(kept, body, tables.shared(), curves, words),
+        _ => Stepped {
             kept,
-            body,
-            counts,
-            books,
-            lengths,
-            codewords,
-            multiplicands,
-            floors,
-            residues,
-            plans,
-            mappings,
-            modes,
-        );
+            answer: Answer::Unknown,
+        },
     }
-    if kind == 3 {
-        return after_audio(
-            kept,
-            body,
-            counts,
-            books,
-            lengths,
-            codewords,
-            multiplicands,
-            floors,
-            residues,
-            plans,
-            mappings,
-            modes,
-            curves,
-            words,
-        );
-    }
-    let answer = Answer::Unknown;
-    Stepped { kept, answer }
 }

@@ -10,6 +10,8 @@ use records::Answer;
 pub fn refused(kept: Kept, number: u32) -> Stepped
     ensures { result ≡ unchanged kept (Refused number) }
 {
-    let answer = Answer::Refused(number);
-    Stepped { kept, answer }
+    Stepped {
+        kept,
+        answer: Answer::Refused(number),
+    }
 }

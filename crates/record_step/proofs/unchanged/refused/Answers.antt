@@ -1,6 +1,0 @@
--- `record_step::unchanged::refused` meets its contract: it makes what its contract says, field by field. Assumes nothing.
-use mathlib.Core.Path.{refl}
-use Rattle.record_step.proofs.unchanged.refused.Goals as goal
-
-pub returns : goal.returns
-returns c = refl
