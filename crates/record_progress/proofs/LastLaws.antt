@@ -2,7 +2,7 @@
 use Prim.Native.Nat.{ℕ, ◌+◌, ◌≤◌, ◌<◌}
 use native.Mathlib.Omega.{arith}
 use mathlib.Core.List.{List, []}
-use mathlib.Core.Logic.{inl, inr}
+use mathlib.Core.Logic.{◌⊎◌, inl, inr}
 use mathlib.Core.Path.{◌≡◌, refl, sym, ◌∙◌, ap}
 use borrow.Author.Tests.{lt-ltb}
 use lib.ListN.{length, drop, length-append, length-drop}
@@ -38,29 +38,21 @@ module _ {p : Progress} {input lines : List ℕ} (room : LastRoom p input lines)
       }
 
   module _ {lines' : List ℕ} {end : ℕ} where
-    -- inside a body that is passed over
-    pub last_skipping : 0 < p.skip → (lines' ≡ sets lines p.lines_end (torn_end p.number)) × (end ≡ p.lines_end + length (torn_end p.number)) × (end ≤ p.lines_end + 256)
+    -- inside a body that is passed over, or inside a record
+    pub last_torn : (0 < p.skip) ⊎ ((p.skip ≤ 0) × (p.from < length input)) → (lines' ≡ sets lines p.lines_end (torn_end p.number)) × (end ≡ p.lines_end + length (torn_end p.number)) × (end ≤ p.lines_end + 256)
         → LastPut p input lines end lines'
     unfolding torn_end lines_skipping
-    last_skipping h w = put_last (λ x. left x room.needs) w.0 w.1 w.2
+    last_torn h w = put_last (λ x. left x h room.needs) w.0 w.1 w.2
       where
-        left : (x : Stream) → Needs p input → lines_left p.skip x p.number (drop p.from input) ≡ torn_end p.number
-        left x (inl n) = let e = n.0 in absurd (omega (arith, e, h))
-        left x (inr n) =
+        left : (x : Stream) → (0 < p.skip) ⊎ ((p.skip ≤ 0) × (p.from < length input)) → Needs p input → lines_left p.skip x p.number (drop p.from input) ≡ torn_end p.number
+        left x g (inr n) =
+            let positive = n.0 in
             ap (lines_left p.skip x p.number) (ap (λ (k : ℕ). drop k input) n.1 ∙ drop-length input)
-            ∙ left_skipping x p.number p.skip [] [] h ∙ rw (lt-ltb 0 p.skip h) refl
-
-    -- inside a record
-    pub last_torn : p.skip ≤ 0 → p.from < length input
-        → (lines' ≡ sets lines p.lines_end (torn_end p.number)) × (end ≡ p.lines_end + length (torn_end p.number)) × (end ≤ p.lines_end + 256)
-        → LastPut p input lines end lines'
-    unfolding torn_end
-    last_torn z h w = put_last (λ x. left x room.needs) w.0 w.1 w.2
-      where
-        left : (x : Stream) → Needs p input → lines_left p.skip x p.number (drop p.from input) ≡ torn_end p.number
-        left x (inr n) = let e = n.0 in absurd (omega (arith, e, z))
-        left x (inl n) =
+            ∙ left_skipping x p.number p.skip [] [] positive ∙ rw (lt-ltb 0 p.skip positive) refl
+        left x (inl g) (inl n) = let e = n.0 in absurd (omega (arith, e, g))
+        left x (inr g) (inl n) =
             let l = length-drop p.from input in
+            let h = g.1 in
             ap (λ (k : ℕ). lines_left k x p.number (drop p.from input)) n.0 ∙ left_after x p.number (drop p.from input)
             ∙ after_torn x p.number (drop p.from input) (omega (arith, l, h)) (partial_of (drop p.from input) n.1).0
 

@@ -4,10 +4,9 @@ use native.Mathlib.Nat.{add-zero}
 use native.Mathlib.Omega.{arith}
 use mathlib.Core.Bool.{true, false}
 use mathlib.Core.List.{List, [], ◌++◌, append_assoc}
-use mathlib.Core.Logic.{inl, inr}
 use mathlib.Core.Path.{◌≡◌, refl, sym, ◌∙◌, ap}
 use lib.ListN.{length, take, drop, length-append, length-drop}
-use lib.Seq.{sets, length-sets, drop-drop, drop-length, take_all}
+use lib.Seq.{sets, drop-drop, drop-length, take_all}
 use Rattle.reading.proofs.Least.{true_not_false}
 use Rattle.reading.proofs.Tables.{sets_append}
 use Rattle.setup.specs.Layout.{Tables}
@@ -15,15 +14,15 @@ use Rattle.records.specs.Records.{body_length, kind}
 use Rattle.records.specs.declared.Answer.{Answer}
 use Rattle.records.specs.declared.Answer.TheVariants as answers
 use Rattle.records.specs.declared.Front.{Front}
-use Rattle.records.specs.declared.Front.TheVariants.{Partial, TooLong, Whole}
+use Rattle.records.specs.declared.Front.TheVariants.{TooLong, Whole}
 use Rattle.records.specs.Inner.Fronts.{front}
 use Rattle.record_lines.specs.Lines.{line}
 use Rattle.record_step.specs.declared.Kept.{Kept}
 use Rattle.record_step.specs.Step.{Stream, step}
-use Rattle.record_step.specs.Inner.Kept.{stream_of, KeptTables, KeptOutputs}
+use Rattle.record_step.specs.Inner.Kept.{stream_of}
 use Rattle.record_progress.specs.Report.{lines_after}
 use Rattle.record_progress.specs.Inner.Progress.{lines_left, lines_skipping}
-use Rattle.record_progress.specs.Inner.Taken.{Room, Taken, Within, Moves, MayGoOn, waits, skips}
+use Rattle.record_progress.specs.Inner.Taken.{Room, Taken, Within, Moves, MayGoOn, skips}
 use Rattle.record_progress.specs.declared.Progress.{Progress}
 use Rattle.record_progress.proofs.ReportLaws.{whole_read, too_long_read, skip_some, skip_all, left_skipping, left_after}
 use Rattle.record_progress.proofs.FrontLaws.{HeadTooLong, IsWhole, too_long_of, whole_of}
@@ -39,10 +38,6 @@ passed_over p end = record { kept = p.kept; number = p.number + 1; skip = 0; fro
 abbrev pub whole_taken : Progress → Kept → ℕ → ℕ → Progress
 whole_taken p kept n end = record { kept = kept; number = p.number + 1; skip = 0; from = p.from + 6 + n; lines_end = end; waiting = false }
 
--- nothing was taken
-pub taken_none : (p : Progress) (t : Tables) (input lines : List ℕ) → Taken p t input lines p t lines
-taken_none p t input lines = record { text = []; put = refl; ends = sym (add-zero _); left = λ rest. refl }
-
 -- one taking after another
 pub taken_then : {p q r : Progress} {t u v : Tables} {input l m n : List ℕ} → Taken p t input l q u m → Taken q u input m r v n → Taken p t input l r v n
 taken_then {p} {q} {r} {t} {u} {v} {input} {l} {m} {n} a b =
@@ -56,38 +51,8 @@ taken_then {p} {q} {r} {t} {u} {v} {input} {l} {m} {n} a b =
       left = λ rest. a.left rest ∙ ap (λ (w : List ℕ). a.text ++ w) (b.left rest) ∙ sym (append_assoc a.text b.text _);
     }
 
-pub taken_length : {p r : Progress} {t u : Tables} {input l m : List ℕ} → Taken p t input l r u m → length m ≡ length l
-taken_length {p} {r} {t} {u} {input} {l} {m} a = ap length a.put ∙ length-sets l p.lines_end a.text
-
 module _ {p : Progress} {input lines : List ℕ} (room : Room p input lines) where
-  -- less than a record is there
-  module _ {r : Progress} (e : r ≡ waits p) where
-    pub waits_taken : (t : Tables) → p.skip ≡ 0 → Taken p t input lines r t lines
-    waits_taken t z =
-        rw e (record {
-          text = [];
-          put = refl;
-          ends = sym (add-zero _);
-          left = λ rest. ap (λ (k : ℕ). lines_left k (stream_of p.kept t) p.number (drop p.from input ++ rest)) z;
-        })
-
-    pub waits_within : Partial ≡ front (drop p.from input) → Within r input lines
-    waits_within h =
-        let a = room.line in
-        let b = room.number in
-        rw e (record { inside = room.inside; ends = omega (arith, a); number = omega (arith, b); needs = λ w. inl (refl, h) })
-
-    pub waits_moves : Moves p r
-    waits_moves = rw e (λ w. absurd (true_not_false true refl w))
-
-  -- the head of a record that is too long is among what was read
-  pub skips_inside : {n : ℕ} → TooLong n ≡ front (drop p.from input) → p.from + 6 ≤ length input
-  skips_inside h =
-      let c = (too_long_of (drop p.from input) h).head in
-      let d = length-drop p.from input in
-      omega (arith, c, d)
-
-  -- behind that head
+  -- behind the head of a record that is too long
   module _ {r : Progress} {n : ℕ} (e : r ≡ skips p n) (h : TooLong n ≡ front (drop p.from input)) where
     w : HeadTooLong (drop p.from input) n
     w = too_long_of (drop p.from input) h
@@ -137,12 +102,6 @@ module _ {p : Progress} {input lines : List ℕ} (room : Room p input lines) whe
               ∙ ap (λ (w : List ℕ). lines_left (p.skip - (length input - p.from)) x p.number (w ++ rest)) (sym (drop-length input));
         }
 
-    pub some_within : length input - p.from < p.skip → Within (passed p input) input lines
-    some_within h =
-        let a = room.line in
-        let b = room.number in
-        record { inside = omega arith; ends = omega (arith, a); number = omega (arith, b); needs = λ f. inr (omega (arith, h), refl) }
-
     module _ (h : p.skip ≤ length input - p.from) where
       pub all_taken : {lines' : List ℕ} {n : ℕ} (t : Tables) → lines' ≡ sets lines p.lines_end (line (p.number + 1) answers.TooLong)
           → n ≡ p.lines_end + length (line (p.number + 1) answers.TooLong) → Taken p t input lines (passed_over p n) t lines'
@@ -159,13 +118,6 @@ module _ {p : Progress} {input lines : List ℕ} (room : Room p input lines) whe
                 ∙ ap (λ (w : List ℕ). line (p.number + 1) answers.TooLong ++ lines_after x (p.number + 1) (w ++ rest)) (drop-drop p.skip p.from input)
                 ∙ ap (λ (w : List ℕ). line (p.number + 1) answers.TooLong ++ w) (sym (left_after x (p.number + 1) (drop (p.from + p.skip) input ++ rest)));
           }
-
-      pub all_within : {n : ℕ} → n ≤ p.lines_end + 128 → Within (passed_over p n) input lines
-      all_within g =
-          let a = room.line in
-          let b = room.number in
-          let c = room.inside in
-          record { inside = omega (arith, h, c); ends = omega (arith, a, g); number = omega (arith, b); needs = λ f. absurd (true_not_false false f refl) }
 
   -- a whole record
   module _ (z : p.skip ≡ 0) {k n : ℕ} (h : Whole k n ≡ front (drop p.from input)) where
@@ -217,38 +169,7 @@ module _ {p : Progress} {input lines : List ℕ} (room : Room p input lines) whe
         let b = room.number in
         record { inside = whole_there; ends = omega (arith, a, g); number = omega (arith, b); needs = λ f. absurd (true_not_false false f refl) }
 
--- what is kept, of a progress that keeps the same
-pub kept_same : {k k' : Kept} {t : Tables} {curves words : List ℕ} → k' ≡ k → KeptTables k t × KeptOutputs k curves words → KeptTables k' t × KeptOutputs k' curves words
-kept_same e w = rw e w
-
-pub within_long : {p : Progress} {input l m : List ℕ} → Within p input l → length l ≡ length m → Within p input m
-within_long w e = let a = w.ends in record { inside = w.inside; ends = omega (arith, a, e); number = w.number; needs = w.needs }
-
--- every table and output has the length that it had
-pub record SameLengths (t u : Tables) (curves words curves' words' : List ℕ) : Type 0 where
-  pub counts : length u.counts ≡ length t.counts
-  pub books : length u.books ≡ length t.books
-  pub lengths : length u.lengths ≡ length t.lengths
-  pub codewords : length u.codewords ≡ length t.codewords
-  pub multiplicands : length u.multiplicands ≡ length t.multiplicands
-  pub floors : length u.floors ≡ length t.floors
-  pub residues : length u.residues ≡ length t.residues
-  pub plans : length u.plans ≡ length t.plans
-  pub mappings : length u.mappings ≡ length t.mappings
-  pub modes : length u.modes ≡ length t.modes
-  pub of_curves_is : length curves' ≡ length curves
-  pub of_words : length words' ≡ length words
-
-pub record Going (p : Progress) (t : Tables) (input curves words lines : List ℕ) (p' : Progress) (t' : Tables) (curves' words' lines' : List ℕ) : Type 0 where
-  pub taken : Taken p t input lines p' t' lines'
-  pub kept : KeptTables p'.kept t' × KeptOutputs p'.kept curves' words'
-  pub room : Room p' input lines'
-  pub same : SameLengths t t' curves words curves' words'
-
--- each turn passes a byte at the least
-pub turn_less : (p : Progress) {r : Progress} {input lines : List ℕ} {n : ℕ} → Within r input lines → Moves p r → MayGoOn r n → length input - r.from < length input - p.from
-turn_less p w m g = let a = m g.here in let b = w.inside in omega (arith, a, b)
-
+-- a record may be taken where the progress allows another
 pub turn_room : {r : Progress} {input lines lines' : List ℕ} → Within r input lines → MayGoOn r (length lines') → Room r input lines'
 turn_room w g = record { inside = w.inside; line = g.line; number = g.number }
 

@@ -26,15 +26,14 @@ pub struct Progress {
 }
 
 // The number of records after which none is taken: the next could be named in a line, and one more could not.
-pub const MOST_RECORDS: u64 = 18446744073709551614;
+pub const MOST_RECORDS: u64 = u64::MAX - 1;
 
 // Before the first record.
 pub fn start() -> Progress
     ensures { Starts result }
 {
-    let kept = record_step::first();
     Progress {
-        kept,
+        kept: record_step::first(),
         number: 0,
         skip: 0,
         from: 0,
@@ -48,30 +47,19 @@ pub fn may_go_on(progress: Progress, length: usize) -> bool
     requires { progress.lines_end ≤ length }
     ensures { result ≡ true → MayGoOn progress length }
 {
-    if progress.waiting {
-        return false;
-    }
-    if progress.number >= MOST_RECORDS {
-        return false;
-    }
-    if length - progress.lines_end < record_lines::LONGEST {
-        return false;
-    }
-    true
+    !progress.waiting
+        && progress.number < MOST_RECORDS
+        && length - progress.lines_end >= record_lines::LONGEST
 }
 
 // Less than a record is there.
 pub fn wait(progress: Progress) -> Progress
     ensures { result ≡ waits progress }
 {
-    let kept = progress.kept;
     Progress {
-        kept,
-        number: progress.number,
         skip: 0,
-        from: progress.from,
-        lines_end: progress.lines_end,
         waiting: true,
+        ..progress
     }
 }
 
@@ -80,14 +68,11 @@ pub fn skip_body(progress: Progress, length: usize) -> Progress
     requires { progress.from + 6 ≤ 18446744073709551615 }
     ensures { result ≡ skips progress length }
 {
-    let kept = progress.kept;
     Progress {
-        kept,
-        number: progress.number,
         skip: length,
         from: progress.from + 6,
-        lines_end: progress.lines_end,
         waiting: false,
+        ..progress
     }
 }
 
@@ -97,27 +82,23 @@ pub fn pass_over(progress: Progress, input: &[u8], lines: &mut [u8]) -> Progress
     ensures taken { (t : Tables) → Taken progress t input.now lines.old result t lines.new }
     ensures kept_value { (result.kept ≡ progress.kept) × Within result input.now lines.old × Moves progress result }
 {
-    let kept = progress.kept;
     let present = input.len() - progress.from;
     if present < progress.skip {
         return Progress {
-            kept,
-            number: progress.number,
             skip: progress.skip - present,
             from: input.len(),
-            lines_end: progress.lines_end,
             waiting: true,
+            ..progress
         };
     }
     let number = progress.number + 1;
-    let end = record_lines::put_line(number, Answer::TooLong, lines, progress.lines_end);
     Progress {
-        kept,
         number,
         skip: 0,
         from: progress.from + progress.skip,
-        lines_end: end,
+        lines_end: record_lines::put_line(number, Answer::TooLong, lines, progress.lines_end),
         waiting: false,
+        ..progress
     }
 }
 
@@ -126,10 +107,7 @@ pub fn put_last(progress: Progress, input: &[u8], lines: &mut [u8]) -> usize
     requires { LastRoom progress input.now lines.old }
     ensures { LastPut progress input.now lines.old result lines.new }
 {
-    if progress.skip > 0 {
-        return put_torn_end(progress.number, lines, progress.lines_end);
-    }
-    if progress.from < input.len() {
+    if progress.skip > 0 || progress.from < input.len() {
         return put_torn_end(progress.number, lines, progress.lines_end);
     }
     record_lines::put_end(progress.number, lines, progress.lines_end)

@@ -1,18 +1,7 @@
 -- `record_progress::put_torn_end` meets its contract, by LastLaws. Assumes nothing.
-use mathlib.Core.Path.{◌∙◌}
 use native.Mathlib.Omega.{arith}
 use Rattle.record_progress.proofs.LastLaws.{torn_end_put}
 use Rattle.record_progress.proofs.put_torn_end.Goals as goal
-
-pub put_torn-end-requires : goal.put_torn-end-requires
-put_torn-end-requires c = let p = c.requires.0 in omega (arith, p)
-
-pub put_end-requires : goal.put_end-requires
-put_end-requires c =
-    let a = c.put_torn-end.ensures.value.1 in
-    let b = c.put_torn-end.auto.out in
-    let p = c.requires.0 in
-    omega (arith, a, b, p)
 
 pub returns : goal.returns
 returns c =

@@ -9,9 +9,9 @@ use Rattle.record_progress.proofs.start.Goals as goal
 pub returns : goal.returns
 unfolding report lines_left
 returns c =
-    let stream = c.first-kept.ensures.stream in
+    let stream = c.first.ensures.stream in
     record {
-      kept = c.first-kept.ensures;
+      kept = c.first.ensures;
       all = λ t s. ap (λ (x : Stream). lines_after x 0 s) (stream t);
       whole = λ t come out r. session_puts r ∙ ap (λ (x : Stream). lines_after x 0 come) (stream t);
       number = refl;

@@ -1,5 +1,5 @@
 -- How far the program has come in the input: what it has still to write, for all that may follow the bytes that were read.
-use Rattle.std.specs.Prelude.{ℕ, ◌+◌, ◌-◌, cond, List, ◌++◌, ltb, eqb, length, drop}
+use Rattle.std.specs.Prelude.{ℕ, ◌+◌, cond, List, ◌++◌, ltb, eqb, length, drop}
 use Rattle.records.specs.declared.Answer.TheVariants.{TooLong}
 use Rattle.record_lines.specs.Lines.{line, torn_line, end_line}
 use Rattle.record_step.specs.Step.{Stream}
