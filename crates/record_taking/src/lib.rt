@@ -2,8 +2,7 @@
 #![tactic(auto)]
 
 ghost use Rattle.std.specs.Prelude.{◌≡◌, drop};
-ghost use Rattle.setup.specs.Handed.{handed, left_in};
-ghost use Rattle.audio_judge.specs.Inner.Ready.{writable_tables};
+ghost use Rattle.setup.specs.Handed.{held_mut, StaysLent};
 ghost use Rattle.records.specs.declared.Front.TheVariants.{Whole};
 ghost use Rattle.records.specs.Inner.Fronts.{front};
 ghost use Rattle.record_step.specs.Inner.Kept.{KeptTables, KeptOutputs};
@@ -11,56 +10,28 @@ ghost use Rattle.record_progress.specs.Inner.Taken.{Room, Moves, Taken, Within};
 
 use record_progress::{Progress, may_go_on, pass_over, skip_body, wait};
 use records::Front;
+use setup::lent::LentTablesMut;
 
 // Takes records and puts their lines, until more of the input is needed, the lines are nearly full, or no further record could be counted.
 pub fn take_records(
     progress: Progress,
     input: &[u8],
-    counts: &mut [u32],
-    books: &mut [u32],
-    lengths: &mut [u8],
-    codewords: &mut [u32],
-    multiplicands: &mut [u16],
-    floors: &mut [u16],
-    residues: &mut [u32],
-    plans: &mut [u16],
-    mappings: &mut [u8],
-    modes: &mut [u8],
+    tables: &mut LentTablesMut<'_>,
     curves: &mut [u8],
     words: &mut [u32],
     lines: &mut [u8],
 ) -> Progress
-    requires kept_tables { KeptTables progress.kept (writable_tables counts books lengths codewords multiplicands floors residues plans mappings modes)
-        × KeptOutputs progress.kept curves.old words.old }
+    requires kept_tables { KeptTables progress.kept (held_mut tables.old) × KeptOutputs progress.kept curves.old words.old }
     requires room { Room progress input.now lines.old }
-    ensures taken { Taken progress (handed counts books lengths codewords multiplicands floors residues plans mappings modes)
-        input.now lines.old
-        result (left_in counts books lengths codewords multiplicands floors residues plans mappings modes) lines.new }
-    ensures kept_after { KeptTables result.kept (left_in counts books lengths codewords multiplicands floors residues plans mappings modes)
-        × KeptOutputs result.kept curves.new words.new }
+    ensures taken { Taken progress (held_mut tables.old) input.now lines.old result (held_mut tables.new) lines.new }
+    ensures kept_after { KeptTables result.kept (held_mut tables.new) × KeptOutputs result.kept curves.new words.new }
     ensures within { Within result input.now lines.old }
+    ensures lent { StaysLent tables.old tables.new }
 {
     let mut at = progress;
     loop {
-        at = take_record(
-            at,
-            input,
-            counts,
-            books,
-            lengths,
-            codewords,
-            multiplicands,
-            floors,
-            residues,
-            plans,
-            mappings,
-            modes,
-            curves,
-            words,
-            lines,
-        );
-        let length = lines.len();
-        if !may_go_on(at, length) {
+        at = take_record(at, input, tables, curves, words, lines);
+        if !may_go_on(at, lines.len()) {
             return at;
         }
     }
@@ -70,55 +41,26 @@ pub fn take_records(
 fn take_record(
     progress: Progress,
     input: &[u8],
-    counts: &mut [u32],
-    books: &mut [u32],
-    lengths: &mut [u8],
-    codewords: &mut [u32],
-    multiplicands: &mut [u16],
-    floors: &mut [u16],
-    residues: &mut [u32],
-    plans: &mut [u16],
-    mappings: &mut [u8],
-    modes: &mut [u8],
+    tables: &mut LentTablesMut<'_>,
     curves: &mut [u8],
     words: &mut [u32],
     lines: &mut [u8],
 ) -> Progress
-    requires kept_tables { KeptTables progress.kept (writable_tables counts books lengths codewords multiplicands floors residues plans mappings modes)
-        × KeptOutputs progress.kept curves.old words.old }
+    requires kept_tables { KeptTables progress.kept (held_mut tables.old) × KeptOutputs progress.kept curves.old words.old }
     requires room { Room progress input.now lines.old }
-    ensures taken { Taken progress (handed counts books lengths codewords multiplicands floors residues plans mappings modes)
-        input.now lines.old
-        result (left_in counts books lengths codewords multiplicands floors residues plans mappings modes) lines.new }
-    ensures kept_after { KeptTables result.kept (left_in counts books lengths codewords multiplicands floors residues plans mappings modes)
-        × KeptOutputs result.kept curves.new words.new }
+    ensures taken { Taken progress (held_mut tables.old) input.now lines.old result (held_mut tables.new) lines.new }
+    ensures kept_after { KeptTables result.kept (held_mut tables.new) × KeptOutputs result.kept curves.new words.new }
     ensures within { Within result input.now lines.old × Moves progress result }
+    ensures lent { StaysLent tables.old tables.new }
 {
-    let from = progress.from;
     if progress.skip > 0 {
         return pass_over(progress, input, lines);
     }
-    match records::look(&input[from..]) {
+    match records::look(&input[progress.from..]) {
         Front::Partial => wait(progress),
         Front::TooLong(length) => skip_body(progress, length),
         Front::Whole(kind, length) => take_whole(
-            progress,
-            kind,
-            length,
-            input,
-            counts,
-            books,
-            lengths,
-            codewords,
-            multiplicands,
-            floors,
-            residues,
-            plans,
-            mappings,
-            modes,
-            curves,
-            words,
-            lines,
+            progress, kind, length, input, tables, curves, words, lines,
         ),
     }
 }
@@ -129,60 +71,28 @@ fn take_whole(
     kind: u32,
     length: usize,
     input: &[u8],
-    counts: &mut [u32],
-    books: &mut [u32],
-    lengths: &mut [u8],
-    codewords: &mut [u32],
-    multiplicands: &mut [u16],
-    floors: &mut [u16],
-    residues: &mut [u32],
-    plans: &mut [u16],
-    mappings: &mut [u8],
-    modes: &mut [u8],
+    tables: &mut LentTablesMut<'_>,
     curves: &mut [u8],
     words: &mut [u32],
     lines: &mut [u8],
 ) -> Progress
-    requires kept_tables { KeptTables progress.kept (writable_tables counts books lengths codewords multiplicands floors residues plans mappings modes)
-        × KeptOutputs progress.kept curves.old words.old }
+    requires kept_tables { KeptTables progress.kept (held_mut tables.old) × KeptOutputs progress.kept curves.old words.old }
     requires room { Room progress input.now lines.old × (progress.skip ≡ 0) × (Whole kind length ≡ front (drop progress.from input.now)) }
-    ensures taken { Taken progress (handed counts books lengths codewords multiplicands floors residues plans mappings modes)
-        input.now lines.old
-        result (left_in counts books lengths codewords multiplicands floors residues plans mappings modes) lines.new }
-    ensures kept_after { KeptTables result.kept (left_in counts books lengths codewords multiplicands floors residues plans mappings modes)
-        × KeptOutputs result.kept curves.new words.new }
+    ensures taken { Taken progress (held_mut tables.old) input.now lines.old result (held_mut tables.new) lines.new }
+    ensures kept_after { KeptTables result.kept (held_mut tables.new) × KeptOutputs result.kept curves.new words.new }
     ensures within { Within result input.now lines.old × Moves progress result }
+    ensures lent { StaysLent tables.old tables.new }
 {
-    let kept = progress.kept;
     let from = progress.from + 6;
     let to = from + length;
-    let stepped = record_step::step(
-        kept,
-        kind,
-        &input[from..to],
-        counts,
-        books,
-        lengths,
-        codewords,
-        multiplicands,
-        floors,
-        residues,
-        plans,
-        mappings,
-        modes,
-        curves,
-        words,
-    );
-    let answer = stepped.answer;
-    let after = stepped.kept;
+    let stepped = record_step::step(progress.kept, kind, &input[from..to], tables, curves, words);
     let number = progress.number + 1;
-    let end = record_lines::put_line(number, answer, lines, progress.lines_end);
     Progress {
-        kept: after,
+        kept: stepped.kept,
         number,
         skip: 0,
         from: to,
-        lines_end: end,
+        lines_end: record_lines::put_line(number, stepped.answer, lines, progress.lines_end),
         waiting: false,
     }
 }
