@@ -1,2 +1,1 @@
-pub mod FeedingLaws
 pub mod TurnLaws

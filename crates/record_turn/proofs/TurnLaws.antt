@@ -1,5 +1,5 @@
 -- The turns of the run. Assumes nothing.
-use Prim.Native.Nat.{ℕ, ◌+◌, ◌-◌, ◌≤◌, ◌<◌}
+use Prim.Native.Nat.{ℕ, ◌+◌, ◌≤◌, ◌<◌}
 use native.Mathlib.Omega.{arith}
 use mathlib.Core.Bool.{true}
 use mathlib.Core.List.{List, ◌++◌}
@@ -7,41 +7,25 @@ use mathlib.Core.Logic.{inl, inr}
 use mathlib.Core.Path.{◌≡◌, refl, sym, ◌∙◌, ap}
 use lib.ListN.{length, take, drop, length-drop}
 use lib.Seq.{length-take-le, take-add, drop-append-le}
-use Rattle.reading.proofs.Least.{true_not_false}
 use Rattle.records.specs.Inner.Fronts.{front}
 use Rattle.record_progress.specs.Inner.Taken.{most_records, Needs, LastRoom}
-use Rattle.record_turn.specs.Inner.Turns.{RoomMade, Reads, goes_on, Stopped, Turned}
+use Rattle.record_turn.specs.Inner.Turns.{RoomMade, Reads, goes_on, GoesOn}
 use Rattle.record_turn.specs.declared.feeding.Span.{Span}
-use Rattle.record_turn.specs.declared.Turn.{Turn}
 use Rattle.record_progress.specs.declared.Progress.{Progress}
 use Rattle.record_progress.proofs.FrontLaws.{partial_of}
 
--- the run ends
-pub stopped_turned : {p : Progress} {to status turns : ℕ} {r : Turn} {input input' lines : List ℕ} → Stopped p status r → Turned p to turns input r input' lines
-stopped_turned {p} {to} {status} {turns} {r} w =
-    record {
-      same = ap (λ (q : Progress). q.kept) w.progress;
-      more = λ e. absurd (true_not_false r.done w.done e);
-      inside = λ e. absurd (true_not_false r.done w.done e);
-      room = λ e. absurd (true_not_false r.done w.done e);
-      continues = λ e. absurd (true_not_false r.done w.done e);
-    }
-
 -- the run goes on
-pub going_turned : (p : Progress) {to from end turns : ℕ} {r : Turn} {input input' lines : List ℕ} (bytes : List ℕ) → r ≡ goes_on p from end → 0 < turns → from ≤ end → end ≤ length input'
-    → p.number < most_records → length lines ≡ 65536 → drop from (take end input') ≡ drop p.from (take to input) ++ bytes → Turned p to turns input r input' lines
-going_turned p {to} {from} {end} {turns} {r} {input} {input'} {lines} bytes e t h g n l same =
+pub going_turned : (p : Progress) {to from end turns : ℕ} {q : Progress} {input input' lines : List ℕ} (bytes : List ℕ) → q ≡ goes_on p from → 0 < turns → from ≤ end → end ≤ length input'
+    → p.number < most_records → length lines ≡ 65536 → drop from (take end input') ≡ drop p.from (take to input) ++ bytes → GoesOn p to turns input q end input' lines
+going_turned p {to} {from} {end} {turns} {q} {input} {input'} {lines} bytes e t h g n l same =
     let k = length-take-le end input' g in
     rw e (record {
       same = refl;
-      more = λ f. t;
-      inside = λ f. g;
-      room = λ f. record { inside = omega (arith, k, h); line = omega (arith, l); number = n };
-      continues = λ f. record { bytes = bytes; left = same; skip = refl; number = refl };
+      more = t;
+      inside = g;
+      room = record { inside = omega (arith, k, h); line = omega (arith, l); number = n };
+      continues = record { bytes = bytes; left = same; skip = refl; number = refl };
     })
-
-pub turned_more : {p : Progress} {to n : ℕ} {r : Turn} {input input' lines : List ℕ} → 0 < n → Turned p to 1 input r input' lines → Turned p to n input r input' lines
-turned_more h w = record { same = w.same; more = λ f. h; inside = w.inside; room = w.room; continues = w.continues }
 
 -- a read adds bytes behind those that are left
 pub read_after : (from end more : ℕ) (l l' : List ℕ) {left : List ℕ} → from ≤ end → end ≤ length l → take end l ≡ take end l' → drop from (take end l') ≡ left
@@ -76,12 +60,12 @@ module _ {p : Progress} {to : ℕ} {input lines : List ℕ} (w : Reads p to inpu
           omega (arith, a, c, d)
 
   -- the last lines are those of the bytes that are left, wherever they were moved to
-  pub reads_last : {s : Span} {input' : List ℕ} (input'' : List ℕ) {r : Turn} → p.waiting ≡ true → p.number < most_records → RoomMade input p.from to s input'
-      → take s.to input'' ≡ take s.to input' → length input'' ≡ length input' → r ≡ goes_on p s.from s.to → LastRoom r.progress (take s.to input'') lines
-  reads_last {s} {input'} input'' {r} e n m k l g =
+  pub reads_last : {s : Span} {input' : List ℕ} (input'' : List ℕ) {q : Progress} → p.waiting ≡ true → p.number < most_records → RoomMade input p.from to s input'
+      → take s.to input'' ≡ take s.to input' → length input'' ≡ length input' → q ≡ goes_on p s.from → LastRoom q (take s.to input'') lines
+  reads_last {s} {input'} input'' {q} e n m k l g =
       let o = m.order in
-      let q = m.room in
-      let long = length-take-le s.to input'' (omega (arith, q, l)) in
+      let room = m.room in
+      let long = length-take-le s.to input'' (omega (arith, room, l)) in
       let f = w.of_lines in
       rw g (record {
         inside = omega (arith, o, long);
@@ -93,7 +77,7 @@ module _ {p : Progress} {to : ℕ} {input lines : List ℕ} (w : Reads p to inpu
       rest : drop s.from (take s.to input'') ≡ drop p.from (take to input)
       rest = ap (drop s.from) k ∙ m.same
 
-      needed : length (take s.to input'') ≡ s.to → Needs p (take to input) → Needs (goes_on p s.from s.to).progress (take s.to input'')
+      needed : length (take s.to input'') ≡ s.to → Needs p (take to input) → Needs (goes_on p s.from) (take s.to input'')
       needed long (inl v) = inl (v.0, v.1 ∙ ap front (sym rest))
       needed long (inr v) =
           let a = ap length rest in

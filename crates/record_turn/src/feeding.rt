@@ -1,7 +1,8 @@
 // The bytes that were read, in the lent buffer: room for more of them, and one read.
-ghost use Rattle.std.specs.Prelude.{◌≡◌, ◌+◌, ◌≤◌, ◌<◌, length, take};
-ghost use Rattle.record_turn.specs.Inner.Turns.{moved, RoomMade};
+ghost use Rattle.std.specs.Prelude.{◌≡◌, ◌+◌, ◌≤◌, ◌<◌, length, take, IfOk};
+ghost use Rattle.record_turn.specs.Inner.Turns.{RoomMade};
 
+use std::io;
 use std::io::{Read, Stdin};
 
 // Where the bytes begin that are not yet taken, and where those end that were read.
@@ -9,14 +10,6 @@ use std::io::{Read, Stdin};
 pub struct Span {
     pub from: usize,
     pub to: usize,
-}
-
-// What a read gave.
-#[derive(Clone, Copy)]
-pub struct Got {
-    pub failed: bool,
-    // How many bytes: 0 at the input's end.
-    pub more: usize,
 }
 
 // Makes room behind the bytes that are left. They are moved to the front only where the buffer is full: many small reads cost no more than they have to.
@@ -30,39 +23,18 @@ pub fn make_room(input: &mut [u8], from: usize, to: usize) -> Span
     if to < input.len() {
         return Span { from, to };
     }
-    move_front(input, from, to - from);
+    input.copy_within(from..to, 0);
     Span {
         from: 0,
         to: to - from,
     }
 }
 
-// Moves `count` bytes to the front.
-fn move_front(input: &mut [u8], from: usize, count: usize)
-    requires { from + count ≤ length input.old }
-    ensures { input.new ≡ moved input.old from count }
-{
-    let mut i = 0;
-    while i < count {
-        input[i] = input[from + i];
-        i += 1;
-    }
-}
-
-// One read of standard input behind the bytes that are there, which stay.
-pub fn read_more(stdin: Stdin, input: &mut [u8], to: usize) -> Got
+// One read of standard input behind the bytes that are there, which stay: how many bytes came, 0 at the input's end.
+pub fn read_more(mut stdin: Stdin, input: &mut [u8], to: usize) -> io::Result<usize>
     requires { to ≤ length input.old }
-    ensures { (take to input.new ≡ take to input.old) × (to + result.more ≤ length input.old) }
+    ensures kept { take to input.new ≡ take to input.old }
+    ensures inside { IfOk result (λ more. to + more ≤ length input.old) }
 {
-    let mut source = stdin;
-    match source.read(&mut input[to..]) {
-        Ok(more) => Got {
-            failed: false,
-            more,
-        },
-        Err(_) => Got {
-            failed: true,
-            more: 0,
-        },
-    }
+    stdin.read(&mut input[to..])
 }
