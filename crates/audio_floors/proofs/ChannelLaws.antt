@@ -44,7 +44,7 @@ module _ {A : Type 0} where
   run_cut r {z} e = go r.value e
     where
       go : (v : Option A) → whole_or v r.position ≡ bad z → (v ≡ none) × (r.position ≡ z.place)
-      go (some a) e = let n : ◌≡◌ {A = ℕ} 0 1 = cc in absurd (omega arith)
+      go (some a) e = absurd (cc)
       go none e = let p : O.refusal 1 r.position ≡ z = cc in (refl, ap (λ (y : O.Refusal). y.place) p)
 
   run_whole : (r : Run A) {a : A} {n : ℕ} → runs.outcome r ≡ ok (a, n) → (r.value ≡ some a) × (r.position ≡ n)
@@ -55,7 +55,7 @@ module _ {A : Type 0} where
       go (some b) e =
           let p : ◌≡◌ {A = A × ℕ} (b, r.position) (a, n) = cc in
           (ap (λ (x : A × ℕ). some x.0) p, ap (λ (x : A × ℕ). x.1) p)
-      go none e = let n : ◌≡◌ {A = ℕ} 0 1 = cc in absurd (omega arith)
+      go none e = absurd (cc)
 
 -- A CHANNEL, by what the reader of floors gives
 module _ (lengths_of : ℕ → List ℕ) (f : Floor) (s : List ℕ) (k half : ℕ) where
@@ -98,7 +98,7 @@ module _ (lengths_of : ℕ → List ℕ) (f : Floor) (s : List ℕ) (k : ℕ) (e
       where
         go : (o : Option (List ℕ)) → floor_values lengths_of f s k ≡ ok (o, position c) → answered_values entry o ≡ (used, list) → floor_values lengths_of f s k ≡ ok (none, position c)
         go none e a = e
-        go (some ys) e a = let no : true ≡ false = ap (λ (x : Bool × List ℕ). x.0) a ∙ t in let n : ◌≡◌ {A = ℕ} 0 1 = cc in absurd (omega arith)
+        go (some ys) e a = let no : true ≡ false = ap (λ (x : Bool × List ℕ). x.0) a ∙ t in absurd (cc)
 
     pub values_used : used ≡ true → (ys : List ℕ) × (floor_values lengths_of f s k ≡ ok (some ys, position c)) × (sets entry 0 ys ≡ list)
     unfolding answered_values
@@ -106,7 +106,7 @@ module _ (lengths_of : ℕ → List ℕ) (f : Floor) (s : List ℕ) (k : ℕ) (e
       where
         go : (o : Option (List ℕ)) → floor_values lengths_of f s k ≡ ok (o, position c) → answered_values entry o ≡ (used, list)
             → (ys : List ℕ) × (floor_values lengths_of f s k ≡ ok (some ys, position c)) × (sets entry 0 ys ≡ list)
-        go none e a = let no : false ≡ true = ap (λ (x : Bool × List ℕ). x.0) a ∙ t in let n : ◌≡◌ {A = ℕ} 0 1 = cc in absurd (omega arith)
+        go none e a = let no : false ≡ true = ap (λ (x : Bool × List ℕ). x.0) a ∙ t in absurd (cc)
         go (some ys) e a = (ys, e, ap (λ (x : Bool × List ℕ). x.1) a)
 
 -- DRAWING: final Y and flags, then the curve, in buffers that have as many places as there are values

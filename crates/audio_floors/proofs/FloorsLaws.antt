@@ -74,13 +74,13 @@ zeros_after half (f ∷ fs) =
 -- what is known of a run by whether it was cut
 whole_is : {A : Type 0} (v : Option A) → is_cut v ≡ false → (a : A) × (v ≡ some a)
 unfolding is_cut
-whole_is none e = let n : ◌≡◌ {A = ℕ} 0 1 = cc in absurd (omega arith)
+whole_is none e = absurd (cc)
 whole_is (some a) e = (a, refl)
 
 cut_is : {A : Type 0} (v : Option A) → is_cut v ≡ true → v ≡ none
 unfolding is_cut
 cut_is none e = refl
-cut_is (some a) e = let n : ◌≡◌ {A = ℕ} 0 1 = cc in absurd (omega arith)
+cut_is (some a) e = absurd (cc)
 
 -- ONE CHANNEL MORE: f is its floor, fs are those behind it
 module _ (lengths_of : ℕ → List ℕ) (f : Floor) (fs : List Floor) (s : List ℕ) (k : ℕ) where

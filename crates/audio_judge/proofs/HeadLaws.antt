@@ -22,7 +22,7 @@ one_of n x l most h g e = go (eqb n x) refl e
 
 none_of : (n most : ℕ) → listed n [] ≡ true → n ≤ most
 unfolding listed
-none_of n most e = let z : ◌≡◌ {A = ℕ} 0 1 = cc in absurd (omega arith)
+none_of n most e = absurd (cc)
 
 size_high : (n : ℕ) → listed n allowed_sizes ≡ true → n ≤ 8192
 size_high n =

@@ -83,29 +83,29 @@ module _ (room : ℕ) (r : Run Unit) where
       where
         go : (t : Bool) → leb words room ≡ t → (v : Option Unit) → all k n ≡ cond t (ending_by v r.position words) full → (leb words room ≡ true) × (n ≡ words)
         go true q (some a) h = (q, cc)
-        go true q none h = let z : ◌≡◌ {A = ℕ} 0 1 = cc in absurd (omega arith)
-        go false q v h = let z : ◌≡◌ {A = ℕ} 0 1 = cc in absurd (omega arith)
+        go true q none h = absurd (cc)
+        go false q v h = absurd (cc)
 
     pub cut_fits : cut k n ≡ ending_words room r → (leb words room ≡ true) × (n ≡ words)
     unfolding ending_words
     cut_fits e = go (leb words room) refl r.value e
       where
         go : (t : Bool) → leb words room ≡ t → (v : Option Unit) → cut k n ≡ cond t (ending_by v r.position words) full → (leb words room ≡ true) × (n ≡ words)
-        go true q (some a) h = let z : ◌≡◌ {A = ℕ} 0 1 = cc in absurd (omega arith)
+        go true q (some a) h = absurd (cc)
         go true q none h = (q, cc)
-        go false q v h = let z : ◌≡◌ {A = ℕ} 0 1 = cc in absurd (omega arith)
+        go false q v h = absurd (cc)
 
   pub full_fits_not : full ≡ ending_words room r → leb words room ≡ false
   unfolding ending_words
   full_fits_not e = go (leb words room) refl r.value e
     where
       go : (t : Bool) → leb words room ≡ t → (v : Option Unit) → full ≡ cond t (ending_by v r.position words) full → leb words room ≡ false
-      go true q (some a) h = let z : ◌≡◌ {A = ℕ} 0 1 = cc in absurd (omega arith)
-      go true q none h = let z : ◌≡◌ {A = ℕ} 0 1 = cc in absurd (omega arith)
+      go true q (some a) h = absurd (cc)
+      go true q none h = absurd (cc)
       go false q v h = q
 
 bad-ok : {A : Type 0} {z : Refusal} {a : A} → bad z ≡ ok a → ⊥
-bad-ok e = let z : ◌≡◌ {A = ℕ} 0 1 = cc in omega arith
+bad-ok e = cc
 
 -- a refusal: what is known of the outputs, whose lengths are the same, and which are the same where nothing was written
 pub refused_is : (channels : ℕ) (c : Setup) {o : Outcome Accepted} {z : Refusal} {x : Rejected} (entry exit list list' : List ℕ) → o ≡ bad z → reasons.number x.reason ≡ z.number
@@ -126,7 +126,7 @@ ok-err : {A E : Type 0} {a : A} {b : E} → ◌≡◌ {A = Result A E} (Ok a) (E
 ok-err e = cc
 
 true-false : true ≡ false → ⊥
-true-false e = let z : ◌≡◌ {A = ℕ} 0 1 = cc in omega arith
+true-false e = cc
 
 -- how many there are of each
 curves_bytes : (half : ℕ) (fs : List Floor) (vs : List FloorRead) → length vs ≡ length fs → length (curves_of half fs vs) ≡ length fs * half

@@ -2,10 +2,6 @@
 use Rattle.audio_residues.proofs.SubmapLaws.{mapping_low, submap_low, size_low, residue_readable, residue_read, digits_low, top_fits, pass_readable}
 use Rattle.audio_residues.proofs.submap.read_submap.Goals as goal
 
-pub submap_residue-residue-requires : goal.submap_residue-residue-requires
-submap_residue-residue-requires c =
-    let pre = c.requires in
-    (mapping_low _ _ _ _ _ _ _ _ _ _ pre.1, submap_low _ _ _ _ _ _ _ _ _ _ pre.1 _ pre.2)
 
 pub submap_extent-extent-requires : goal.submap_extent-extent-requires
 submap_extent-extent-requires c =
