@@ -86,7 +86,7 @@ module _ (books lengths floors residues plans mappings : List ℕ) (n channels h
       where
         go : (v : Option (List FloorRead)) → floors_run.value ≡ v → is_cut v ≡ true → floors_run.value ≡ none
         go none q h = q
-        go (some vs) q h = let z : ◌≡◌ {A = ℕ} 0 1 = cc in absurd (omega arith)
+        go (some vs) q h = absurd (cc)
 
     pub body_cut : {z : F.Cut} → r.end ≡ Err z → BodyIs body_run fs whole channels half (record { used = r.used; words = Err (Cut (record { at = z.place; count = 0 })) }) entry exit list list
     unfolding body_in ending_of
@@ -110,7 +110,7 @@ module _ (books lengths floors residues plans mappings : List ℕ) (n channels h
     was_whole e = go floors_run.value refl (sym f.cut ∙ e)
       where
         go : (v : Option (List FloorRead)) → floors_run.value ≡ v → is_cut v ≡ false → AllWhole
-        go none q h = let z : ◌≡◌ {A = ℕ} 0 1 = cc in absurd (omega arith)
+        go none q h = absurd (cc)
         go (some vs) q h = record { read_floors = vs; value = q }
 
     pub body_whole : channels ≤ 255 → {at : Cursor} → r.end ≡ Ok at → {x : Result Progress Stop} {list' : List ℕ}

@@ -20,7 +20,7 @@ use setup::lent::LentTables;
 // What the floors of all channels come to.
 #[derive(Clone, Copy)]
 pub struct FloorsRead {
-    // For each channel 1 where its floor is used; zeros behind the last channel, and from a cut on.
+    // For each channel 1 where its floor is used; zeros behind the last channel, and from a cut on. Bytes, as the answer has them for C (AudioAnswer).
     pub used: [u8; 255],
     // The position behind the last floor, or the cut.
     pub end: Result<Cursor, Cut>,
