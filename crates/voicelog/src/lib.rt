@@ -3,11 +3,13 @@
 
 pub mod running;
 
+use setup::lent::LentTablesMut;
 use std::io::{Stdin, Stdout};
 
 // Takes all records of standard input and writes their lines to standard output. It answers 0 where the input was read to its end (also one that ends inside a
 // record), 1 where standard output failed, 2 where standard input failed, 3 where there are more records than can be counted. No contract can say what is read
 // or written: what stands for it are the contracts of `record_progress` and `record_taking`, by which the lines of whatever was read are those of `report`.
+// The ten tables come one by one and the status goes as a number, as tool/voicelog.c has them.
 pub fn voicelog(
     stdin: Stdin,
     stdout: Stdout,
@@ -26,9 +28,7 @@ pub fn voicelog(
     input: &mut [u8; 65536],
     lines: &mut [u8; 65536],
 ) -> u32 {
-    running::run(
-        stdin,
-        stdout,
+    let mut tables = LentTablesMut {
         counts,
         books,
         lengths,
@@ -39,9 +39,15 @@ pub fn voicelog(
         plans,
         mappings,
         modes,
+    };
+    let status = running::run(
+        stdin,
+        stdout,
+        &mut tables,
         curves,
         words,
         input,
         lines,
-    )
+    );
+    status as u32
 }

@@ -3,8 +3,8 @@ use borrow.Author.Rules.{rules}
 use Rattle.record_step.proofs.StartLaws.{tool_tables}
 use Rattle.voicelog.proofs.voicelog.Goals as goal
 
-pub run-requires : goal.run-requires
-run-requires c =
+pub run-status-requires : goal.run-status-requires
+run-status-requires c =
     record {
       tables =
           tool_tables c.args.counts.now c.args.books.now c.args.lengths.now c.args.codewords.now c.args.multiplicands.now c.args.floors.now c.args.residues.now c.args.plans.now c.args.mappings.now c.args.modes.now
