@@ -5,7 +5,8 @@
 use std::io::{Stdin, Stdout};
 
 // Takes all records of standard input and writes their lines to standard output. It answers 0 where the input was read to its end (also one that ends inside a
-// record), 1 where standard output failed, 2 where standard input failed, 3 where there are more records than can be counted.
+// record), 1 where standard output failed, 2 where standard input failed, 3 where there are more records than can be counted. The parameters are those that
+// tool/voicelog.c declares: each table comes by itself.
 #[unsafe(no_mangle)]
 pub extern "C" fn voicelog(
     stdin: Stdin,
