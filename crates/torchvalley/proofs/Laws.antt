@@ -1,21 +1,19 @@
 -- The front door's answers, as the code asks them; an accepted identity is sound and a refusal's is not. Assumes nothing.
 use Rattle.codeword_assignment.specs.Book as B
-use Rattle.codeword_assignment.specs.Book.{assigned, written}
-use Rattle.codeword_assignment.specs.declared.book.Assigned.{Assigned}
-use Prim.Native.Nat.{ℕ, ◌≤◌}
+use Rattle.codeword_assignment.specs.Book.{Assigned, assigned, written}
+use Rattle.std.specs.Prelude.{Result, Ok, Err}
+use Rattle.bits.specs.Reasons as N
+use Prim.Native.Nat.{ℕ}
 use native.Mathlib.Omega.{arith}
 use borrow.Author.Rules.{rules}
 use mathlib.Core.Bool.{Bool, true}
 use mathlib.Core.List.{List}
 use mathlib.Core.Logic.{◌↔◌}
 use mathlib.Core.Path.{◌≡◌, refl, sym, ap, subst, ◌∙◌}
-use Rattle.reading.specs.Outcome.{Outcome, ok, bad}
+use Rattle.reading.specs.Outcome.{Outcome}
 use Rattle.reading.proofs.Outcomes.{Numbered, value, number}
-use Rattle.bits.specs.declared.Refusal.{Refusal}
-use Rattle.bits.specs.Inner.Cursors.{refusal_of}
+use Rattle.bits.specs.declared.refusal.Refusal.{Refusal}
 use Rattle.identification.specs.declared.Identity.{Identity}
-use Rattle.identification.specs.declared.Identified.{Identified}
-use Rattle.identification.specs.declared.Identified.TheVariants.{Accepted, Refused}
 use Rattle.identification.specs.Inner.Answers.{identified}
 use Rattle.identification.specs.Identification.{identification}
 use Rattle.identification.specs.Sound.{Sound}
@@ -25,12 +23,12 @@ use Rattle.torchvalley.specs.declared.IdentityAnswer.{IdentityAnswer}
 use Rattle.torchvalley.specs.Answers.{answer_of, no_identity}
 
 -- each way out of the call
-module _ (s : List ℕ) {most : ℕ} (e : most ≡ 8) {r : Identified} (p : identified r ≡ identification most s) where
-  pub answer_accepted : {i : Identity} → r ≡ Accepted i → record { refusal = 0; identity = i } ≡ answer_of (identification 8 s)
+module _ (s : List ℕ) {most : ℕ} (e : most ≡ 8) {r : Result Identity Refusal} (p : identified r ≡ identification most s) where
+  pub answer_accepted : {i : Identity} → r ≡ Ok i → record { refusal = 0; identity = i } ≡ answer_of (identification 8 s)
   unfolding identified answer_of
   answer_accepted q = rw (← e, ← p, q)
 
-  pub answer_refused : {z : Refusal} → r ≡ Refused z → {n : ℕ} → n ≡ z.number → {i : Identity} → i ≡ no_identity
+  pub answer_refused : {z : Refusal} → r ≡ Err z → {n : ℕ} → n ≡ N.number z.reason → {i : Identity} → i ≡ no_identity
       → record { refusal = n; identity = i } ≡ answer_of (identification 8 s)
   unfolding identified answer_of
   answer_refused q f g = rw (← e, ← p, q, f, g)

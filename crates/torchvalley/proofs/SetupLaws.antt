@@ -1,4 +1,5 @@
 -- The front door's calls for a setup, at the standard limits, as the code asks them. Assumes nothing.
+use Rattle.std.specs.Prelude.{Result, Ok, Err}
 use Prim.Native.Nat.{ℕ, ◌+◌, ◌*◌, ◌^◌, ◌/◌, ◌%◌, ◌≤◌, ◌<◌}
 use native.Mathlib.Omega.{arith}
 use borrow.Author.Rules.{rules}
@@ -8,10 +9,9 @@ use mathlib.Core.Path.{◌≡◌, refl, sym, ap, subst, ◌∙◌}
 use lib.ListN.{length}
 use Rattle.reading.specs.Outcome.{Outcome, ok, bad}
 use Rattle.bits.specs.declared.Cursor.{Cursor}
-use Rattle.bits.specs.declared.Refusal.{Refusal}
-use Rattle.bits.specs.declared.Field.{Field}
-use Rattle.bits.specs.declared.Field.TheVariants.{Value, Refused}
+use Rattle.bits.specs.declared.refusal.Refusal.{Refusal}
 use Rattle.bits.specs.Inner.Cursors.{position, outcome}
+use Rattle.bits.specs.Reasons.{number}
 use Rattle.limits.specs.declared.Limits.{Limits}
 use Rattle.identification.specs.declared.Identity.{Identity}
 use Rattle.setup.specs.Layout.{Tables}
@@ -41,7 +41,7 @@ module _ {l : Limits} (e : (l.channels ≡ 8) × (l.book_entries ≡ 8192) × (l
   sound_standard {i} {t} {r} p = subst (λ (x : Limits). (r ≡ sound_test x i t) × Tested x i t) same p
 
   -- one codeword: the call's outcome under the standard limits, and what is answered of it
-  pub codeword_standard : (i : Identity) (t : Tables) (b k : ℕ) (s : List ℕ) (f : Field) {r : CodewordAnswer} → (outcome f ≡ codeword_call l i t b s k) × Demand3 l
+  pub codeword_standard : (i : Identity) (t : Tables) (b k : ℕ) (s : List ℕ) (f : Result (ℕ × Cursor) Refusal) {r : CodewordAnswer} → (outcome f ≡ codeword_call l i t b s k) × Demand3 l
       → r ≡ codeword_answer (outcome f) → (r ≡ codeword_answer (codeword_call standard i t b s k)) × Demand3 standard
   codeword_standard i t b k s f {r} p e =
       subst (λ (x : Limits). (r ≡ codeword_answer (codeword_call x i t b s k)) × Demand3 x) same (e ∙ ap codeword_answer p.0, p.1)
@@ -52,27 +52,27 @@ unfolding Addressable
 addressable_ok (ok x) n h w = let y = w x refl in omega arith
 addressable_ok (bad z) n h w = tt
 
-pub call_addressable : {l : Limits} (i : Identity) (t : Tables) (b k : ℕ) (s : List ℕ) (f : Field) → (outcome f ≡ codeword_call l i t b s k) × Demand3 l → length s < 2 ^ 64 → Addressable (outcome f)
+pub call_addressable : {l : Limits} (i : Identity) (t : Tables) (b k : ℕ) (s : List ℕ) (f : Result (ℕ × Cursor) Refusal) → (outcome f ≡ codeword_call l i t b s k) × Demand3 l → length s < 2 ^ 64 → Addressable (outcome f)
 call_addressable {l} i t b k s f p h = addressable_ok (outcome f) (length s) h (λ x e. call_within l i t b s k x (sym p.0 ∙ e))
 
 -- byte and bit of a place
-pub byte_is : (byte bit : ℕ) {w : ℕ} → w ≡ bit / 8 → byte + w ≡ (8 * byte + bit) / 8
-byte_is byte bit e = omega arith
+pub byte_is : (byte bit : ℕ) → byte + bit / 8 ≡ (8 * byte + bit) / 8
+byte_is byte bit = omega arith
 
 pub bit_is : (byte bit : ℕ) → bit % 8 ≡ (8 * byte + bit) % 8
 bit_is byte bit = omega arith
 
 -- what the answer of one codeword says
-module _ (f : Field) where
-  pub answer_refused : {z : Refusal} {n : ℕ} → f ≡ Refused z → n ≡ z.number → record { refusal = n; entry = 0; byte = 0; bit = 0 } ≡ codeword_answer (outcome f)
+module _ (f : Result (ℕ × Cursor) Refusal) where
+  pub answer_refused : {z : Refusal} {n : ℕ} → f ≡ Err z → n ≡ number z.reason → record { refusal = n; entry = 0; byte = 0; bit = 0 } ≡ codeword_answer (outcome f)
   unfolding outcome codeword_answer
   answer_refused {z} {n} q h = rw q (λ j. record { refusal = h j; entry = 0; byte = 0; bit = 0 })
 
-  pub answer_read : {v byte bit : ℕ} {c : Cursor} → f ≡ Value v c → byte ≡ position c / 8 → bit ≡ position c % 8 → record { refusal = 0; entry = v; byte = byte; bit = bit } ≡ codeword_answer (outcome f)
+  pub answer_read : {v byte bit : ℕ} {c : Cursor} → f ≡ Ok (v, c) → byte ≡ position c / 8 → bit ≡ position c % 8 → record { refusal = 0; entry = v; byte = byte; bit = bit } ≡ codeword_answer (outcome f)
   unfolding outcome codeword_answer
   answer_read {v} {byte} {bit} {c} q h g = rw q (λ j. record { refusal = 0; entry = v; byte = h j; bit = g j })
 
-  pub place_addressable : {v : ℕ} {c : Cursor} → f ≡ Value v c → Addressable (outcome f) → position c ≤ 8 * 18446744073709551615
+  pub place_addressable : {v : ℕ} {c : Cursor} → f ≡ Ok (v, c) → Addressable (outcome f) → position c ≤ 8 * 18446744073709551615
   unfolding outcome Addressable
   place_addressable q h = rw q at h
 

@@ -5,7 +5,8 @@ ghost use Rattle.codespace.specs.Answers.{outcome};
 ghost use Rattle.codespace.specs.Entering.{entered_all};
 ghost use Rattle.codeword_assignment.specs.Book.{assigned, written, refusal};
 
-use codeword_assignment::book::Assigned;
+use codespace::space::TooShort;
+use codeword_assignment::book::Unassigned;
 
 // Enters any lengths one by one, from an empty space. The answer is 0, and `answers` has the answer to each length, its codeword or 2^32 for a refusal, and
 // zeros behind them; or 17, where there are fewer places than lengths, and all are zero.
@@ -13,7 +14,10 @@ pub fn torchvalley_enter_lengths(lengths: &[u8], answers: &mut [u64]) -> u32
     ensures answers_after { (result, answers.new) ≡ entered_all lengths.now (length answers.old) }
     ensures balanced { result ≡ 0 → Balanced lengths.now (map outcome (take (length lengths.now) answers.new)) }
 {
-    codespace::space::enter_lengths(lengths, answers)
+    match codespace::space::enter_lengths(lengths, answers) {
+        Ok(()) => 0,
+        Err(TooShort) => 17,
+    }
 }
 
 // Hands out each used entry's codeword, in entry order, the lowest free of its length; 0 for an unused entry, and in places behind them. The answer is 0, or
@@ -24,16 +28,10 @@ pub fn torchvalley_codewords(lengths: &[u8], codewords: &mut [u32]) -> u32
         ≡ written (assigned lengths.now (length codewords.old)) lengths.now
         (length codewords.old) }
 {
-    number_of(codeword_assignment::book::assign_codewords(lengths, codewords))
-}
-
-fn number_of(assigned: Assigned) -> u32
-    ensures { result ≡ refusal assigned }
-{
-    match assigned {
-        Assigned::Accepted => 0,
-        Assigned::Overspecified(_) => 7,
-        Assigned::Underspecified => 8,
-        Assigned::TooShort => 17,
+    match codeword_assignment::book::assign_codewords(lengths, codewords) {
+        Ok(()) => 0,
+        Err(Unassigned::Overspecified(_)) => 7,
+        Err(Unassigned::Underspecified) => 8,
+        Err(Unassigned::TooShort) => 17,
     }
 }

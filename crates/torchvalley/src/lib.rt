@@ -12,8 +12,7 @@ ghost use Rattle.identification.specs.Identification.{identification};
 ghost use Rattle.identification.specs.Sound.{Sound};
 ghost use Rattle.torchvalley.specs.Answers.{answer_of, no_identity};
 
-use bits::number_of;
-use identification::{Identified, Identity};
+use identification::Identity;
 use limits::Limits;
 
 // What an identification packet comes to.
@@ -32,12 +31,12 @@ pub fn torchvalley_identification(packet: &[u8]) -> IdentityAnswer
     ensures sound { (result.refusal ≡ 0) ↔ Sound 8 result.identity }
 {
     match identification::read(packet, Limits::standard()) {
-        Identified::Accepted(identity) => IdentityAnswer {
+        Ok(identity) => IdentityAnswer {
             refusal: 0,
             identity,
         },
-        Identified::Refused(refusal) => IdentityAnswer {
-            refusal: number_of(refusal),
+        Err(refusal) => IdentityAnswer {
+            refusal: refusal.reason.number() as u32,
             identity: no_identity(),
         },
     }

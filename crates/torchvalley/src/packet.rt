@@ -1,12 +1,13 @@
 // The audio packet, by the tables of a setup (003, section 4.3; 01, "Audio order").
 ghost use Rattle.std.specs.Prelude.{◌≡◌};
 ghost use Rattle.limits.specs.Standard.{standard};
-ghost use Rattle.setup.specs.Handed.{shared};
+ghost use Rattle.setup.specs.Handed.{held};
 ghost use Rattle.audio.specs.Call.{audio_call, room_of, left_of};
 ghost use Rattle.audio.specs.Claims.{AudioClaims};
 
 use audio::{AudioAnswer, AudioLeft, Tally};
 use identification::Identity;
+use setup::lent::LentTables;
 
 // Reads an audio packet, under 01's limits; the tally is brought up to date where it lies. Accepted, the answer's refusal is 0, `curves` has channels times n/2
 // bytes and `words` the codewords of the residues, zeros behind them. Else the answer is the number of the refusal alone, both outputs are all zero and the
@@ -14,43 +15,18 @@ use identification::Identity;
 pub fn torchvalley_audio(
     tally: &mut Tally,
     identity: Identity,
-    counts: &[u32],
-    books: &[u32],
-    lengths: &[u8],
-    codewords: &[u32],
-    multiplicands: &[u16],
-    floors: &[u16],
-    residues: &[u32],
-    plans: &[u16],
-    mappings: &[u8],
-    modes: &[u8],
+    tables: LentTables<'_>,
     packet: &[u8],
     curves: &mut [u8],
     words: &mut [u32],
 ) -> AudioAnswer
     ensures words_after { left_of result tally.new curves.new words.new
-        ≡ audio_call standard identity (shared counts books lengths codewords multiplicands floors residues plans mappings modes)
+        ≡ audio_call standard identity (held tables.entry)
         tally.old packet.now (room_of curves.old words.old) }
-    ensures audio_claims { AudioClaims standard identity (shared counts books lengths codewords multiplicands floors residues plans mappings modes)
+    ensures audio_claims { AudioClaims standard identity (held tables.entry)
         tally.old packet.now (room_of curves.old words.old) }
 {
-    let left = audio_call::audio_by_value(
-        *tally,
-        identity,
-        counts,
-        books,
-        lengths,
-        codewords,
-        multiplicands,
-        floors,
-        residues,
-        plans,
-        mappings,
-        modes,
-        packet,
-        curves,
-        words,
-    );
+    let left = audio_call::audio_by_value(*tally, identity, tables, packet, curves, words);
     *tally = left.tally;
     left.answer
 }
@@ -59,41 +35,16 @@ pub fn torchvalley_audio(
 pub fn torchvalley_audio_by_value(
     tally: Tally,
     identity: Identity,
-    counts: &[u32],
-    books: &[u32],
-    lengths: &[u8],
-    codewords: &[u32],
-    multiplicands: &[u16],
-    floors: &[u16],
-    residues: &[u32],
-    plans: &[u16],
-    mappings: &[u8],
-    modes: &[u8],
+    tables: LentTables<'_>,
     packet: &[u8],
     curves: &mut [u8],
     words: &mut [u32],
 ) -> AudioLeft
     ensures words_after { left_of result.answer result.tally curves.new words.new
-        ≡ audio_call standard identity (shared counts books lengths codewords multiplicands floors residues plans mappings modes)
+        ≡ audio_call standard identity (held tables.entry)
         tally packet.now (room_of curves.old words.old) }
-    ensures audio_claims { AudioClaims standard identity (shared counts books lengths codewords multiplicands floors residues plans mappings modes)
+    ensures audio_claims { AudioClaims standard identity (held tables.entry)
         tally packet.now (room_of curves.old words.old) }
 {
-    audio_call::audio_by_value(
-        tally,
-        identity,
-        counts,
-        books,
-        lengths,
-        codewords,
-        multiplicands,
-        floors,
-        residues,
-        plans,
-        mappings,
-        modes,
-        packet,
-        curves,
-        words,
-    )
+    audio_call::audio_by_value(tally, identity, tables, packet, curves, words)
 }

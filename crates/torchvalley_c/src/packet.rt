@@ -7,6 +7,7 @@ ghost use Rattle.audio.specs.Claims.{AudioClaims};
 
 use audio::{AudioAnswer, AudioLeft, Tally};
 use identification::Identity;
+use setup::lent::LentTables;
 
 // Reads an audio packet, under 01's limits; the tally is brought up to date where it lies. Accepted, the answer's refusal is 0, `curves` has channels times n/2
 // bytes and `words` the codewords of the residues, zeros behind them. Else the answer is the number of the refusal alone, both outputs are all zero and the
@@ -35,9 +36,7 @@ pub extern "C" fn torchvalley_audio(
     ensures audio_claims { AudioClaims standard identity (shared counts books lengths codewords multiplicands floors residues plans mappings modes)
         tally.old packet.now (room_of curves.old words.old) }
 {
-    torchvalley::packet::torchvalley_audio(
-        tally,
-        identity,
+    let tables = LentTables {
         counts,
         books,
         lengths,
@@ -48,10 +47,8 @@ pub extern "C" fn torchvalley_audio(
         plans,
         mappings,
         modes,
-        packet,
-        curves,
-        words,
-    )
+    };
+    torchvalley::packet::torchvalley_audio(tally, identity, tables, packet, curves, words)
 }
 
 // The same with the tally by value: the tally after the packet comes back with the answer.
@@ -79,9 +76,7 @@ pub extern "C" fn torchvalley_audio_by_value(
     ensures audio_claims { AudioClaims standard identity (shared counts books lengths codewords multiplicands floors residues plans mappings modes)
         tally packet.now (room_of curves.old words.old) }
 {
-    torchvalley::packet::torchvalley_audio_by_value(
-        tally,
-        identity,
+    let tables = LentTables {
         counts,
         books,
         lengths,
@@ -92,8 +87,6 @@ pub extern "C" fn torchvalley_audio_by_value(
         plans,
         mappings,
         modes,
-        packet,
-        curves,
-        words,
-    )
+    };
+    torchvalley::packet::torchvalley_audio_by_value(tally, identity, tables, packet, curves, words)
 }

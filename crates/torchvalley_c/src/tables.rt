@@ -10,6 +10,7 @@ ghost use Rattle.limits.specs.Standard.{standard};
 ghost use Rattle.torchvalley.specs.Codeword.{codeword_answer};
 
 use identification::Identity;
+use setup::lent::{LentTables, LentTablesMut};
 use torchvalley::tables::CodewordAnswer;
 
 // Reads a setup packet into the lent tables, under 01's limits. 0 where it is accepted: the tables hold its content, and zeros behind it. Else the
@@ -34,9 +35,7 @@ pub extern "C" fn torchvalley_setup(
     ensures accepted_sound { AcceptedSound standard identity packet.now
         (handed counts books lengths codewords multiplicands floors residues plans mappings modes) }
 {
-    torchvalley::tables::torchvalley_setup(
-        identity,
-        packet,
+    let mut tables = LentTablesMut {
         counts,
         books,
         lengths,
@@ -47,7 +46,8 @@ pub extern "C" fn torchvalley_setup(
         plans,
         mappings,
         modes,
-    )
+    };
+    torchvalley::tables::torchvalley_setup(identity, packet, &mut tables)
 }
 
 // Whether the identity is sound, and the tables are the writing-out of some setup that meets every rule for it.
@@ -68,8 +68,7 @@ pub extern "C" fn torchvalley_setup_sound(
     ensures value { result ≡ sound_test standard identity (shared counts books lengths codewords multiplicands floors residues plans mappings modes) }
     ensures tested { Tested standard identity (shared counts books lengths codewords multiplicands floors residues plans mappings modes) }
 {
-    torchvalley::tables::torchvalley_setup_sound(
-        identity,
+    let tables = LentTables {
         counts,
         books,
         lengths,
@@ -80,7 +79,8 @@ pub extern "C" fn torchvalley_setup_sound(
         plans,
         mappings,
         modes,
-    )
+    };
+    torchvalley::tables::torchvalley_setup_sound(identity, tables)
 }
 
 // Reads one codeword of a book of the tables, at a bit of a byte of the packet.
@@ -107,8 +107,7 @@ pub extern "C" fn torchvalley_codeword(
         book packet.now (8 * byte + bit)) }
     ensures demand3 { Demand3 standard }
 {
-    torchvalley::tables::torchvalley_codeword(
-        identity,
+    let tables = LentTables {
         counts,
         books,
         lengths,
@@ -119,9 +118,6 @@ pub extern "C" fn torchvalley_codeword(
         plans,
         mappings,
         modes,
-        book,
-        packet,
-        byte,
-        bit,
-    )
+    };
+    torchvalley::tables::torchvalley_codeword(identity, tables, book, packet, byte, bit)
 }

@@ -15,14 +15,14 @@ enum_known-identity c = search door_laws
 pub enum_known-refusal : goal.enum_known-refusal
 enum_known-refusal c = search door_laws
 
-pub number_of-requires : goal.number_of-requires
-number_of-requires c = search door_laws
+pub number-requires : goal.number-requires
+number-requires c = search door_laws
 
 pub no_identity-requires : goal.no_identity-requires
 no_identity-requires c = search door_laws
 
-pub returns-in-Accepted : goal.returns-in-Accepted
-returns-in-Accepted c = let both = and_sound _ _ (search door_laws) in record { value = both.0; sound = both.1 }
+pub returns-in-Ok : goal.returns-in-Ok
+returns-in-Ok c = let both = and_sound _ _ (search door_laws) in record { value = both.0; sound = both.1 }
 
-pub returns-in-Refused : goal.returns-in-Refused
-returns-in-Refused c = let both = and_sound _ _ (search door_laws) in record { value = both.0; sound = both.1 }
+pub returns-in-Err : goal.returns-in-Err
+returns-in-Err c = let both = and_sound _ _ (search door_laws) in record { value = both.0; sound = both.1 }

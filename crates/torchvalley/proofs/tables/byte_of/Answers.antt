@@ -3,4 +3,4 @@ use Rattle.torchvalley.proofs.SetupLaws.{byte_is}
 use Rattle.torchvalley.proofs.tables.byte_of.Goals as goal
 
 pub returns : goal.returns
-returns c = byte_is _ _ c.wide_u8.ensures
+returns c = byte_is _ _

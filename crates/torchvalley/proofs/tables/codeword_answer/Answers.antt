@@ -5,8 +5,8 @@ use Rattle.torchvalley.proofs.tables.codeword_answer.Goals as goal
 pub byte_of-requires : goal.byte_of-requires
 byte_of-requires c = search answer_laws
 
-pub returns-in-Refused : goal.returns-in-Refused
-returns-in-Refused c = search answer_laws
+pub returns-in-Err : goal.returns-in-Err
+returns-in-Err c = search answer_laws
 
-pub returns-in-Value : goal.returns-in-Value
-returns-in-Value c = search answer_laws
+pub returns-in-Ok : goal.returns-in-Ok
+returns-in-Ok c = search answer_laws

@@ -6,7 +6,7 @@ pub read_codeword-read-requires : goal.read_codeword-read-requires
 read_codeword-read-requires c = small c.standard.ensures
 
 pub codeword_answer-requires : goal.codeword_answer-requires
-codeword_answer-requires c = call_addressable _ _ _ _ _ _ (c.read_codeword-read.ensures.result_value, c.read_codeword-read.ensures.demand3) c.well_formed.1.1.1.1.1.1.1.1.1.1.1.1.0.0
+codeword_answer-requires c = call_addressable _ _ _ _ _ _ (c.read_codeword-read.ensures.result_value, c.read_codeword-read.ensures.demand3) c.well_formed.1.1.1.0.0
 
 pub returns : goal.returns
 returns c = let both = codeword_standard c.standard.ensures _ _ _ _ _ _ (c.read_codeword-read.ensures.result_value, c.read_codeword-read.ensures.demand3) c.codeword_answer.ensures in record { value = both.0; demand3 = both.1 }

@@ -7,4 +7,4 @@ read_setup-requires c = small c.standard.ensures
 
 pub returns : goal.returns
 returns c =
-    let both = setup_standard c.standard.ensures (c.read_setup.ensures.modes_value, c.read_setup.ensures.accepted_sound) in record { answer = both.0; accepted_sound = both.1 }
+    let both = setup_standard c.standard.ensures (c.read_setup.ensures.modes_value, c.read_setup.ensures.accepted_sound) in record { answer = both.0; accepted_sound = both.1; lent = c.read_setup.ensures.lent }
