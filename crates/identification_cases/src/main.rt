@@ -30,11 +30,10 @@ fn cut(out: Stdout, number: u64, packet: [u8; 31], length: usize) -> io::Result<
 
 // What a packet came to, as the tool has it.
 fn came_to(answer: IdentityAnswer) -> Answer {
-    if answer.refusal == 0 {
-        let identity = answer.identity;
-        return Answer::Identified(identity);
+    match answer.refusal {
+        0 => Answer::Identified(answer.identity),
+        number => Answer::Refused(number),
     }
-    Answer::Refused(answer.refusal)
 }
 
 // The tool's line, to standard output.
@@ -44,34 +43,12 @@ fn write_line(out: Stdout, number: u64, answer: Answer) -> io::Result<()> {
     out.write_all(&line[..end])
 }
 
-// The good packet's first `length` bytes, one of them changed.
-fn changed(out: Stdout, number: u64, at: usize, byte: u8, length: usize) -> io::Result<()>
-    requires at_bound { at < 31 }
-    requires length_len_bound { length ≤ 31 }
+// A packet with one byte changed.
+fn changed(mut packet: [u8; 31], at: usize, byte: u8) -> [u8; 31]
+    requires { at < 31 }
 {
-    let mut packet = good();
     packet[at] = byte;
-    cut(out, number, packet, length)
-}
-
-// The good packet's first `length` bytes, two of them changed.
-fn changed_twice(
-    out: Stdout,
-    number: u64,
-    at: usize,
-    byte: u8,
-    also: usize,
-    other: u8,
-    length: usize,
-) -> io::Result<()>
-    requires at_bound { at < 31 }
-    requires also_bound { also < 31 }
-    requires length_len_bound { length ≤ 31 }
-{
-    let mut packet = good();
-    packet[at] = byte;
-    packet[also] = other;
-    cut(out, number, packet, length)
+    packet
 }
 
 fn main(rt: HostRuntime) -> io::Result<()> {
@@ -90,71 +67,67 @@ fn main(rt: HostRuntime) -> io::Result<()> {
 
 // Every cut length.
 fn cuts(out: Stdout) -> io::Result<()> {
-    let mut length: usize = 0;
-    while length < 30 {
+    for length in 0..30 {
         cut(out, 100 + length as u64, good(), length)?;
-        length = length + 1;
     }
     Ok(())
 }
 
 // Each of the seven opening bytes wrong.
 fn wrong_bytes(out: Stdout) -> io::Result<()> {
-    let mut at: usize = 0;
-    while at < 7 {
-        changed(out, 200 + at as u64, at, 0, 30)?;
-        at = at + 1;
+    for at in 0..7 {
+        cut(out, 200 + at as u64, changed(good(), at, 0), 30)?;
     }
     Ok(())
 }
 
 // Version 1 in its lowest and in its highest bit; before the channels; a version that is cut is a cut, whatever its bits show.
 fn versions(out: Stdout) -> io::Result<()> {
-    changed(out, 10, 7, 1, 30)?;
-    changed(out, 11, 10, 0x80, 30)?;
-    changed_twice(out, 12, 7, 1, 11, 0, 30)?;
-    changed(out, 13, 7, 1, 10)
+    cut(out, 10, changed(good(), 7, 1), 30)?;
+    cut(out, 11, changed(good(), 10, 0x80), 30)?;
+    cut(out, 12, changed(changed(good(), 7, 1), 11, 0), 30)?;
+    cut(out, 13, changed(good(), 7, 1), 10)
 }
 
 // 8, 9, 255 and 0 channels; judged at their byte, before a rate that is 0 or cut.
 fn channels(out: Stdout) -> io::Result<()> {
-    changed(out, 20, 11, 8, 30)?;
-    changed(out, 21, 11, 9, 30)?;
-    changed(out, 22, 11, 255, 30)?;
-    changed(out, 23, 11, 0, 30)?;
-    changed(out, 24, 11, 0, 12)?;
-    changed(out, 25, 11, 9, 12)
+    cut(out, 20, changed(good(), 11, 8), 30)?;
+    cut(out, 21, changed(good(), 11, 9), 30)?;
+    cut(out, 22, changed(good(), 11, 255), 30)?;
+    cut(out, 23, changed(good(), 11, 0), 30)?;
+    cut(out, 24, changed(good(), 11, 0), 12)?;
+    cut(out, 25, changed(good(), 11, 9), 12)
 }
 
 // Rate 0, and the greatest byte in the highest place.
 fn rates(out: Stdout) -> io::Result<()> {
-    changed_twice(out, 30, 12, 0, 13, 0, 30)?;
-    changed_twice(out, 31, 12, 0, 13, 0, 16)?;
-    changed_twice(out, 32, 12, 0, 15, 0x80, 30)
+    cut(out, 30, changed(changed(good(), 12, 0), 13, 0), 30)?;
+    cut(out, 31, changed(changed(good(), 12, 0), 13, 0), 16)?;
+    cut(out, 32, changed(changed(good(), 12, 0), 15, 0x80), 30)
 }
 
 // Exponents 5 and 14, each of the two; 6 and 13; equal; the first above the second.
 fn block_sizes(out: Stdout) -> io::Result<()> {
-    changed(out, 40, 28, 0xB5, 30)?;
-    changed(out, 41, 28, 0xBE, 30)?;
-    changed(out, 42, 28, 0x58, 30)?;
-    changed(out, 43, 28, 0xE8, 30)?;
-    changed(out, 44, 28, 0xD6, 30)?;
-    changed(out, 45, 28, 0x88, 30)?;
-    changed(out, 46, 28, 0x8B, 30)?;
-    changed(out, 47, 28, 0x8B, 29)
+    cut(out, 40, changed(good(), 28, 0xB5), 30)?;
+    cut(out, 41, changed(good(), 28, 0xBE), 30)?;
+    cut(out, 42, changed(good(), 28, 0x58), 30)?;
+    cut(out, 43, changed(good(), 28, 0xE8), 30)?;
+    cut(out, 44, changed(good(), 28, 0xD6), 30)?;
+    cut(out, 45, changed(good(), 28, 0x88), 30)?;
+    cut(out, 46, changed(good(), 28, 0x8B), 30)?;
+    cut(out, 47, changed(good(), 28, 0x8B), 29)
 }
 
 // Framing bit 0, with and without other bits in its byte; 1 with other bits.
 fn framing(out: Stdout) -> io::Result<()> {
-    changed(out, 50, 29, 0, 30)?;
-    changed(out, 51, 29, 0xFE, 30)?;
-    changed(out, 52, 29, 0xFF, 30)
+    cut(out, 50, changed(good(), 29, 0), 30)?;
+    cut(out, 51, changed(good(), 29, 0xFE), 30)?;
+    cut(out, 52, changed(good(), 29, 0xFF), 30)
 }
 
 // A wrong name byte, and then the end: each byte is judged before the next is needed.
 fn opening(out: Stdout) -> io::Result<()> {
-    changed(out, 60, 1, 0, 2)?;
-    changed(out, 61, 1, 0, 1)?;
-    changed(out, 62, 0, 5, 1)
+    cut(out, 60, changed(good(), 1, 0), 2)?;
+    cut(out, 61, changed(good(), 1, 0), 1)?;
+    cut(out, 62, changed(good(), 0, 5), 1)
 }
