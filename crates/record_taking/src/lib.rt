@@ -29,6 +29,7 @@ pub fn take_records(
     ensures lent { StaysLent tables.old tables.new }
 {
     let mut at = progress;
+    // No `for`: how many records are taken is known only where the bytes end, and the first is taken before that is asked.
     loop {
         at = take_record(at, input, tables, curves, words, lines);
         if !may_go_on(at, lines.len()) {

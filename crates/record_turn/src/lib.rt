@@ -25,7 +25,8 @@ pub enum Status {
     NotCounted = 3,
 }
 
-// Writes the lines that were put, and reads more where that is needed. The run ends, or it goes on: how far it has come, and where the bytes end that were read.
+// Writes the lines that were put, and reads more where that is needed. The run ends with a status, or it goes on: how far it has come, and where the bytes end
+// that were read.
 pub fn after_records(
     stdin: Stdin,
     stdout: Stdout,
