@@ -14,10 +14,10 @@ pub fn torchvalley_enter_lengths(lengths: &[u8], answers: &mut [u64]) -> u32
     ensures answers_after { (result, answers.new) ≡ entered_all lengths.now (length answers.old) }
     ensures balanced { result ≡ 0 → Balanced lengths.now (map outcome (take (length lengths.now) answers.new)) }
 {
-    match codespace::space::enter_lengths(lengths, answers) {
-        Ok(()) => 0,
-        Err(TooShort) => 17,
+    if let Err(TooShort) = codespace::space::enter_lengths(lengths, answers) {
+        return 17;
     }
+    0
 }
 
 // Hands out each used entry's codeword, in entry order, the lowest free of its length; 0 for an unused entry, and in places behind them. The answer is 0, or
