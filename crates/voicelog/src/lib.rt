@@ -40,14 +40,6 @@ pub fn voicelog(
         mappings,
         modes,
     };
-    let status = running::run(
-        stdin,
-        stdout,
-        &mut tables,
-        curves,
-        words,
-        input,
-        lines,
-    );
+    let status = running::run(stdin, stdout, &mut tables, curves, words, input, lines);
     status as u32
 }
