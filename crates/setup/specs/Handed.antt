@@ -1,5 +1,5 @@
 -- The ten tables as a contract names them: lent together, or slice by slice as C hands them in; what a call was handed and has left.
-use Rattle.std.specs.Prelude.{ℕ, List, ◌≡◌}
+use Rattle.std.specs.Prelude.{ℕ, List, ◌≡◌, length}
 use Rattle.std.specs.Borrow.{Bor, MutBor}
 use denote.Triple.Both.{Both}
 use Rattle.setup.specs.Layout.{Tables, tables}
@@ -14,7 +14,20 @@ held t = tables t.counts.now t.books.now t.lengths.now t.codewords.now t.multipl
 abbrev pub held_mut : LentTablesMut → Tables
 held_mut t = tables t.counts.now t.books.now t.lengths.now t.codewords.now t.multiplicands.now t.floors.now t.residues.now t.plans.now t.mappings.now t.modes.now
 
--- a call that was lent `old` by `&mut` leaves the same slices there, whatever they hold now
+-- tables as long as others
+pub record SameLengths (t u : Tables) : Type 0 where
+  pub counts : length t.counts ≡ length u.counts
+  pub books : length t.books ≡ length u.books
+  pub lengths : length t.lengths ≡ length u.lengths
+  pub codewords : length t.codewords ≡ length u.codewords
+  pub multiplicands : length t.multiplicands ≡ length u.multiplicands
+  pub floors : length t.floors ≡ length u.floors
+  pub residues : length t.residues ≡ length u.residues
+  pub plans : length t.plans ≡ length u.plans
+  pub mappings : length t.mappings ≡ length u.mappings
+  pub modes : length t.modes ≡ length u.modes
+
+-- a call that was lent `old` by `&mut` leaves the same slices there, as long as they were, whatever they hold now
 pub record StaysLent (old new : LentTablesMut) : Type 0 where
   pub counts : new.counts.ghost_name ≡ old.counts.ghost_name
   pub books : new.books.ghost_name ≡ old.books.ghost_name
@@ -26,6 +39,7 @@ pub record StaysLent (old new : LentTablesMut) : Type 0 where
   pub plans : new.plans.ghost_name ≡ old.plans.ghost_name
   pub mappings : new.mappings.ghost_name ≡ old.mappings.ghost_name
   pub modes : new.modes.ghost_name ≡ old.modes.ghost_name
+  pub long : SameLengths (held_mut new) (held_mut old)
 
 -- a slice of numbers that is lent to be written, before the call and after it
 abbrev pub Slice : Type 0

@@ -31,7 +31,7 @@ pub fn have_room(limits: Limits, tables: LentTables<'_>) -> bool
         && mode::MODES_NEED <= tables.modes.len()
 }
 
-// The four tables of the books.
+// The four tables of the books. One by one, here and below, as `setup_content::read_content` is lent them.
 pub fn clear_books(
     books: &mut [u32],
     lengths: &mut [u8],

@@ -17,7 +17,7 @@ use Rattle.setup.specs.Call.{setup_of, left, answered, setup_call}
 use Rattle.setup.specs.Inner.Parts.{ReadInto, WrittenOut, packet_part, checked_part}
 use Rattle.setup.proofs.ReadIntoLaws.{read_into_bad, read_into_ok}
 use Rattle.setup.proofs.Whole.{setup_whole}
-use Rattle.setup_call.specs.Inner.Lengths.{SameLengths}
+use Rattle.setup.specs.Handed.{SameLengths}
 use Rattle.setup_buffers.specs.Inner.Settled.{settled}
 
 pub same_cleared : {t u : Tables} → SameLengths t u → cleared t ≡ cleared u

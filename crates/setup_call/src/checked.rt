@@ -6,7 +6,6 @@ ghost use Rattle.bits.specs.Reasons.{number};
 ghost use Rattle.setup.specs.Handed.{held_mut, StaysLent};
 ghost use Rattle.setup.specs.Inner.Parts.{ReadInto, Small, WrittenOut, checked_part};
 ghost use Rattle.setup_call.specs.Inner.Begun.{begun};
-ghost use Rattle.setup_call.specs.Inner.Lengths.{SameLengths};
 
 use bits::Cursor;
 use bits::kind::PacketKind;
@@ -56,7 +55,6 @@ pub fn read_checked(
 ) -> Result<Cursor, Refusal>
     requires { Small limits }
     ensures read_into { ReadInto (checked_part limits identity packet.now (held_mut tables.old)) result (WrittenOut (held_mut tables.old) (held_mut tables.new)) }
-    ensures long { SameLengths (held_mut tables.new) (held_mut tables.old) }
     ensures lent { StaysLent tables.old tables.new }
 {
     let room = have_room(limits, tables.shared());
