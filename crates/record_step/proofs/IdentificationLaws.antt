@@ -27,7 +27,7 @@ module _ (k : Kept) (s : List ℕ) where
       record {
         stream = λ t. rw e refl;
         tables = λ t x. record {
-          identity_sound = λ h. (sound_test_lem 8 i).1 sound;
+          identity_sound = (sound_test_lem 8 i).1 sound;
           identity_first = λ h. refl;
           tables_sound = λ h. absurd (true_not_false false h refl);
           tables_long = x.tables_long;

@@ -1,8 +1,8 @@
 -- A setup record, as the code asks it: what the setup call's equation and its claim of acceptance come to for the stream. Assumes nothing.
 use Prim.Native.Nat.{ℕ, ◌≤◌, ◌<◌}
 use native.Mathlib.Omega.{arith}
-use borrow.Author.Tests.{eq-eqb, ne_eqb, not-true, not-false}
-use mathlib.Core.Bool.{true, false, not}
+use borrow.Author.Tests.{eq-eqb, ne_eqb}
+use mathlib.Core.Bool.{true, false}
 use mathlib.Core.List.{List}
 use mathlib.Core.Path.{◌≡◌, refl, sym, ap, ◌∙◌}
 use lib.Dec.{eqb}
@@ -12,6 +12,9 @@ use Rattle.reading.proofs.Least.{true_not_false}
 use Rattle.reading.proofs.Pads.{pad_get}
 use Rattle.limits.specs.declared.Limits.{Limits}
 use Rattle.limits.specs.Standard.{standard}
+use Rattle.std.specs.Prelude.{Some, None}
+use Rattle.identification.specs.declared.Identity.{Identity}
+use Rattle.identification.specs.Sound.{is_sound}
 use Rattle.setup.specs.Content.{Setup}
 use Rattle.setup.specs.Reading.{setup}
 use Rattle.setup.specs.Layout.{Tables, layout, has_room, written_out, cleared}
@@ -50,20 +53,22 @@ unfolding has_room cleared
 cleared_room t e = simp length-replicate e
 
 -- without an identity
-pub no_identity_is : (k : Kept) (s : List ℕ) (t : Tables) {r : Stepped} {number : ℕ} → KeptTables k t → not k.has_identity ≡ true → number ≡ 18 → r ≡ unchanged k (Refused number) → SetupStep k s t r t
+pub no_identity_is : (k : Kept) (s : List ℕ) (t : Tables) {r : Stepped} {number : ℕ} → KeptTables k t → k.identity ≡ None → number ≡ 18 → r ≡ unchanged k (Refused number) → SetupStep k s t r t
 unfolding stream_of
 no_identity_is k s t x n e a =
-    let no : k.has_identity ≡ false = not-true k.has_identity n in
-    rw (a, e) (record { stream = rw no refl; tables = x; ends = record { curves = refl; words = refl } })
+    rw (a, e) (record { stream = rw n refl; tables = x; ends = record { curves = refl; words = refl } })
 
 -- WITH ONE: identity and room are good, so that the call is by the packet alone
-module _ (k : Kept) (s : List ℕ) (t : Tables) (x : KeptTables k t) (has : k.has_identity ≡ true) where
-  by_packet : setup_of standard k.identity s t ≡ setup standard k.identity.channels s
-  unfolding setup_of
-  by_packet = rw (x.identity_sound has, x.tables_long) refl
+module _ (k : Kept) (s : List ℕ) (t : Tables) (x : KeptTables k t) (i : Identity) (has : k.identity ≡ Some i) where
+  sound : is_sound standard.channels i ≡ true
+  sound = rw has at x.identity_sound
 
-  module _ (a : AcceptedSound standard k.identity s t) where
-    module _ (c : Setup) (e : setup_of standard k.identity s t ≡ ok c) where
+  by_packet : setup_of standard i s t ≡ setup standard i.channels s
+  unfolding setup_of
+  by_packet = rw (sound, x.tables_long) refl
+
+  module _ (a : AcceptedSound standard i s t) where
+    module _ (c : Setup) (e : setup_of standard i s t ≡ ok c) where
       counted : (i n : ℕ) → i < 5 → get_or (layout c).counts i 0 ≡ n → get_or (written_out c t).counts i 0 ≡ n
       unfolding written_out
       counted i n h q = let room = (room_parts standard t x.tables_long).counts in pad_get (length t.counts) (layout c).counts i (omega arith) ∙ q
@@ -78,14 +83,14 @@ module _ (k : Kept) (s : List ℕ) (t : Tables) (x : KeptTables k t) (has : k.ha
             tables =
                 record {
                   identity_sound = x.identity_sound;
-                  identity_first = λ h. has;
-                  tables_sound = λ h. a.tested c e;
+                  identity_first = λ h. rw has refl;
+                  tables_sound = λ h. rw has (a.tested c e);
                   tables_long = (test_tells.0 (a.tested c e)).tables.room;
                 };
             ends = record { curves = refl; words = refl };
           }
 
-    refused : (z : Refusal) → setup_of standard k.identity s t ≡ bad z → SetupStep k s t (setup_refused k z.number) (cleared t)
+    refused : (z : Refusal) → setup_of standard i s t ≡ bad z → SetupStep k s t (setup_refused k z.number) (cleared t)
     unfolding stream_of
     refused z e =
         record {
@@ -93,7 +98,7 @@ module _ (k : Kept) (s : List ℕ) (t : Tables) (x : KeptTables k t) (has : k.ha
           tables =
               record {
                 identity_sound = x.identity_sound;
-                identity_first = λ h. has;
+                identity_first = λ h. rw has refl;
                 tables_sound = λ h. absurd (true_not_false false h refl);
                 tables_long = cleared_room t x.tables_long;
               };
@@ -101,7 +106,7 @@ module _ (k : Kept) (s : List ℕ) (t : Tables) (x : KeptTables k t) (has : k.ha
         }
 
     -- what the call left, by the outcome
-    by_outcome : (o : Outcome Setup) → setup_of standard k.identity s t ≡ o → (n : ℕ) (u : Tables) → left n u ≡ answered o t
+    by_outcome : (o : Outcome Setup) → setup_of standard i s t ≡ o → (n : ℕ) (u : Tables) → left n u ≡ answered o t
         → SetupStep k s t (setup_numbered k n (get_or u.counts 0 0) (get_or u.counts 4 0)) u
     unfolding answered
     by_outcome (ok c) e n u q =
@@ -116,11 +121,11 @@ module _ (k : Kept) (s : List ℕ) (t : Tables) (x : KeptTables k t) (has : k.ha
         rw (number, tables, no) (refused z e)
 
 -- and as the program has it
-module _ (k : Kept) (s : List ℕ) (t : Tables) (x : KeptTables k t) (n : not k.has_identity ≡ false) where
+module _ (k : Kept) (s : List ℕ) (t : Tables) (x : KeptTables k t) {i : Identity} (has : k.identity ≡ Some i) where
   pub setup_settled : {l : Limits} {number books modes : ℕ} {u : Tables} {r : Stepped} → (l.channels ≡ 8) × (l.book_entries ≡ 8192) × (l.entries ≡ 16384) × (l.multiplicands ≡ 16384)
-      → (left number u ≡ setup_call l k.identity s t) × AcceptedSound l k.identity s t
+      → (left number u ≡ setup_call l i s t) × AcceptedSound l i s t
       → books ≡ get_or u.counts 0 0 → modes ≡ get_or u.counts 4 0 → r ≡ setup_numbered k number books modes → SetupStep k s t r u
   unfolding setup_call
   setup_settled {l} {number} {books} {modes} {u} e q b m a =
-      let p : (left number u ≡ setup_call standard k.identity s t) × AcceptedSound standard k.identity s t = rw (limits_are e) at q in
-      rw (a, b, m) (by_outcome k s t x (not-false k.has_identity n) p.1 (setup_of standard k.identity s t) refl number u p.0)
+      let p : (left number u ≡ setup_call standard i s t) × AcceptedSound standard i s t = rw (limits_are e) at q in
+      rw (a, b, m) (by_outcome k s t x i has p.1 (setup_of standard i s t) refl number u p.0)

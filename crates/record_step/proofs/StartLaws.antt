@@ -16,7 +16,7 @@ module _ {k : Kept} (x : StartsWith k) where
   pub start_tables : (t : Tables) → has_room standard t ≡ true → KeptTables k t
   start_tables t room =
       record {
-        identity_sound = λ h. absurd (true_not_false k.has_identity h x.no_identity_is);
+        identity_sound = rw x.no_identity_is tt;
         identity_first = λ h. absurd (true_not_false k.has_tables h x.no_tables);
         tables_sound = λ h. absurd (true_not_false k.has_tables h x.no_tables);
         tables_long = room;

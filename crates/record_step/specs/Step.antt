@@ -1,6 +1,5 @@
 -- THE TOOL'S STEP, by one record: what is kept of the stream and what the record came to (01, the tool). Assumes nothing: these are definitions.
-use Rattle.std.specs.Prelude.{ℕ, cond, List, eqb, length}
-use Rattle.std.proofs.Math.Option.{Option, none, some}
+use Rattle.std.specs.Prelude.{ℕ, cond, List, Option, None, Some, eqb, length}
 use Rattle.reading.specs.Outcome.{Outcome, ok, bad}
 use Rattle.limits.specs.Standard.{standard}
 use Rattle.identification.specs.declared.Identity.{Identity}
@@ -24,7 +23,7 @@ no_tally = record { blocksize = 0; samples = 0 }
 
 -- before the first record
 abbrev pub no_stream : Stream
-no_stream = record { identity = none; setup = none; tally = no_tally }
+no_stream = record { identity = None; setup = None; tally = no_tally }
 
 -- the outputs that the tool lends: 32,768 curve bytes and 16,384 codewords
 abbrev pub room : Room
@@ -32,18 +31,18 @@ room = record { curves = 32768; codewords = 16384 }
 
 -- a good identification clears tables and tally; a refused one changes nothing
 abbrev pub identified : Stream → Outcome Identity → Stream × Answer
-identified x (ok i) = (record { identity = some i; setup = none; tally = no_tally }, Identified i)
+identified x (ok i) = (record { identity = Some i; setup = None; tally = no_tally }, Identified i)
 identified x (bad z) = (x, Refused z.number)
 
 -- a good setup clears the tally; a refused one leaves no tables
 abbrev pub set_up : Stream → Outcome Setup → Stream × Answer
-set_up x (ok c) = (record { identity = x.identity; setup = some c; tally = no_tally }, SetUp (length c.books) (length c.modes))
-set_up x (bad z) = (record { identity = x.identity; setup = none; tally = x.tally }, Refused z.number)
+set_up x (ok c) = (record { identity = x.identity; setup = Some c; tally = no_tally }, SetUp (length c.books) (length c.modes))
+set_up x (bad z) = (record { identity = x.identity; setup = None; tally = x.tally }, Refused z.number)
 
 -- without an identity it is 18
 abbrev pub setup_step : Stream → Option Identity → List ℕ → Stream × Answer
-setup_step x none s = (x, Refused 18)
-setup_step x (some i) s = set_up x (setup standard i.channels s)
+setup_step x None s = (x, Refused 18)
+setup_step x (Some i) s = set_up x (setup standard i.channels s)
 
 -- a good packet brings the tally up to date
 abbrev pub audio_read : Stream → Outcome Accepted → Stream × Answer
@@ -55,9 +54,9 @@ audio_read x (bad z) = (x, Refused z.number)
 
 -- without an identity and tables it is 18
 abbrev pub audio_step : Stream → Option Identity → Option Setup → List ℕ → Stream × Answer
-audio_step x (some i) (some c) s = audio_read x (accepted i x.tally room s c)
-audio_step x (some i) none s = (x, Refused 18)
-audio_step x none c s = (x, Refused 18)
+audio_step x (Some i) (Some c) s = audio_read x (accepted i x.tally room s c)
+audio_step x (Some i) None s = (x, Refused 18)
+audio_step x None c s = (x, Refused 18)
 
 -- A RECORD of a kind, with its body
 unfoldable pub step : Stream → ℕ → List ℕ → Stream × Answer

@@ -10,8 +10,8 @@ use bits::refusal::Reason;
 use records::Answer;
 use setup::lent::LentTables;
 
-// The record's body, by the identity and the tables that are kept, into the outputs. Tables are kept only with an identity, so one test serves both. A refusal
-// leaves both outputs all zero; an accepted packet its curves and codewords at their fronts.
+// The record's body, by the identity and the tables that are kept, into the outputs. A refusal leaves both outputs all
+// zero; an accepted packet its curves and codewords at their fronts.
 pub fn after_audio(
     kept: Kept,
     body: &[u8],
@@ -22,12 +22,15 @@ pub fn after_audio(
     requires { KeptTables kept (held tables) × KeptOutputs kept curves.old words.old }
     ensures { AudioStep kept body.now (held tables.entry) result curves.new words.new }
 {
+    let Some(identity) = kept.identity else {
+        return refused(kept, Reason::Unsound.number() as u32);
+    };
     if !kept.has_tables {
         return refused(kept, Reason::Unsound.number() as u32);
     }
     let left = read_packet(
         kept.tally,
-        kept.identity,
+        identity,
         tables,
         body,
         curves,
@@ -50,7 +53,7 @@ pub fn after_audio(
     Stepped {
         kept: Kept {
             tally: left.tally,
-            curves_end: curve_bytes(kept.identity.channels, answer.blocksize),
+            curves_end: curve_bytes(identity.channels, answer.blocksize),
             words_end: answer.codewords as usize,
             ..kept
         },

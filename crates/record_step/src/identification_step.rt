@@ -13,8 +13,7 @@ pub fn after_identification(kept: Kept, body: &[u8]) -> Stepped
     match identification::read(body, Limits::standard()) {
         Ok(identity) => Stepped {
             kept: Kept {
-                has_identity: true,
-                identity,
+                identity: Some(identity),
                 has_tables: false,
                 tally: NO_TALLY,
                 ..kept

@@ -28,9 +28,8 @@ pub const NO_TALLY: Tally = Tally {
 // What is kept from record to record beside the lent tables and outputs.
 #[derive(Clone, Copy)]
 pub struct Kept {
-    pub has_identity: bool,
-    pub identity: Identity,
-    // Whether the tables are those of a setup that was accepted for this identity.
+    pub identity: Option<Identity>,
+    // Whether the tables are those of a setup that was accepted for this identity. They lie with the caller, so they are no value here.
     pub has_tables: bool,
     pub tally: Tally,
     // How many places of each output may hold something.
@@ -51,16 +50,7 @@ pub fn first() -> Kept
     ensures { StartsWith result }
 {
     Kept {
-        has_identity: false,
-        identity: Identity {
-            channels: 0,
-            rate: 0,
-            bitrate_maximum: 0,
-            bitrate_nominal: 0,
-            bitrate_minimum: 0,
-            blocksize0: 0,
-            blocksize1: 0,
-        },
+        identity: None,
         has_tables: false,
         tally: NO_TALLY,
         curves_end: 32768,

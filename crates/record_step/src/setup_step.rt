@@ -18,10 +18,10 @@ pub fn after_setup(kept: Kept, body: &[u8], tables: &mut LentTablesMut<'_>) -> S
     ensures step { SetupStep kept body.now (held_mut tables.old) result (held_mut tables.new) }
     ensures lent { StaysLent tables.old tables.new }
 {
-    if !kept.has_identity {
+    let Some(identity) = kept.identity else {
         return refused(kept, Reason::Unsound.number() as u32);
-    }
-    let number = read_setup(body, kept.identity, Limits::standard(), tables);
+    };
+    let number = read_setup(body, identity, Limits::standard(), tables);
     if number != 0 {
         return Stepped {
             kept: Kept {

@@ -6,7 +6,7 @@ ghost use Rattle.record_step.specs.Inner.Kept.{unchanged};
 use crate::{Kept, Stepped};
 use records::Answer;
 
-// A refusal: its number alone.
+// A refusal: its number alone, as the calls for C answer it.
 pub fn refused(kept: Kept, number: u32) -> Stepped
     ensures { result ≡ unchanged kept (Refused number) }
 {

@@ -1,6 +1,5 @@
 -- What the program keeps of a stream: numbers by value, and the tables and outputs that it was lent.
-use Rattle.std.specs.Prelude.{ℕ, ◌*◌, ◌/◌, true, false, cond, List, ◌≡◌, eqb, length}
-use Rattle.std.proofs.Math.Option.{none, some}
+use Rattle.std.specs.Prelude.{ℕ, ◌*◌, ◌/◌, true, false, cond, List, None, Some, IfSome, IsSome, ◌≡◌, eqb, length}
 use Rattle.limits.specs.Standard.{standard}
 use Rattle.identification.specs.declared.Identity.{Identity}
 use Rattle.identification.specs.Identification.{identification}
@@ -21,16 +20,16 @@ use Rattle.record_step.specs.Step.{Stream, no_tally, no_stream, identified, setu
 unfoldable pub stream_of : Kept → Tables → Stream
 stream_of k t =
     record {
-      identity = cond k.has_identity (some k.identity) none;
-      setup = cond k.has_tables (some (decode_setup t)) none;
+      identity = k.identity;
+      setup = cond k.has_tables (Some (decode_setup t)) None;
       tally = k.tally;
     }
 
 -- the identity is sound; the tables that are kept are those of an accepted setup for it; every table has its fixed need
 pub record KeptTables (k : Kept) (t : Tables) : Type 0 where
-  pub identity_sound : k.has_identity ≡ true → is_sound standard.channels k.identity ≡ true
-  pub identity_first : k.has_tables ≡ true → k.has_identity ≡ true
-  pub tables_sound : k.has_tables ≡ true → sound_test standard k.identity t ≡ true
+  pub identity_sound : IfSome k.identity (λ i. is_sound standard.channels i ≡ true)
+  pub identity_first : k.has_tables ≡ true → IsSome k.identity
+  pub tables_sound : k.has_tables ≡ true → IfSome k.identity (λ i. sound_test standard i t ≡ true)
   pub tables_long : has_room standard t ≡ true
 
 -- the outputs have the room that the tool lends, and hold nothing behind what the packet before left
@@ -43,7 +42,7 @@ pub record KeptOutputs (k : Kept) (curves words : List ℕ) : Type 0 where
 -- before the first record: nothing is kept, and the outputs may hold anything
 pub record StartsWith (k : Kept) : Type 0 where
   pub stream : (t : Tables) → stream_of k t ≡ no_stream
-  pub no_identity_is : k.has_identity ≡ false
+  pub no_identity_is : k.identity ≡ None
   pub no_tables : k.has_tables ≡ false
   pub curves_end_is : k.curves_end ≡ 32768
   pub words_end_is : k.words_end ≡ 16384
@@ -58,8 +57,7 @@ identity_accepted k i =
     record {
       kept =
           record {
-            has_identity = true;
-            identity = i;
+            identity = Some i;
             has_tables = false;
             tally = no_tally;
             curves_end = k.curves_end;
@@ -74,7 +72,6 @@ setup_accepted k books modes =
     record {
       kept =
           record {
-            has_identity = k.has_identity;
             identity = k.identity;
             has_tables = true;
             tally = no_tally;
@@ -90,7 +87,6 @@ setup_refused k number =
     record {
       kept =
           record {
-            has_identity = k.has_identity;
             identity = k.identity;
             has_tables = false;
             tally = k.tally;
@@ -110,7 +106,6 @@ packet_read k t curves words a =
     record {
       kept =
           record {
-            has_identity = k.has_identity;
             identity = k.identity;
             has_tables = k.has_tables;
             tally = t;
@@ -121,10 +116,10 @@ packet_read k t curves words a =
     }
 
 -- by the audio call's answer, in which the refusal 0 is acceptance: channels times n/2 curve bytes, and so many codewords
-abbrev pub packet_answered : Kept → Tally → AudioAnswer → Stepped
-packet_answered k t a =
+abbrev pub packet_answered : Kept → Identity → Tally → AudioAnswer → Stepped
+packet_answered k i t a =
     cond (eqb a.refusal 0)
-    (packet_read k t (k.identity.channels * (a.blocksize / 2)) a.codewords (AudioRead a.blocksize a.samples a.codewords))
+    (packet_read k t (i.channels * (a.blocksize / 2)) a.codewords (AudioRead a.blocksize a.samples a.codewords))
     (packet_read k t 0 0 (Refused a.refusal))
 
 -- the outputs were not touched
