@@ -7,6 +7,7 @@ ghost use Rattle.audio_channels.specs.Inner.Extents.{head_residue, ExtentIs};
 ghost use Rattle.audio_channels.specs.Inner.Live.{used_bools};
 
 use crate::channels::{channels_of, live_of};
+use mapping_row::MappingRow;
 use residue::head::Head;
 
 // How much of a residue is read.
@@ -62,19 +63,18 @@ fn extent_of(head: Head, half: u32, channels: u32, live: u32) -> Extent
 // How much of a residue is read for a submap.
 pub fn submap_extent(
     live: &[u8; 255],
-    mappings: &[u8],
-    mapping: usize,
+    row: MappingRow,
     channels: u32,
     submap: usize,
     half: u32,
     head: Head,
 ) -> Extent
-    requires { (length live.now ≡ 255) × (channels ≤ 255) × MappingReadable channels mappings.now mapping
+    requires { (length live.now ≡ 255) × (channels ≤ 255) × MappingReadable channels row.mappings.now row.number
         × (half ≤ 4096) × (1 ≤ head.size) }
-    ensures { ExtentIs half (mapping_in mappings.now mapping) channels (used_bools channels live.now) submap head
+    ensures { ExtentIs half (mapping_in row.entry.mappings.now row.entry.number) channels (used_bools channels live.now) submap head
         result.vectors result.partitions }
 {
-    let all = channels_of(mappings, mapping, channels, submap);
-    let some = live_of(live, mappings, mapping, channels, submap);
+    let all = channels_of(row, channels, submap);
+    let some = live_of(live, row, channels, submap);
     extent_of(head, half, all, some)
 }

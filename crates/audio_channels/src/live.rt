@@ -5,9 +5,9 @@ ghost use Rattle.mapping_row.specs.Inner.Readable.{mapping_in, MappingReadable};
 ghost use Rattle.audio.specs.Channels.{coupled};
 ghost use Rattle.audio_channels.specs.Inner.Live.{used_bools, live_bytes, coupled_bytes};
 
-use mapping_row::{angle, coupling_steps, magnitude};
+use mapping_row::MappingRow;
 
-// The channels whose floor is used.
+// The channels whose floor is used. Flags are bytes here as where they come from: what C is answered (AudioAnswer).
 fn used_channels(used: &[u8], channels: usize) -> [u8; 255]
     requires { (length used.now ≡ 255) × (channels ≤ 255) }
     ensures { result ≡ live_bytes (used_bools channels used.now) }
@@ -31,24 +31,24 @@ fn couple(live: &mut [u8; 255], magnitude: usize, angle: usize)
 }
 
 // The coupling steps in order, once: a channel that a later step makes live makes none live by an earlier one.
-fn sweep(flags: [u8; 255], channels: u32, mappings: &[u8], mapping: usize) -> [u8; 255]
-    requires { (flags ≡ live_bytes (used_bools channels flags)) × (channels ≤ 255) × MappingReadable channels mappings.now mapping }
-    ensures { result ≡ live_bytes (coupled (mapping_in mappings.now mapping).couplings (used_bools channels flags)) }
+fn sweep(flags: [u8; 255], channels: u32, row: MappingRow) -> [u8; 255]
+    requires { (flags ≡ live_bytes (used_bools channels flags)) × (channels ≤ 255) × MappingReadable channels row.mappings.now row.number }
+    ensures { result ≡ live_bytes (coupled (mapping_in row.entry.mappings.now row.entry.number).couplings (used_bools channels flags)) }
 {
     let mut live = flags;
-    for i in 0..coupling_steps(mappings, mapping) {
-        let first = magnitude(mappings, mapping, i) as usize;
-        let second = angle(mappings, mapping, i) as usize;
+    for i in 0..row.coupling_steps() {
+        let first = row.magnitude(i) as usize;
+        let second = row.angle(i) as usize;
         couple(&mut live, first, second);
     }
     live
 }
 
 // The live channels: those whose floor is used, swept once.
-pub fn live_channels(used: &[u8], channels: u32, mappings: &[u8], mapping: usize) -> [u8; 255]
-    requires { (length used.now ≡ 255) × (channels ≤ 255) × MappingReadable channels mappings.now mapping }
-    ensures { result ≡ live_bytes (coupled (mapping_in mappings.now mapping).couplings (used_bools channels used.now)) }
+pub fn live_channels(used: &[u8], channels: u32, row: MappingRow) -> [u8; 255]
+    requires { (length used.now ≡ 255) × (channels ≤ 255) × MappingReadable channels row.mappings.now row.number }
+    ensures { result ≡ live_bytes (coupled (mapping_in row.entry.mappings.now row.entry.number).couplings (used_bools channels used.now)) }
 {
     let live = used_channels(used, channels as usize);
-    sweep(live, channels, mappings, mapping)
+    sweep(live, channels, row)
 }

@@ -11,6 +11,7 @@ use bits::Cursor;
 use bits::refusal::Refusal;
 use book_codeword::Codebooks;
 use floor::{FLOOR_WIDTH, X_LIST_PLACE};
+use floor_row::FloorRow;
 use floor_values::values::read_values;
 use reading::buffers::clear;
 
@@ -46,36 +47,36 @@ fn draw_values(x: &[u16], values: &[u16], multiplier: u8, out: &mut [u8])
     draw_points(x, values, multiplier, &mut y[..n], &mut flags[..n], out);
 }
 
-// The curve of floor number `floor`, which is used and has these values.
-fn draw_floor(floors: &[u16], floor: usize, values: &[u16], out: &mut [u8])
-    requires { Drawable floors.now floor (length values.now) }
+// The curve of a floor which is used and has these values.
+fn draw_floor(row: FloorRow, values: &[u16], out: &mut [u8])
+    requires { Drawable row.floors.now row.number (length values.now) }
     ensures { out.new
-        ≡ curve_of (length out.old) (floor_in floors.now floor) (requested.values values.now) }
+        ≡ curve_of (length out.old) (floor_in row.entry.floors.now row.entry.number) (requested.values values.now) }
 {
-    let first = FLOOR_WIDTH * floor + X_LIST_PLACE;
-    let end = first + floor_row::x_count(floors, floor) as usize;
-    let multiplier = floor_row::multiplier(floors, floor) as u8;
-    draw_values(&floors[first..end], values, multiplier, out);
+    let first = FLOOR_WIDTH * row.number + X_LIST_PLACE;
+    let end = first + row.x_count() as usize;
+    let multiplier = row.multiplier() as u8;
+    draw_values(&row.floors[first..end], values, multiplier, out);
 }
 
 // Whether the floor of a channel is used, with the position behind it. Its curve fills `out`: zeros where it is unused or cut short.
 pub fn read_channel(
     packet: &[u8],
     from: Cursor,
-    floors: &[u16],
-    floor: usize,
+    row: FloorRow,
     codebooks: Codebooks,
     out: &mut [u8],
 ) -> Result<(bool, Cursor), Cut>
-    requires { FloorStored floors.now codebooks.books.now codebooks.lengths.now codebooks.codewords.now floor × XListStored floors.now floor }
-    ensures { ChannelIs (lengths_in codebooks.entry.books.now codebooks.entry.lengths.now) (floor_in floors.now floor)
+    requires { FloorStored row.floors.now codebooks.books.now codebooks.lengths.now codebooks.codewords.now row.number
+        × XListStored row.floors.now row.number }
+    ensures { ChannelIs (lengths_in codebooks.entry.books.now codebooks.entry.lengths.now) (floor_in row.entry.floors.now row.entry.number)
         packet.now (position from) (length out.old) result out.new }
 {
     let mut values = [0u16; 65];
-    match read_values(packet, from, floors, floor, codebooks, &mut values) {
+    match read_values(packet, from, row, codebooks, &mut values) {
         Ok((true, next)) => {
-            let n = floor_row::x_count(floors, floor) as usize;
-            draw_floor(floors, floor, &values[..n], out);
+            let n = row.x_count() as usize;
+            draw_floor(row, &values[..n], out);
             Ok((true, next))
         }
         Ok((false, next)) => {

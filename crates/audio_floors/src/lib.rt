@@ -14,6 +14,8 @@ ghost use Rattle.audio_floors.specs.Inner.Floors.{FloorsReadable, FloorsAre};
 use bits::Cursor;
 use book_codeword::Codebooks;
 use channel::{Cut, read_channel};
+use floor_row::FloorRow;
+use mapping_row::MappingRow;
 use reading::buffers::clear;
 use setup::lent::LentTables;
 
@@ -27,12 +29,12 @@ pub struct FloorsRead {
 }
 
 // The number of a channel's floor.
-fn channel_floor(mappings: &[u8], mapping: usize, channels: u32, channel: usize) -> usize
-    requires { MappingReadable channels mappings.now mapping × (channels ≤ 255) × (channel < channels) }
-    ensures { result ≡ floor_number (mapping_in mappings.now mapping) channel }
+fn channel_floor(row: MappingRow, channels: u32, channel: usize) -> usize
+    requires { MappingReadable channels row.mappings.now row.number × (channels ≤ 255) × (channel < channels) }
+    ensures { result ≡ floor_number (mapping_in row.entry.mappings.now row.entry.number) channel }
 {
-    let submap = mapping_row::channel_submap(mappings, mapping, channel);
-    mapping_row::submap_floor(mappings, mapping, submap as usize) as usize
+    let submap = row.channel_submap(channel);
+    row.submap_floor(submap as usize) as usize
 }
 
 // The floors of channels 0, 1, .. and their curves, `half` bytes a channel. A cut ends reading: the channel's curve and all later ones are zeros.
@@ -56,21 +58,22 @@ pub fn read_floors(
         lengths: tables.lengths,
         codewords: tables.codewords,
     };
+    let mapping_row = MappingRow {
+        mappings: tables.mappings,
+        number: mapping,
+    };
     let count = channels as usize;
     let end = count * half;
     let mut used = [0u8; 255];
     let mut at = from;
     let mut start: usize = 0;
     for channel in 0..count {
-        let floor = channel_floor(tables.mappings, mapping, channels, channel);
-        match read_channel(
-            packet,
-            at,
-            tables.floors,
-            floor,
-            codebooks,
-            &mut curves[start..start + half],
-        ) {
+        let number = channel_floor(mapping_row, channels, channel);
+        let row = FloorRow {
+            floors: tables.floors,
+            number,
+        };
+        match read_channel(packet, at, row, codebooks, &mut curves[start..start + half]) {
             Ok((is_used, next)) => {
                 used[channel] = is_used as u8;
                 at = next;

@@ -95,30 +95,24 @@ module _ (half : ℕ) (m : Mapping) (live : List Bool) (submap : ℕ) (h : Head)
 -- by tables of which enough is known
 module _ (books lengths codewords residues plans mappings flags : List ℕ) (channels mapping half : ℕ)
     (p : ResiduesReadable books lengths codewords residues plans mappings flags channels mapping half) where
-  pub mapping_low : mapping < 64
-  mapping_low = p.mapping_is.few
+  module _ (submap : ℕ) (l : submap < length (mapping_in mappings mapping).submaps) {n : ℕ}
+      (q : n ≡ get_or mappings (mapping_width * mapping + (submaps_place + 2 * submap + 1)) 0) where
+    number_is : n ≡ residue_number (mapping_in mappings mapping) submap
+    unfolding residue_number
+    number_is = q ∙ p.mapping_is.residue submap l
 
-  module _ (submap : ℕ) (l : submap < length (mapping_in mappings mapping).submaps) where
-    pub submap_low : submap < 16
-    submap_low = let k = p.mapping_is.submaps_few in omega arith
+    module _ (h : Head) (e : head_of h ≡ head_at residues n) where
+      pub residue_readable : ResidueReadable books lengths codewords plans n h
+      residue_readable = rw number_is (p.residue_is submap l h (rw number_is at e))
 
-    module _ {n : ℕ} (q : n ≡ get_or mappings (mapping_width * mapping + (submaps_place + 2 * submap + 1)) 0) where
-      number_is : n ≡ residue_number (mapping_in mappings mapping) submap
-      unfolding residue_number
-      number_is = q ∙ p.mapping_is.residue submap l
+      pub size_low : 1 ≤ h.size
+      size_low = residue_readable.size_low
 
-      module _ (h : Head) (e : head_of h ≡ head_at residues n) where
-        pub residue_readable : ResidueReadable books lengths codewords plans n h
-        residue_readable = rw number_is (p.residue_is submap l h (rw number_is at e))
-
-        pub size_low : 1 ≤ h.size
-        size_low = residue_readable.size_low
-
-        pub residue_read : (packet : List ℕ) (at : ℕ) {vectors partitions : ℕ}
-            → ExtentIs half (mapping_in mappings mapping) channels (used_bools channels flags) submap h vectors partitions
-            → {entry : List ℕ} {c : ℕ} {r : Result Progress Stop} {exit : List ℕ}
-            → ReadIntoList (words_run books lengths (flat_residue (dimensions_in books) (residue_by h plans n) vectors partitions) packet at) entry c r exit
-            → ReadIntoList (submap_run books lengths residues plans half (mapping_in mappings mapping) (used_bools channels flags) submap packet at) entry c r exit
-        residue_read packet at x w =
-            submap_read half (mapping_in mappings mapping) (used_bools channels flags) submap h plans n (dimensions_in books) residues e
-            (used_long channels flags p.flags-length p.channels_few) x books lengths packet at refl number_is w
+      pub residue_read : (packet : List ℕ) (at : ℕ) {vectors partitions : ℕ}
+          → ExtentIs half (mapping_in mappings mapping) channels (used_bools channels flags) submap h vectors partitions
+          → {entry : List ℕ} {c : ℕ} {r : Result Progress Stop} {exit : List ℕ}
+          → ReadIntoList (words_run books lengths (flat_residue (dimensions_in books) (residue_by h plans n) vectors partitions) packet at) entry c r exit
+          → ReadIntoList (submap_run books lengths residues plans half (mapping_in mappings mapping) (used_bools channels flags) submap packet at) entry c r exit
+      residue_read packet at x w =
+          submap_read half (mapping_in mappings mapping) (used_bools channels flags) submap h plans n (dimensions_in books) residues e
+          (used_long channels flags p.flags-length p.channels_few) x books lengths packet at refl number_is w

@@ -14,6 +14,7 @@ ghost use Rattle.audio_residues.specs.Inner.Reading.{ResiduesReadable, submaps_r
 use audio_channels::live::live_channels;
 use bits::Cursor;
 use codeword_list::{Progress, Stop};
+use mapping_row::MappingRow;
 use setup::lent::LentTables;
 use submap::read_submap;
 
@@ -23,24 +24,22 @@ fn read_submaps(
     from: Progress,
     channels: u32,
     live: &[u8; 255],
-    mapping: usize,
+    row: MappingRow,
     half: u32,
     tables: LentTables<'_>,
     out: &mut [u32],
 ) -> Result<Progress, Stop>
     requires { (from.count ≤ length out.old)
-        × ResiduesReadable tables.books.now tables.lengths.now tables.codewords.now tables.residues.now tables.plans.now tables.mappings.now live.now channels mapping half }
+        × ResiduesReadable tables.books.now tables.lengths.now tables.codewords.now tables.residues.now tables.plans.now row.mappings.now live.now channels row.number half }
     ensures { ReadIntoList (submaps_run tables.entry.books.now tables.entry.lengths.now tables.entry.residues.now tables.entry.plans.now half
-        (mapping_in tables.entry.mappings.now mapping) (used_bools channels live.now)
-        0 (mapping_in tables.entry.mappings.now mapping).submaps packet.now (position from.at))
+        (mapping_in row.entry.mappings.now row.entry.number) (used_bools channels live.now)
+        0 (mapping_in row.entry.mappings.now row.entry.number).submaps packet.now (position from.at))
         out.old from.count result out.new }
 {
-    let count = mapping_row::submaps(tables.mappings, mapping) as usize;
+    let count = row.submaps() as usize;
     let mut next = from;
     for submap in 0..count {
-        next = read_submap(
-            packet, next, channels, live, mapping, submap, half, tables, out,
-        )?;
+        next = read_submap(packet, next, channels, live, row, submap, half, tables, out)?;
     }
     Ok(next)
 }
@@ -64,7 +63,11 @@ pub fn read_residues(
         0 (mapping_in tables.entry.mappings.now mapping).submaps packet.now (position from))
         out.old 0 result out.new }
 {
-    let live = live_channels(used, channels, tables.mappings, mapping);
+    let row = MappingRow {
+        mappings: tables.mappings,
+        number: mapping,
+    };
+    let live = live_channels(used, channels, row);
     let start = Progress { at: from, count: 0 };
-    read_submaps(packet, start, channels, &live, mapping, half, tables, out)
+    read_submaps(packet, start, channels, &live, row, half, tables, out)
 }

@@ -9,6 +9,7 @@ ghost use Rattle.audio_residues.specs.Inner.Reading.{ResiduesReadable, submap_ru
 use audio_channels::extent::submap_extent;
 use book_codeword::Codebooks;
 use codeword_list::{Progress, Stop};
+use mapping_row::MappingRow;
 use residue_decode::whole::read_residue;
 use residue_pass::Decoder;
 use setup::lent::LentTables;
@@ -18,22 +19,22 @@ pub fn read_submap(
     from: Progress,
     channels: u32,
     live: &[u8; 255],
-    mapping: usize,
+    row: MappingRow,
     submap: usize,
     half: u32,
     tables: LentTables<'_>,
     out: &mut [u32],
 ) -> Result<Progress, Stop>
     requires { (from.count ≤ length out.old)
-        × ResiduesReadable tables.books.now tables.lengths.now tables.codewords.now tables.residues.now tables.plans.now tables.mappings.now live.now channels mapping half
-        × (submap < length (mapping_in tables.mappings.now mapping).submaps) }
+        × ResiduesReadable tables.books.now tables.lengths.now tables.codewords.now tables.residues.now tables.plans.now row.mappings.now live.now channels row.number half
+        × (submap < length (mapping_in row.mappings.now row.number).submaps) }
     ensures { ReadIntoList (submap_run tables.entry.books.now tables.entry.lengths.now tables.entry.residues.now tables.entry.plans.now half
-        (mapping_in tables.entry.mappings.now mapping) (used_bools channels live.now) submap packet.now (position from.at))
+        (mapping_in row.entry.mappings.now row.entry.number) (used_bools channels live.now) submap packet.now (position from.at))
         out.old from.count result out.new }
 {
-    let residue = mapping_row::submap_residue(tables.mappings, mapping, submap) as u32;
+    let residue = row.submap_residue(submap) as u32;
     let head = residue_row::head(tables.residues, residue);
-    let extent = submap_extent(live, tables.mappings, mapping, channels, submap, half, head);
+    let extent = submap_extent(live, row, channels, submap, half, head);
     let codebooks = Codebooks {
         books: tables.books,
         lengths: tables.lengths,

@@ -1,4 +1,4 @@
-// The values of one partition (004, "packet decode", steps 6 to 18). `floor` is the floor's number, `class` the number of the partition's class.
+// The values of one partition (004, "packet decode", steps 6 to 18). `class` is the number of the partition's class.
 ghost use Rattle.std.specs.Prelude.{◌≡◌, ◌+◌, ◌≤◌};
 ghost use Rattle.reading.specs.Reader.{each, into, into1};
 ghost use Rattle.reading.specs.Inner.Table.{table, put_row};
@@ -11,6 +11,7 @@ ghost use Rattle.floor_partition.specs.Inner.Stored.{class_in, PlaceStored, Clas
 use bits::Cursor;
 use bits::refusal::Refusal;
 use book_codeword::Codebooks;
+use floor_row::FloorRow;
 use reading::buffers;
 
 // A value, into place `at` of the list: read with the book of a place, 0 where the place holds none.
@@ -40,19 +41,18 @@ fn read_value(
 fn read_class_value(
     packet: &[u8],
     from: Cursor,
-    floors: &[u16],
-    floor: usize,
+    row: FloorRow,
     class: usize,
     codebooks: Codebooks,
 ) -> Result<(u32, Cursor), Refusal>
-    requires { ClassStored floors.now codebooks.books.now codebooks.lengths.now codebooks.codewords.now floor class }
-    ensures { outcome result ≡ class_value (lengths_in codebooks.entry.books.now codebooks.entry.lengths.now) (class_in floors.now floor class)
-        packet.now (position from) }
+    requires { ClassStored row.floors.now codebooks.books.now codebooks.lengths.now codebooks.codewords.now row.number class }
+    ensures { outcome result ≡ class_value (lengths_in codebooks.entry.books.now codebooks.entry.lengths.now)
+        (class_in row.entry.floors.now row.entry.number class) packet.now (position from) }
 {
-    if floor_row::class_subclasses(floors, floor, class) == 0 {
+    if row.class_subclasses(class) == 0 {
         return Ok((0, from));
     }
-    let master = floor_row::class_master(floors, floor, class) as u32;
+    let master = row.class_master(class) as u32;
     book_codeword::read_entry(packet, from, master - 1, codebooks)
 }
 
@@ -60,28 +60,27 @@ fn read_class_value(
 fn read_chosen(
     packet: &[u8],
     from: Cursor,
-    floors: &[u16],
-    floor: usize,
+    row: FloorRow,
     class: usize,
     class_value: u32,
     codebooks: Codebooks,
     values: &mut [u16],
     at: usize,
 ) -> Result<Cursor, Refusal>
-    requires { (at ≤ 65535) × ClassStored floors.now codebooks.books.now codebooks.lengths.now codebooks.codewords.now floor class }
+    requires { (at ≤ 65535) × ClassStored row.floors.now codebooks.books.now codebooks.lengths.now codebooks.codewords.now row.number class }
     ensures { Wrote (into (put_row cell)
         (each (value (lengths_in codebooks.entry.books.now codebooks.entry.lengths.now))
-        (chosen (class_in floors.now floor class) class_value (class_in floors.now floor class).dimensions)
+        (chosen (class_in row.entry.floors.now row.entry.number class) class_value (class_in row.entry.floors.now row.entry.number class).dimensions)
         packet.now (position from)) (table values.old at)) result
-        (table values.new (at + (class_in floors.now floor class).dimensions)) }
+        (table values.new (at + (class_in row.entry.floors.now row.entry.number class).dimensions)) }
 {
-    let count = floor_row::class_dimensions(floors, floor, class) as usize;
+    let count = row.class_dimensions(class) as usize;
     // How many books the class has.
-    let base = 1u32 << floor_row::class_subclasses(floors, floor, class);
+    let base = 1u32 << row.class_subclasses(class);
     let mut next = from;
     let mut left = class_value;
     for i in 0..count {
-        let place = floor_row::subclass_book(floors, floor, class, (left % base) as usize);
+        let place = row.subclass_book(class, (left % base) as usize);
         next = read_value(packet, next, place, codebooks, values, at + i)?;
         left /= base;
     }
@@ -92,29 +91,18 @@ fn read_chosen(
 pub fn read_partition(
     packet: &[u8],
     from: Cursor,
-    floors: &[u16],
-    floor: usize,
+    row: FloorRow,
     class: usize,
     codebooks: Codebooks,
     values: &mut [u16],
     at: usize,
 ) -> Result<Cursor, Refusal>
-    requires { (at ≤ 65535) × ClassStored floors.now codebooks.books.now codebooks.lengths.now codebooks.codewords.now floor class }
+    requires { (at ≤ 65535) × ClassStored row.floors.now codebooks.books.now codebooks.lengths.now codebooks.codewords.now row.number class }
     ensures { Wrote (into1 (put_row whole)
-        (partition (lengths_in codebooks.entry.books.now codebooks.entry.lengths.now) (class_in floors.now floor class)
+        (partition (lengths_in codebooks.entry.books.now codebooks.entry.lengths.now) (class_in row.entry.floors.now row.entry.number class)
         packet.now (position from)) (table values.old at)) result
-        (table values.new (at + (class_in floors.now floor class).dimensions)) }
+        (table values.new (at + (class_in row.entry.floors.now row.entry.number class).dimensions)) }
 {
-    let (class_value, next) = read_class_value(packet, from, floors, floor, class, codebooks)?;
-    read_chosen(
-        packet,
-        next,
-        floors,
-        floor,
-        class,
-        class_value,
-        codebooks,
-        values,
-        at,
-    )
+    let (class_value, next) = read_class_value(packet, from, row, class, codebooks)?;
+    read_chosen(packet, next, row, class, class_value, codebooks, values, at)
 }

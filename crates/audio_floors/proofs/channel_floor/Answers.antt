@@ -3,8 +3,7 @@ use Rattle.audio_floors.proofs.FloorsLaws.{submap_few, floor_number_lem}
 use Rattle.audio_floors.proofs.channel_floor.Goals as goal
 
 pub submap_floor-requires : goal.submap_floor-requires
-submap_floor-requires c =
-    (c.requires.0.few, submap_few _ _ _ c.requires.0 c.requires.1 _ c.requires.2 c.channel_submap-submap.ensures)
+submap_floor-requires c = submap_few _ _ _ c.requires.0 c.requires.1 _ c.requires.2 c.channel_submap-submap.ensures
 
 pub returns : goal.returns
 returns c =

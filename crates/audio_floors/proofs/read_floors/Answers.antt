@@ -17,22 +17,22 @@ pub slice_bounds-read_channel-end : goal.slice_bounds-read_channel-end
 slice_bounds-read_channel-end c = part_low _ _ _ _ _ _ _ _ c.loop-channel.invariant (omega arith)
 
 pub read_channel-requires : goal.read_channel-requires
-read_channel-requires c = readable c.requires.3 (omega arith) c.channel_floor-floor.ensures
+read_channel-requires c = readable c.requires.3 (omega arith) c.channel_floor-number.ensures
 
 pub slice_bounds-clear-start : goal.slice_bounds-clear-start
 slice_bounds-clear-start c = (part_end _ _ _ _ _ _ _ _ c.loop-channel.invariant (omega arith) refl).0
 
 pub slice_bounds-clear-end : goal.slice_bounds-clear-end
 slice_bounds-clear-end c =
-    rest_room _ _ _ _ _ _ _ _ c.loop-channel.invariant (omega arith) c.channel_floor-floor.ensures c.read_channel.ensures refl
+    rest_room _ _ _ _ _ _ _ _ c.loop-channel.invariant (omega arith) c.channel_floor-number.ensures c.read_channel.ensures refl
 
 pub returns-in-Err : goal.returns-in-Err
 returns-in-Err c =
-    go_cut _ _ _ _ _ _ _ _ c.loop-channel.invariant (omega arith) c.channel_floor-floor.ensures c.read_channel.ensures c.in-Err.is refl refl c.clear.ensures refl
+    go_cut _ _ _ _ _ _ _ _ c.loop-channel.invariant (omega arith) c.channel_floor-number.ensures c.read_channel.ensures c.in-Err.is refl refl c.clear.ensures refl
 
 pub loop-channel-preserved : goal.loop-channel-preserved
 loop-channel-preserved c =
-    go_next _ _ _ _ _ _ _ _ c.loop-channel.invariant (omega arith) c.channel_floor-floor.ensures c.read_channel.ensures c.in-Ok.is
+    go_next _ _ _ _ _ _ _ _ c.loop-channel.invariant (omega arith) c.channel_floor-number.ensures c.read_channel.ensures c.in-Ok.is
 
 pub returns : goal.returns
 returns c = go_done _ _ _ _ _ _ _ _ c.loop-channel.invariant (omega arith)

@@ -1,12 +1,8 @@
 -- `audio_residues::read_submaps` meets its contract, by RequestLaws and WholeLaws. Assumes nothing.
 use Rattle.codeword_list.proofs.Laws.{read_back}
-use Rattle.audio_residues.proofs.SubmapLaws.{mapping_low}
 use Rattle.audio_residues.proofs.RequestLaws.{submaps_start, submaps_room_lem, submaps_next, submaps_stopped, submaps_done}
 use Rattle.audio_residues.proofs.WholeLaws.{submap_in, submap_end}
 use Rattle.audio_residues.proofs.read_submaps.Goals as goal
-
-pub submaps-count-requires : goal.submaps-count-requires
-submaps-count-requires c = mapping_low _ _ _ _ _ _ _ _ _ _ c.requires.1
 
 pub loop-submap-init : goal.loop-submap-init
 loop-submap-init c = submaps_start _ _ _ _ _ _ _ _ c.requires.0

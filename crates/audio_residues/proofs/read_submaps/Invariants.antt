@@ -6,4 +6,4 @@ use Rattle.audio_residues.proofs.read_submaps.Given as goal
 
 abbrev pub invariant-loop-submap : goal.invariant-loop-submap
 invariant-loop-submap l =
-    SubmapsRead l.tables.books.now l.tables.lengths.now l.tables.residues.now l.tables.plans.now l.half (mapping_in l.tables.mappings.now l.mapping) (used_bools l.channels l.live) l.packet l.initial.out l.initial.next l.out l.next l.submap
+    SubmapsRead l.tables.books.now l.tables.lengths.now l.tables.residues.now l.tables.plans.now l.half (mapping_in l.row.mappings.now l.row.number) (used_bools l.channels l.live) l.packet l.initial.out l.initial.next l.out l.next l.submap

@@ -4,4 +4,4 @@ use Rattle.audio_channels.proofs.ChannelLaws.{Counting, in_submap}
 use Rattle.audio_channels.proofs.channels.channels_of.Given as goal
 
 abbrev pub invariant-loop-i : goal.invariant-loop-i
-invariant-loop-i l = Counting (in_submap (mapping_in l.mappings l.mapping) l.submap) l.channels l.total l.i
+invariant-loop-i l = Counting (in_submap (mapping_in l.row.mappings.now l.row.number) l.submap) l.channels l.total l.i

@@ -5,4 +5,4 @@ use Rattle.audio_channels.proofs.LiveLaws.{Steps}
 use Rattle.audio_channels.proofs.live.sweep.Given as goal
 
 abbrev pub invariant-loop-i : goal.invariant-loop-i
-invariant-loop-i l = Steps (mapping_in l.mappings l.mapping) (used_bools l.channels l.initial.live) l.live l.i
+invariant-loop-i l = Steps (mapping_in l.row.mappings.now l.row.number) (used_bools l.channels l.initial.live) l.live l.i

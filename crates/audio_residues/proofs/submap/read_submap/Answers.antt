@@ -1,5 +1,5 @@
 -- `audio_residues::submap::read_submap` meets its contract, by SubmapLaws. Assumes nothing.
-use Rattle.audio_residues.proofs.SubmapLaws.{mapping_low, submap_low, size_low, residue_readable, residue_read, digits_low, top_fits, pass_readable}
+use Rattle.audio_residues.proofs.SubmapLaws.{size_low, residue_readable, residue_read, digits_low, top_fits, pass_readable}
 use Rattle.audio_residues.proofs.submap.read_submap.Goals as goal
 
 pub submap_extent-extent-requires : goal.submap_extent-extent-requires

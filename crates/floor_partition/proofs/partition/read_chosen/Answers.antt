@@ -7,10 +7,10 @@ use borrow.Author.Rules.{rules}
 use Rattle.floor_partition.proofs.partition.read_chosen.Goals as goal
 
 pub class_dimensions-count-requires : goal.class_dimensions-count-requires
-class_dimensions-count-requires c = (c.requires.1.floor_few, c.requires.1.class_few)
+class_dimensions-count-requires c = c.requires.1.class_few
 
 pub class_subclasses-requires : goal.class_subclasses-requires
-class_subclasses-requires c = (c.requires.1.floor_few, c.requires.1.class_few)
+class_subclasses-requires c = c.requires.1.class_few
 
 pub overflow_shl-base : goal.overflow_shl-base
 overflow_shl-base c = let few = subclasses_few c.requires.1 c.class_subclasses.ensures in omega arith
@@ -22,7 +22,7 @@ pub nonzero_rem-left : goal.nonzero_rem-left
 nonzero_rem-left c = base_low c.loop-i.invariant
 
 pub subclass_book-place-requires : goal.subclass_book-place-requires
-subclass_book-place-requires c = (c.loop-i.invariant.stored.floor_few, c.loop-i.invariant.stored.class_few, digit_few c.loop-i.invariant refl)
+subclass_book-place-requires c = (c.loop-i.invariant.stored.class_few, digit_few c.loop-i.invariant refl)
 
 pub read_value-requires : goal.read_value-requires
 read_value-requires c = place_stored c.loop-i.invariant refl c.subclass_book-place.ensures

@@ -4,13 +4,13 @@ use borrow.Author.Rules.{rules}
 use Rattle.floor_partition.proofs.partition.read_class_value.Goals as goal
 
 pub class_subclasses-requires : goal.class_subclasses-requires
-class_subclasses-requires c = (c.requires.floor_few, c.requires.class_few)
+class_subclasses-requires c = c.requires.class_few
 
 pub returns-then-class_subclasses-eq0 : goal.returns-then-class_subclasses-eq0
 returns-then-class_subclasses-eq0 c = search (rules, class_none)
 
 pub class_master-master-requires : goal.class_master-master-requires
-class_master-master-requires c = (c.requires.floor_few, c.requires.class_few)
+class_master-master-requires c = c.requires.class_few
 
 pub overflow_sub-master : goal.overflow_sub-master
 overflow_sub-master c = search (rules, master_low)

@@ -5,13 +5,13 @@ use Rattle.floor_values.proofs.FirstLaws.{multiplier_byte, range_some, width_few
 use Rattle.floor_values.proofs.values.read_first_two.Goals as goal
 
 pub overflow_cast-multiplier : goal.overflow_cast-multiplier
-overflow_cast-multiplier c = search (rules, multiplier_byte c.args.floors.now c.args.floor c.requires.1 c.multiplier.ensures)
+overflow_cast-multiplier c = search (rules, multiplier_byte c.args.row.floors.now c.args.row.number c.requires c.multiplier.ensures)
 
 pub overflow_sub-range : goal.overflow_sub-range
-overflow_sub-range c = omega (arith, range_some c.args.floors.now c.args.floor c.requires.1 c.multiplier.ensures c.range_of-range.ensures.0)
+overflow_sub-range c = omega (arith, range_some c.args.row.floors.now c.args.row.number c.requires c.multiplier.ensures c.range_of-range.ensures.0)
 
 pub read_numbers-requires : goal.read_numbers-requires
-read_numbers-requires c = (width_few c.args.floors.now c.args.floor c.requires.1 c.multiplier.ensures c.range_of-range.ensures.0 c.ilog-width.ensures, omega arith, omega arith)
+read_numbers-requires c = (width_few c.args.row.floors.now c.args.row.number c.requires c.multiplier.ensures c.range_of-range.ensures.0 c.ilog-width.ensures, omega arith, omega arith)
 
 pub returns : goal.returns
-returns c = two_read c.args.floors.now c.args.floor c.requires.1 c.multiplier.ensures c.range_of-range.ensures.0 c.ilog-width.ensures _ _ _ c.read_numbers.ensures
+returns c = two_read c.args.row.floors.now c.args.row.number c.requires c.multiplier.ensures c.range_of-range.ensures.0 c.ilog-width.ensures _ _ _ c.read_numbers.ensures

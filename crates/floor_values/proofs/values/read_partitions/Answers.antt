@@ -5,14 +5,11 @@ use Rattle.floor_values.proofs.PartitionLaws.{go_start, count_few, place_low, go
 use borrow.Author.Rules.{rules}
 use Rattle.floor_values.proofs.values.read_partitions.Goals as goal
 
-pub partition_count-count-requires : goal.partition_count-count-requires
-partition_count-count-requires c = c.requires.few
-
 pub loop-i-init : goal.loop-i-init
 loop-i-init c = go_start c.requires c.partition_count-count.ensures
 
 pub partition_class-class-requires : goal.partition_class-class-requires
-partition_class-class-requires c = (c.loop-i.invariant.stored.few, search (rules, count_few c.loop-i.invariant))
+partition_class-class-requires c = search (rules, count_few c.loop-i.invariant)
 
 pub read_partition-requires : goal.read_partition-requires
 read_partition-requires c = (place_low c.loop-i.invariant (omega arith), go_class c.loop-i.invariant (omega arith) c.partition_class-class.ensures)
@@ -23,7 +20,7 @@ returns-in_err-next c =
     (go_refused c.loop-i.invariant (omega arith) c.partition_class-class.ensures c.read_partition.ensures c.in_err-next.was _)
 
 pub class_dimensions-requires : goal.class_dimensions-requires
-class_dimensions-requires c = (c.loop-i.invariant.stored.few, (go_class c.loop-i.invariant (omega arith) c.partition_class-class.ensures).class_few)
+class_dimensions-requires c = (go_class c.loop-i.invariant (omega arith) c.partition_class-class.ensures).class_few
 
 pub overflow_add-at : goal.overflow_add-at
 overflow_add-at c = record { fits = omega (arith, place_low c.loop-i.invariant (omega arith), c.class_dimensions.ensures) }

@@ -3,4 +3,4 @@ use Rattle.floor_values.proofs.PartitionLaws.{Progress}
 use Rattle.floor_values.proofs.values.read_partitions.Given as goal
 
 abbrev pub invariant-loop-i : goal.invariant-loop-i
-invariant-loop-i l = Progress l.packet l.floors l.codebooks.books.now l.codebooks.lengths.now l.codebooks.codewords.now l.floor l.initial.values l.initial.next l.count l.values l.next l.at l.i
+invariant-loop-i l = Progress l.packet l.row.floors.now l.codebooks.books.now l.codebooks.lengths.now l.codebooks.codewords.now l.row.number l.initial.values l.initial.next l.count l.values l.next l.at l.i
