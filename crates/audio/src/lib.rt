@@ -18,7 +18,7 @@ pub struct Head {
     // The mode's block flag, 1 for a long block, and the block size that goes with it.
     pub blockflag: u32,
     pub blocksize: u32,
-    // The previous and the next window flag; 0 and 0 for a short block.
+    // The previous and the next window flag; 0 and 0 for a short block. Numbers, as fields of one bit are, and as C is answered.
     pub previous: u32,
     pub next: u32,
 }

@@ -15,7 +15,7 @@ use bits::Cursor;
 use codeword_list::{Progress, Stop};
 use setup::lent::LentTables;
 
-// Which floors are used, and how reading the codewords of the residues ended.
+// Which floors are used, also where a floor is cut, and how reading the codewords of the residues ended.
 #[derive(Clone, Copy)]
 pub struct BodyRead {
     pub used: [u8; 255],

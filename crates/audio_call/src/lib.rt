@@ -16,8 +16,9 @@ use identification::Identity;
 use limits::Limits;
 use setup::lent::LentTables;
 
-// THE INNER DOOR, for a caller whose tables its own setup call left: nothing is judged again. Only the first `curves_end` curve bytes and `words_end` places of
-// the list may hold something: that is what the packet before left, and only that is cleared.
+// THE INNER DOOR, for a caller whose tables its own setup call left: nothing is judged again. Only the first `curves_end` curve bytes and `words_end`
+// places of the list may hold something: that is what the packet before left, and only that is cleared. The ends stand beside the slices: the whole of an
+// output may be written.
 pub fn read_packet(
     tally: Tally,
     identity: Identity,

@@ -20,7 +20,7 @@ use size::curve_bytes;
 #[derive(Clone, Copy)]
 pub struct Judged {
     pub head: Head,
-    // For each channel 1 where its floor is used; zeros behind the last channel.
+    // For each channel 1 where its floor is used; zeros behind the last channel. Bytes, as the answer has them for C (AudioAnswer).
     pub used: [u8; 255],
     // How many codewords stand in the list.
     pub words: usize,
@@ -29,7 +29,8 @@ pub struct Judged {
     pub tally: Tally,
 }
 
-// A packet that is sent back: why, and whether anything was written to the outputs before.
+// A packet that is sent back: why, and whether anything was written to the outputs before. No reason tells that: 17 is found before anything is written and
+// after.
 #[derive(Clone, Copy)]
 pub struct Rejected {
     pub reason: Reason,
@@ -79,7 +80,8 @@ fn answer_of(identity: Identity, judged: Judged) -> AudioAnswer
     }
 }
 
-// A refusal that leaves nothing of what the outputs held. Any number is taken, not 01's alone: a caller may have its own.
+// A refusal that leaves nothing of what the outputs held, which are cleared whole: no ends are known. Any number is taken, not 01's alone: a caller may
+// have its own.
 pub fn refuse(refusal: u32, tally: Tally, curves: &mut [u8], words: &mut [u32]) -> AudioLeft
     ensures { left_of result.answer result.tally curves.new words.new
         ≡ refused_left refusal tally curves.old words.old }

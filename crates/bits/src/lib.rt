@@ -14,7 +14,8 @@ ghost use Rattle.bits.specs.Signed.{signed};
 use refusal::{Reason, Refusal};
 
 // A position in a packet: bit `bit` of byte `byte`. A slice may have 2^63 - 1 bytes, so a count of bits would not fit 64 bits;
-// byte and bit apart always do. Any two numbers are a position: bit may pass 7.
+// byte and bit apart always do. Any two numbers are a position: bit may pass 7. The packet is not in it, and goes beside it everywhere: of a cursor with its
+// packet each contract would have to say that the packet stays the same.
 #[derive(Clone, Copy)]
 pub struct Cursor {
     pub byte: usize,

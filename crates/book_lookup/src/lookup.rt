@@ -13,7 +13,8 @@ use bits::Cursor;
 use bits::refusal::{Reason, Refusal};
 use book::Parameters;
 
-// The numbers of a lookup, all 0 where there is none; the multiplicands lie in their table.
+// The numbers of a lookup, all 0 where there is none; the multiplicands lie in their table. No Option: the zeros are what the row of a book without a
+// lookup has, and `lookup` is its type, 0, 1 or 2.
 #[derive(Clone, Copy)]
 pub struct Lookup {
     pub lookup: u32,

@@ -102,7 +102,7 @@ fn finish_book(
     ))
 }
 
-// What follows a book's head.
+// What follows a book's head. The four tables of books are lent one by one in this crate: `LentTablesMut` is of crate setup, which stands above.
 fn read_body(
     packet: &[u8],
     from: Cursor,

@@ -12,7 +12,7 @@ pub fn lone_mark_at(lengths: &[u8], first: u32, count: u32) -> u32
     lone_mark(&lengths[start..start + count as usize])
 }
 
-// The number of the sole used entry of length 1 plus one, or 0 where there is none.
+// The number of the sole used entry of length 1 plus one, or 0 where there is none. No Option: it is the last number of the book's row.
 fn lone_mark(lengths: &[u8]) -> u32
     requires { length lengths.now < 4294967296 }
     ensures { result ≡ lone_mark lengths.now }

@@ -4,7 +4,8 @@ ghost use Rattle.book_tables.specs.Inner.Recognised.{Clear};
 
 use reading::zeros::zeros;
 
-// `rows` numbers of rows, and so many entries and multiplicands, are written.
+// `rows` numbers of rows, and so many entries and multiplicands, are written. The tables are lent one by one in this crate: `LentTables` is of crate setup,
+// which stands above.
 pub fn are_clear(
     rows: usize,
     entries: usize,

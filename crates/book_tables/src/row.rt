@@ -24,7 +24,8 @@ pub struct Row {
     pub lone: u32,
 }
 
-// Number `column` of the row of book `index`.
+// Number `column` of the row of book `index`. Not by crate book_row, whose contract names the place in the whole table: here the table is dropped up to the
+// row.
 fn number(books: &[u32], index: u32, column: usize) -> u32
     requires { column < book_width }
     ensures { result ≡ get_or (drop (book_width * index) books.now) column 0 }

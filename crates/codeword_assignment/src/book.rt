@@ -102,7 +102,7 @@ pub fn is_lone(lengths: &[u8]) -> bool
     lengths.len() <= next_used(lengths, first + 1)
 }
 
-// The first used entry from `from` on, or the number of entries.
+// The first used entry from `from` on, or the number of entries: the end of the range in which the caller goes on searching.
 fn next_used(lengths: &[u8], from: usize) -> usize
     requires { from ≤ length lengths.now }
     ensures { NextUsed lengths.now from result }

@@ -15,7 +15,7 @@ use bits::refusal::{Reason, Refusal};
 use floor::CLASS_WIDTH;
 use reading::buffers;
 
-// The master book's number plus one, read only where there are subclass bits.
+// The master book's number plus one, read only where there are subclass bits; else 0. No Option: it is the number that goes into the row.
 pub fn read_master_book(
     packet: &[u8],
     from: Cursor,

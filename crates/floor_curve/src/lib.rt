@@ -21,6 +21,7 @@ fn draw_linked(x: &[u16], y: &[u8], flags: &[u8], multiplier: u8, after: &[usize
 {
     let mut at: usize = 0;
     let mut left: usize = 0;
+    // A turn draws a whole line, whose end is found on the way: there is no range to count by.
     while at < out.len() {
         let Some(right) = next_linked(x, flags, after, left) else {
             draw_flat(out, at, height_at(y, multiplier, left));
@@ -44,6 +45,7 @@ fn draw_searched(x: &[u16], y: &[u8], flags: &[u8], multiplier: u8, out: &mut [u
     ensures { out.new ≡ places (curve_at x.now y.now flags.now multiplier) 0 (length out.old) }
 {
     let mut at: usize = 0;
+    // As above, a turn draws a whole line.
     while at < out.len() {
         let l = last_at(x, flags, at);
         let Some(r) = next_after(x, flags, at) else {

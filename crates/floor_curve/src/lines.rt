@@ -27,6 +27,7 @@ pub fn draw_line(out: &mut [u8], x0: u16, y0: u8, x1: u16, y1: u8)
 pub fn draw_flat(out: &mut [u8], from: usize, y: u8)
     ensures { Flat from y out.old out.new }
 {
+    // Not `out[from..].fill(y)`: `from` may lie past the end.
     for x in from..out.len() {
         out[x] = y;
     }

@@ -50,6 +50,7 @@ pub fn next_linked(x: &[u16], flags: &[u8], after: &[usize], l: usize) -> Option
         × IfSome result (λ r. r < length x.now) }
 {
     let mut p = l;
+    // The list is walked by its links to its last place, 1: there is no range to count by.
     while p != 1 {
         p = after[p];
         if flags[p] != 0 {

@@ -15,13 +15,13 @@ pub struct Progress {
     pub kept: Kept,
     // How many whole records there were.
     pub number: u64,
-    // How many bytes of a body that is too long are still to pass.
+    // How many bytes of a body that is too long are still to pass. 0 is no other case: it is what is left to pass where a record is due.
     pub skip: usize,
     // Where the bytes begin that are not yet taken.
     pub from: usize,
     // How many places of the lines are filled.
     pub lines_end: usize,
-    // More of the input is needed.
+    // More of the input is needed. All else stands in either case.
     pub waiting: bool,
 }
 

@@ -10,7 +10,8 @@ ghost use Rattle.residue.specs.Inner.Plans.{Grid};
 use bits::Cursor;
 use bits::refusal::{Reason, Refusal};
 
-// A place of the plan: a book's number plus one where the pass's bit is set, else 0.
+// A place of the plan: a book's number plus one where the pass's bit is set, else 0. No Option: it is the number that goes into the table.
+// A class's master book (floor_class) is read likewise, by another definition and in a crate that does not stand below this one.
 pub fn read_place(
     packet: &[u8],
     from: Cursor,

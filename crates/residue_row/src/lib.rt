@@ -69,7 +69,7 @@ pub fn head(residues: &[u32], residue: u32) -> Head
     }
 }
 
-// The place of a class and a pass in a residue's plan: a book's number plus one, or 0 for nothing.
+// The place of a class and a pass in a residue's plan: a book's number plus one, or 0 for nothing. No Option: it is the number that the table has.
 pub fn plan_place(plans: &[u16], residue: u32, class: u32, pass: u32) -> u16
     ensures { result ≡ get_or plans.now (plan_width * residue + (8 * class + pass)) 0 }
 {

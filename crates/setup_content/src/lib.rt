@@ -45,8 +45,8 @@ fn read_books(
     )
 }
 
-// What follows the header. The tables are lent one by one: the books are read while those behind them are written, and the check does not cover the one beside the
-// other behind a `&mut` of `LentTablesMut`.
+// What follows the header. The tables are lent one by one, here and in all that this calls: the books are read while those behind them are written, and
+// the check does not cover the one beside the other behind a `&mut` of `LentTablesMut`.
 pub fn read_content(
     packet: &[u8],
     from: Cursor,

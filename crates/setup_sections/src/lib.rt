@@ -25,7 +25,7 @@ use bits::refusal::{Reason, Refusal};
 use limits::Limits;
 use mapping::Known;
 
-// How many codebooks there are, and the position behind them.
+// How many codebooks there are, and the position behind them. Tables come one by one in this crate, as `setup_content::read_content` is lent them.
 pub fn read_book_section(
     packet: &[u8],
     from: Cursor,
@@ -88,7 +88,8 @@ pub fn read_time_section(packet: &[u8], from: Cursor) -> Result<Cursor, Refusal>
     read_time_values(packet, next, less_one + 1)
 }
 
-// A floor is judged against how many codebooks are set up.
+// A floor is judged against how many codebooks are set up. A section for floors, residues, mappings and modes each: one for all would be handed the
+// reader of the rows, and with it what that reader requires and writes.
 pub fn read_floor_section(
     packet: &[u8],
     from: Cursor,

@@ -28,6 +28,7 @@ pub fn torchvalley_codewords(lengths: &[u8], codewords: &mut [u32]) -> u32
         ≡ written (assigned lengths.now (length codewords.old)) lengths.now
         (length codewords.old) }
 {
+    // The numbers that C is answered: 0 is no Reason.
     match codeword_assignment::book::assign_codewords(lengths, codewords) {
         Ok(()) => 0,
         Err(Unassigned::Overspecified(_)) => 7,

@@ -15,7 +15,7 @@ ghost use Rattle.torchvalley.specs.Answers.{answer_of, no_identity};
 use identification::Identity;
 use limits::Limits;
 
-// What an identification packet comes to.
+// What an identification packet comes to. No Result: it is laid out for C.
 #[repr(C)]
 #[derive(Clone, Copy)]
 pub struct IdentityAnswer {

@@ -35,7 +35,7 @@ pub fn torchvalley_setup_sound(identity: Identity, tables: LentTables<'_>) -> bo
     setup_codeword::are_sound(identity, Limits::standard(), tables)
 }
 
-// What reading one codeword comes to.
+// What reading one codeword comes to. No Result: it is laid out for C.
 #[repr(C)]
 #[derive(Clone, Copy)]
 pub struct CodewordAnswer {
