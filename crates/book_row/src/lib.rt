@@ -1,5 +1,5 @@
 // The numbers of a codebook, read from its row in the table of books: `book` is the book's number, its row begins at 11 * book. A place past the table's end
-// reads as 0.
+// reads as 0. Table and number stay two parameters: no contract asks anything of the number that a struct could say once.
 #![tactic(auto)]
 
 pub mod mark; // whether a book has a sole used entry, and which

@@ -25,7 +25,7 @@ pub fn empty_space() -> [u64; 33]
     blocks
 }
 
-// The height of the smallest block of at least 2^height strings, or 33: above every height, so that the caller asks only whether it is below.
+// The height of the smallest block of at least 2^height strings, or 33, above every height, where there is none: callers compare with 33.
 fn smallest_block(blocks: &[u64; 33], height: usize) -> usize
     requires { height ≤ 32 }
     ensures { result ≡ first_occupied (33 - height) height blocks.now }

@@ -51,6 +51,7 @@ fn eight_bytes(packet: &[u8], at: usize) -> u64
 }
 
 // The bytes that are left, fewer than eight. Not one function with `eight_bytes`: a count that is no constant would not become one load.
+// Nor with `bits::whole_bytes`, which is for a field's bytes, five at most.
 fn last_bytes(packet: &[u8], at: usize, left: usize) -> u64
     requires { (left < 8) × (at + left ≤ length packet.now) }
     ensures { result ≡ value_at packet.now (8 * at) (8 * left) }

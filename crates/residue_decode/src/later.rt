@@ -9,7 +9,8 @@ ghost use Rattle.residue_decode.specs.Inner.Parts.{classes_found};
 use codeword_list::{Progress, Stop};
 use residue_pass::Decoder;
 
-// The place of the next class word in the list, from a place on, or the list's end, behind which nothing is read: every other codeword is odd.
+// The place of the next class word in the list, from a place on; where there is none, the list's end or that place, behind which
+// nothing is read. Every other codeword is odd.
 pub fn next_class(list: &[u32], from: usize) -> usize
     ensures { result ≡ next_class list.now from }
 {

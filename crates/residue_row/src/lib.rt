@@ -1,5 +1,5 @@
 // The numbers of a residue, read from its rows in the tables: `residue` is the residue's number, its rows begin at 6 * residue and 512 * residue. A place
-// past a table's end reads as 0.
+// past a table's end reads as 0. Table and number stay two parameters: no contract asks anything of the number that a struct could say once.
 #![tactic(auto)]
 
 ghost use Rattle.std.specs.Prelude.{◌≡◌, ◌+◌, ◌*◌, ◌<◌, get_or};

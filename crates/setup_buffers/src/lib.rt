@@ -31,7 +31,7 @@ pub fn have_room(limits: Limits, tables: LentTables<'_>) -> bool
         && mode::MODES_NEED <= tables.modes.len()
 }
 
-// The four tables of the books. One by one, here and below, as `setup_content::read_content` is lent them.
+// The four tables of the books. One by one, here and in `clear_after`, as `setup_content::read_content` is lent them.
 pub fn clear_books(
     books: &mut [u32],
     lengths: &mut [u8],
@@ -84,7 +84,8 @@ pub fn clear(tables: &mut LentTablesMut<'_>)
     );
 }
 
-// 0 where the packet was read through: the tables stay as they are. Else the number of the refusal, and every table is all zero.
+// 0 where the packet was read through: the tables stay as they are. Else the number of the refusal, as C is answered, and every table
+// is all zero.
 pub fn settle(answer: Result<Cursor, Refusal>, tables: &mut LentTablesMut<'_>) -> u32
     ensures left { left result (held_mut tables.new) ≡ settled answer (held_mut tables.old) }
     ensures lent { StaysLent tables.old tables.new }

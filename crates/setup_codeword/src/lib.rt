@@ -20,8 +20,8 @@ use limits::Limits;
 use reading::buffers::get;
 use setup::lent::LentTables;
 
-// A fault that no field has: its place is the first bit of the packet. A call of `setup_call` says the same of another answer: one for both would have to
-// say it of any, and so of neither `outcome` nor `stepped`.
+// A fault that no field has: its place is the first bit of the packet. Crate setup_call has the same for an answer without a
+// value: a generic one's contract could name neither `outcome` nor `stepped`.
 fn refused(reason: Reason) -> Result<(u32, Cursor), Refusal>
     ensures { outcome result ≡ bad (refusal (number reason) 0) }
 {
