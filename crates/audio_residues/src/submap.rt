@@ -53,7 +53,7 @@ pub fn read_submap(
     read_residue(
         packet,
         from,
-        decoder,
+        &decoder,
         extent.vectors,
         extent.partitions,
         out,

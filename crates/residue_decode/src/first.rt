@@ -24,13 +24,13 @@ fn chunk(digits: u32, left: u32) -> u32
 pub fn first_pass(
     packet: &[u8],
     from: Progress,
-    decoder: Decoder,
+    decoder: &Decoder<'_>,
     live: usize,
     partitions: u32,
     out: &mut [u32],
 ) -> Result<Progress, Stop>
-    requires { (from.count ≤ length out.old) × PassReady decoder }
-    ensures { ReadIntoList (first_pass_by decoder.entry live partitions 0 []
+    requires { (from.count ≤ length out.old) × PassReady decoder.now }
+    ensures { ReadIntoList (first_pass_by decoder.now live partitions 0 []
         packet.now (position from.at)) out.old from.count result out.new }
 {
     let mut next = from;

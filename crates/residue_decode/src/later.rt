@@ -26,17 +26,17 @@ pub fn next_class(list: &[u32], from: usize) -> usize
 pub fn later_pass(
     packet: &[u8],
     from: Progress,
-    decoder: Decoder,
+    decoder: &Decoder<'_>,
     start: usize,
     live: usize,
     partitions: u32,
     pass: u32,
     out: &mut [u32],
 ) -> Result<Progress, Stop>
-    requires { (from.count ≤ length out.old) × PassReady decoder
-        × (pass < 8) × (1 ≤ live) × ClassWordsBefore decoder.digits live from.count out.old partitions 0 start }
-    ensures { ReadIntoList (partitions_by decoder.entry pass
-        (classes_found decoder.entry live out.old partitions start)
+    requires { (from.count ≤ length out.old) × PassReady decoder.now
+        × (pass < 8) × (1 ≤ live) × ClassWordsBefore decoder.now.digits live from.count out.old partitions 0 start }
+    ensures { ReadIntoList (partitions_by decoder.now pass
+        (classes_found decoder.now live out.old partitions start)
         packet.now (position from.at)) out.old from.count result out.new }
 {
     let mut next = from;

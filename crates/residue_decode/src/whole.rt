@@ -13,16 +13,16 @@ use residue_pass::Decoder;
 pub fn later_passes(
     packet: &[u8],
     from: Progress,
-    decoder: Decoder,
+    decoder: &Decoder<'_>,
     start: usize,
     live: usize,
     partitions: u32,
     out: &mut [u32],
 ) -> Result<Progress, Stop>
-    requires { (from.count ≤ length out.old) × PassReady decoder
-        × (1 ≤ live) × ClassWordsBefore decoder.digits live from.count out.old partitions 0 start }
-    ensures { ReadIntoList (later_passes_by decoder.entry 1 7
-        (classes_found decoder.entry live out.old partitions start)
+    requires { (from.count ≤ length out.old) × PassReady decoder.now
+        × (1 ≤ live) × ClassWordsBefore decoder.now.digits live from.count out.old partitions 0 start }
+    ensures { ReadIntoList (later_passes_by decoder.now 1 7
+        (classes_found decoder.now live out.old partitions start)
         packet.now (position from.at)) out.old from.count result out.new }
 {
     let last = super::last::last_pass(decoder.plans, decoder.residue, decoder.head.classifications);
@@ -37,13 +37,13 @@ pub fn later_passes(
 pub fn read_residue(
     packet: &[u8],
     from: Progress,
-    decoder: Decoder,
+    decoder: &Decoder<'_>,
     live: usize,
     partitions: u32,
     out: &mut [u32],
 ) -> Result<Progress, Stop>
-    requires { (from.count ≤ length out.old) × PassReady decoder }
-    ensures { ReadIntoList (residue_by_decoder decoder.entry live partitions
+    requires { (from.count ≤ length out.old) × PassReady decoder.now }
+    ensures { ReadIntoList (residue_by_decoder decoder.now live partitions
         packet.now (position from.at)) out.old from.count result out.new }
 {
     if live == 0 {

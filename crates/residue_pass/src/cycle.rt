@@ -38,13 +38,13 @@ pub fn read_class_words(
 pub fn class_word(
     packet: &[u8],
     from: Progress,
-    decoder: Decoder,
+    decoder: &Decoder<'_>,
     live: usize,
     left: u32,
     out: &mut [u32],
 ) -> Result<Progress, Stop>
-    requires { (from.count ≤ length out.old) × PassReady decoder }
-    ensures { ReadIntoList (first_pass_by decoder.entry live left 0 []
+    requires { (from.count ≤ length out.old) × PassReady decoder.now }
+    ensures { ReadIntoList (first_pass_by decoder.now live left 0 []
         packet.now (position from.at)) out.old from.count result out.new }
 {
     if left == 0 {
@@ -66,14 +66,14 @@ pub fn class_word(
 pub fn group(
     packet: &[u8],
     from: Progress,
-    decoder: Decoder,
+    decoder: &Decoder<'_>,
     live: usize,
     left: u32,
     out: &mut [u32],
 ) -> Result<Progress, Stop>
-    requires { (from.count ≤ length out.old) × PassReady decoder
+    requires { (from.count ≤ length out.old) × PassReady decoder.now
         × (live ≤ from.count) × (0 < left) }
-    ensures { ReadIntoList (first_pass_by decoder.entry live left decoder.entry.digits
+    ensures { ReadIntoList (first_pass_by decoder.now live left decoder.now.digits
         (entries_from out.old (from.count - live) live)
         packet.now (position from.at)) out.old from.count result out.new }
 {

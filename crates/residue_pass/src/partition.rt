@@ -14,14 +14,14 @@ use codeword_list::{Progress, Stop};
 pub fn read_partition(
     packet: &[u8],
     from: Progress,
-    decoder: Decoder,
+    decoder: &Decoder<'_>,
     class: u32,
     pass: u32,
     out: &mut [u32],
 ) -> Result<Progress, Stop>
-    requires { (from.count ≤ length out.old) × ResidueReady decoder
-        × (class < decoder.head.classifications) × (pass < 8) }
-    ensures { ReadIntoList (partition_by decoder.entry pass class
+    requires { (from.count ≤ length out.old) × ResidueReady decoder.now
+        × (class < decoder.now.head.classifications) × (pass < 8) }
+    ensures { ReadIntoList (partition_by decoder.now pass class
         packet.now (position from.at)) out.old from.count result out.new }
 {
     let place = residue_row::plan_place(decoder.plans, decoder.residue, class, pass);
@@ -43,7 +43,7 @@ pub fn read_partition(
 pub fn read_across_vectors(
     packet: &[u8],
     from: Progress,
-    decoder: Decoder,
+    decoder: &Decoder<'_>,
     at: usize,
     live: usize,
     unused: u32,
@@ -51,10 +51,10 @@ pub fn read_across_vectors(
     pass: u32,
     out: &mut [u32],
 ) -> Result<Progress, Stop>
-    requires { (from.count ≤ length out.old) × ResidueReady decoder
-        × (pass < 8) × (at + live ≤ from.count) × (divisor ≡ decoder.head.classifications ^ unused) }
-    ensures { ReadIntoList (partitions_by decoder.entry pass
-        (classes_of (residue_of decoder.entry) unused (entries_from out.old at live))
+    requires { (from.count ≤ length out.old) × ResidueReady decoder.now
+        × (pass < 8) × (at + live ≤ from.count) × (divisor ≡ decoder.now.head.classifications ^ unused) }
+    ensures { ReadIntoList (partitions_by decoder.now pass
+        (classes_of (residue_of decoder.now) unused (entries_from out.old at live))
         packet.now (position from.at)) out.old from.count result out.new }
 {
     let mut next = from;
@@ -70,17 +70,17 @@ pub fn read_across_vectors(
 pub fn read_rows(
     packet: &[u8],
     from: Progress,
-    decoder: Decoder,
+    decoder: &Decoder<'_>,
     at: usize,
     live: usize,
     rows: u32,
     pass: u32,
     out: &mut [u32],
 ) -> Result<Progress, Stop>
-    requires { (from.count ≤ length out.old) × ResidueReady decoder
-        × (pass < 8) × (at + live ≤ from.count) × (rows ≤ decoder.digits) × (decoder.top ≡ decoder.head.classifications ^ (decoder.digits - 1)) }
-    ensures { ReadIntoList (partitions_by decoder.entry pass
-        (group_classes (residue_of decoder.entry) decoder.entry.digits (entries_from out.old at live) rows)
+    requires { (from.count ≤ length out.old) × ResidueReady decoder.now
+        × (pass < 8) × (at + live ≤ from.count) × (rows ≤ decoder.now.digits) × (decoder.now.top ≡ decoder.now.head.classifications ^ (decoder.now.digits - 1)) }
+    ensures { ReadIntoList (partitions_by decoder.now pass
+        (group_classes (residue_of decoder.now) decoder.now.digits (entries_from out.old at live) rows)
         packet.now (position from.at)) out.old from.count result out.new }
 {
     let mut next = from;
