@@ -18,8 +18,6 @@ use Rattle.audio.specs.Inner.Plain.{plain_at}
 use Rattle.audio.proofs.Plain.{audio_plain}
 use Rattle.audio_settle.specs.declared.Judged.{Judged}
 use Rattle.audio_settle.specs.declared.Rejected.{Rejected}
-use Rattle.bits.specs.declared.refusal.Reason.TheVariants as R
-use Rattle.bits.specs.Reasons.{number}
 use Rattle.audio_settle.specs.Inner.Judged.{JudgedIs}
 use Rattle.audio_judge.proofs.PacketLaws.{refused_is}
 
@@ -28,12 +26,12 @@ module _ (i : Identity) (c : Setup) (t : Tally) (s : List ℕ) (entry list : Lis
   room = record { curves = length entry; codewords = length list }
 
   -- nothing was written
-  untouched : {z : Refusal} {x : Rejected} → accepted i t room s c ≡ bad z → number x.reason ≡ z.number → JudgedIs i.channels c (accepted i t room s c) (Err x) entry entry list list
+  untouched : {z : Refusal} {x : Rejected} → accepted i t room s c ≡ bad z → x.refusal ≡ z.number → JudgedIs i.channels c (accepted i t room s c) (Err x) entry entry list list
   untouched e a = refused_is i.channels c entry entry list list e a refl refl (λ _. (refl, refl))
 
-  pub tally_refused : tally_sound i t ≡ false → JudgedIs i.channels c (accepted i t room s c) (Err (record { reason = R.Unsound; written = false })) entry entry list list
+  pub tally_refused : {n : ℕ} → n ≡ 18 → tally_sound i t ≡ false → JudgedIs i.channels c (accepted i t room s c) (Err (record { refusal = n; written = false })) entry entry list list
   unfolding accepted
-  tally_refused e = untouched (ap (λ (b : Bool). need b (refusal 18 0) (then (audio i c s) (λ x. judged i.channels t room x))) e) refl
+  tally_refused a e = untouched (ap (λ (b : Bool). need b (refusal 18 0) (then (audio i c s) (λ x. judged i.channels t room x))) e) a
 
   module _ (sound : tally_sound i t ≡ true) where
     by_head : (o : Outcome (Head × ℕ)) → came_to (head_run i c s) ≡ o
@@ -44,7 +42,7 @@ module _ (i : Identity) (c : Setup) (t : Tally) (s : List ℕ) (entry list : Lis
         ∙ ap (λ (q : Outcome Audio). then q (λ x. judged i.channels t room x)) (audio_plain i c s)
         ∙ ap (λ (q : Outcome (Head × ℕ)). then (then q (λ h. ok (plain_at i.channels c s (head_run i c s).items h.0 h.1))) (λ x. judged i.channels t room x)) e
 
-    pub head_refused : {z : Refusal} {x : Rejected} → came_to (head_run i c s) ≡ bad z → number x.reason ≡ z.number → JudgedIs i.channels c (accepted i t room s c) (Err x) entry entry list list
+    pub head_refused : {z : Refusal} {x : Rejected} → came_to (head_run i c s) ≡ bad z → x.refusal ≡ z.number → JudgedIs i.channels c (accepted i t room s c) (Err x) entry entry list list
     head_refused {z} e a = untouched (by_head (bad z) e) a
 
     pub head_read_lem : {h : Head} {k : ℕ} {r : Result Judged Rejected} {exit list' : List ℕ} → came_to (head_run i c s) ≡ ok (h, k)

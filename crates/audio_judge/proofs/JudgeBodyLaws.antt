@@ -28,7 +28,6 @@ use Rattle.audio.specs.Inner.Plain.{plain_body}
 use Rattle.audio_body.specs.declared.BodyRead.{BodyRead}
 use Rattle.audio_settle.specs.declared.Judged.{Judged}
 use Rattle.audio_settle.specs.declared.Rejected.{Rejected}
-use Rattle.bits.specs.declared.refusal.Reason.TheVariants as R
 use Rattle.audio_judge.specs.Inner.Ready.{Ready}
 use Rattle.audio_body.specs.Inner.Body.{floors_in, body_in, BodyIs, BodyReadable}
 use Rattle.audio_settle.specs.Inner.Judged.{numbered, was_written, finished_by, JudgedIs, after_head, HeadIs}
@@ -59,9 +58,9 @@ module _ (i : Identity) (t : Tables) (x : Ready i t) (s : List ℕ) (h : Head) (
     )
 
   module _ (tally : Tally) (entry list : List ℕ) {bytes : ℕ} (size : bytes ≡ i.channels * (h.blocksize / 2)) where
-    pub judged_no_room : length entry < bytes
-        → JudgedIs i.channels c (after_head i c tally s h k (room_of entry list)) (Err (record { reason = R.Room; written = false })) entry entry list list
-    judged_no_room few = no_curves_is i c tally s h k entry list (omega arith)
+    pub judged_no_room : {n : ℕ} → length entry < bytes → n ≡ 17
+        → JudgedIs i.channels c (after_head i c tally s h k (room_of entry list)) (Err (record { refusal = n; written = false })) entry entry list list
+    judged_no_room few a = no_curves_is i c tally s h k entry list a (omega arith)
 
     module _ (fits : bytes ≤ length entry) {n : ℕ} (m : n ≡ get_or t.modes (mode_width * h.mode + 1) 0) where
       module _ {y : BodyRead} {exit list' : List ℕ} (b : BodyIs
@@ -82,9 +81,9 @@ module _ (i : Identity) (t : Tables) (x : Ready i t) (s : List ℕ) (h : Head) (
         room : i.channels * (h.blocksize / 2) ≤ length entry
         room = omega arith
 
-        pub judged_full : y.words ≡ Err Full
-            → JudgedIs i.channels c (after_head i c tally s h k (room_of entry list)) (Err (record { reason = R.Room; written = true })) entry exit list list'
-        judged_full w = full_is i c tally s h k entry list (size_high i t x s h k e) room own w
+        pub judged_full : {n : ℕ} → y.words ≡ Err Full → n ≡ 17
+            → JudgedIs i.channels c (after_head i c tally s h k (room_of entry list)) (Err (record { refusal = n; written = true })) entry exit list list'
+        judged_full w a = full_is i c tally s h k entry list (size_high i t x s h k e) room own a w
 
         pub judged_whole : {r : Result Judged Rejected} {p : Progress} → y.words ≡ Ok p
             → ((stop : ℕ) → numbered r ≡ finished_by (counted tally h.blocksize stop) h y.used p.count) × (was_written r ≡ true)

@@ -10,9 +10,9 @@ use Rattle.audio_tally.specs.Inner.Answers.{counted_as}
 use Rattle.audio_settle.specs.Inner.Judged.{accepted_by, finished_by}
 
 module _ (f : ℕ → Outcome (Tally × ℕ)) {c : Option (Tally × ℕ)} (e : (stop : ℕ) → counted_as c ≡ f stop) (h : Head) (used : List ℕ) (words stop : ℕ) where
-  pub finish_refused : c ≡ None → Err 19 ≡ finished_by (f stop) h used words
+  pub finish_refused : {n : ℕ} → n ≡ 19 → c ≡ None → Err n ≡ finished_by (f stop) h used words
   unfolding counted_as
-  finish_refused m = ap (λ (o : Outcome (Tally × ℕ)). finished_by o h used words) (ap counted_as (sym m) ∙ e stop)
+  finish_refused a m = (λ j. Err (a j)) ∙ ap (λ (o : Outcome (Tally × ℕ)). finished_by o h used words) (ap counted_as (sym m) ∙ e stop)
 
   pub finish_value : {after : Tally} {samples : ℕ} → c ≡ Some (after, samples) → Ok (accepted_by h used words samples after) ≡ finished_by (f stop) h used words
   unfolding counted_as

@@ -3,12 +3,12 @@ use Rattle.std.specs.Prelude.{Result, Ok, Err}
 use Prim.Native.Nat.{ℕ, ◌≤◌}
 use mathlib.Core.Bool.{Bool, true, false, not}
 use mathlib.Core.List.{List}
-use mathlib.Core.Path.{◌≡◌, refl, ap, sym, ◌∙◌}
+use mathlib.Core.Path.{◌≡◌, ap, sym, ◌∙◌}
 use borrow.Author.Tests.{not-true, not-false}
 use lib.ListN.{get_or}
 use Rattle.bits.specs.declared.Cursor.{Cursor}
 use Rattle.bits.specs.declared.refusal.Refusal.{Refusal}
-use Rattle.bits.specs.declared.refusal.Reason.TheVariants as R
+use Rattle.bits.specs.Reasons.{number}
 use Rattle.bits.specs.Inner.Cursors.{position, outcome}
 use Rattle.bits.proofs.Answers.{value_is, refused_is}
 use Rattle.identification.specs.declared.Identity.{Identity}
@@ -53,14 +53,14 @@ module _ (i : Identity) (t : Tables) (x : Ready i t) where
       is_sound_lem : tally_sound i tally ≡ true
       is_sound_lem = sym sound ∙ not-false b left
 
-      pub judged_head_refused : {z : Refusal} → q ≡ Err z
-          → JudgedIs i.channels c (accepted i tally (room_of entry list) s c) (Err (record { reason = z.reason; written = false })) entry entry list list
-      judged_head_refused w = head_refused i c tally s entry list is_sound_lem (refused_is head_is w) refl
+      pub judged_head_refused : {z : Refusal} {n : ℕ} → q ≡ Err z → n ≡ number z.reason
+          → JudgedIs i.channels c (accepted i tally (room_of entry list) s c) (Err (record { refusal = n; written = false })) entry entry list list
+      judged_head_refused w a = head_refused i c tally s entry list is_sound_lem (refused_is head_is w) a
 
       pub judged_head_read : {h : Head} {k : Cursor} {r : Result Judged Rejected} {exit list' : List ℕ} → q ≡ Ok (h, k) → JudgedIs i.channels c (after_head i c tally s h (position k) (room_of entry list)) r entry exit list list'
           → JudgedIs i.channels c (accepted i tally (room_of entry list) s c) r entry exit list list'
       judged_head_read w j = head_read_lem i c tally s entry list is_sound_lem (head_asked w) j
 
-  pub judged_unsound : (tally : Tally) (s entry list : List ℕ) {b : Bool} → b ≡ tally_sound i tally → not b ≡ true
-      → JudgedIs i.channels c (accepted i tally (room_of entry list) s c) (Err (record { reason = R.Unsound; written = false })) entry entry list list
-  judged_unsound tally s entry list {b} e n = tally_refused i c tally s entry list (sym e ∙ not-true b n)
+  pub judged_unsound : (tally : Tally) (s entry list : List ℕ) {b : Bool} {number : ℕ} → b ≡ tally_sound i tally → not b ≡ true → number ≡ 18
+      → JudgedIs i.channels c (accepted i tally (room_of entry list) s c) (Err (record { refusal = number; written = false })) entry entry list list
+  judged_unsound tally s entry list {b} e n a = tally_refused i c tally s entry list a (sym e ∙ not-true b n)

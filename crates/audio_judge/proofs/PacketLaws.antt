@@ -45,8 +45,6 @@ use Rattle.audio_floors.proofs.FloorsLaws.{curve_long}
 use Rattle.audio_body.specs.declared.BodyRead.{BodyRead}
 use Rattle.audio_settle.specs.declared.Judged.{Judged}
 use Rattle.audio_settle.specs.declared.Rejected.{Rejected}
-use Rattle.bits.specs.declared.refusal.Reason.TheVariants as R
-use Rattle.bits.specs.Reasons as reasons
 use Rattle.audio_body.specs.Inner.Body.{ending_words, BodyIs}
 use Rattle.audio_settle.specs.Inner.Judged.{numbered, was_written, accepted_by, finished_by, judgement, curves_by, JudgedIs}
 use Rattle.audio_body.proofs.BodyWords.{Asks, asks_bind, asks_done, asks_if, asks_request, run_kept}
@@ -108,7 +106,7 @@ bad-ok : {A : Type 0} {z : Refusal} {a : A} → bad z ≡ ok a → ⊥
 bad-ok e = cc
 
 -- a refusal: what is known of the outputs, whose lengths are the same, and which are the same where nothing was written
-pub refused_is : (channels : ℕ) (c : Setup) {o : Outcome Accepted} {z : Refusal} {x : Rejected} (entry exit list list' : List ℕ) → o ≡ bad z → reasons.number x.reason ≡ z.number
+pub refused_is : (channels : ℕ) (c : Setup) {o : Outcome Accepted} {z : Refusal} {x : Rejected} (entry exit list list' : List ℕ) → o ≡ bad z → x.refusal ≡ z.number
     → length exit ≡ length entry → length list' ≡ length list → (x.written ≡ false → (exit ≡ entry) × (list' ≡ list)) → JudgedIs channels c o (Err x) entry exit list list'
 refused_is channels c entry exit list list' e a l m same =
     record {
@@ -202,8 +200,8 @@ module _ (i : Identity) (c : Setup) (t : Tally) (s : List ℕ) (h : Head) (k : �
       all_words : leb (length (residue_words body.items)) (length list) ≡ true → outcome ≡ stepped
       all_words e = by_room ∙ ap (λ (b : Bool). need b (refusal 17 0) stepped) e
 
-    pub no_curves_is : length entry < i.channels * (h.blocksize / 2) → JudgedIs i.channels c outcome (Err (record { reason = R.Room; written = false })) entry entry list list
-    no_curves_is few = refused_is i.channels c entry entry list list (no_curves few) refl refl refl (λ _. (refl, refl))
+    pub no_curves_is : {n : ℕ} → n ≡ 17 → length entry < i.channels * (h.blocksize / 2) → JudgedIs i.channels c outcome (Err (record { refusal = n; written = false })) entry entry list list
+    no_curves_is a few = refused_is i.channels c entry entry list list (no_curves few) a refl refl (λ _. (refl, refl))
 
     module _ (high : h.blocksize ≤ 8192) (fits : i.channels * (h.blocksize / 2) ≤ length entry) {exit list' : List ℕ} {x : BodyRead}
         (b : BodyIs body (channel_floors i.channels c h) floors i.channels (h.blocksize / 2) x entry exit list list') where
@@ -214,12 +212,12 @@ module _ (i : Identity) (c : Setup) (t : Tally) (s : List ℕ) (h : Head) (k : �
       words_long = ap length b.words ∙ length-sets list 0 (map listed (residue_words body.items))
 
       -- a refusal behind the body settles nothing of the outputs but their lengths
-      after_body_is : {z : Refusal} {y : Rejected} → outcome ≡ bad z → reasons.number y.reason ≡ z.number → y.written ≡ true → JudgedIs i.channels c outcome (Err y) entry exit list list'
+      after_body_is : {z : Refusal} {y : Rejected} → outcome ≡ bad z → y.refusal ≡ z.number → y.written ≡ true → JudgedIs i.channels c outcome (Err y) entry exit list list'
       after_body_is e a b = refused_is i.channels c entry exit list list' e a curves_long words_long (λ g. absurd (true-false (sym b ∙ g)))
 
-      pub full_is : x.words ≡ Err Full → JudgedIs i.channels c outcome (Err (record { reason = R.Room; written = true })) entry exit list list'
+      pub full_is : {n : ℕ} → n ≡ 17 → x.words ≡ Err Full → JudgedIs i.channels c outcome (Err (record { refusal = n; written = true })) entry exit list list'
       unfolding ending_of
-      full_is e = after_body_is (no_words fits (full_fits_not (length list) body (ap ending_of (sym e) ∙ b.ending))) refl refl
+      full_is a e = after_body_is (no_words fits (full_fits_not (length list) body (ap ending_of (sym e) ∙ b.ending))) a refl
 
       -- so many codewords, all of which have room
       read_is : {r : Result Judged Rejected} {n : ℕ} → (leb (length (residue_words body.items)) (length list) ≡ true) × (n ≡ length (residue_words body.items))

@@ -34,7 +34,7 @@ fn finish(tally: Tally, head: Head, used: [u8; 255], words: usize) -> Result<Jud
             tally: after,
         }),
         None => Err(Rejected {
-            reason: Reason::Samples,
+            refusal: Reason::Samples.number() as u32,
             written: true,
         }),
     }
@@ -58,7 +58,7 @@ fn judge_body(
 {
     if curves.len() < curve_bytes(identity.channels, head.blocksize) {
         return Err(Rejected {
-            reason: Reason::Room, // for the curves
+            refusal: Reason::Room.number() as u32, // for the curves
             written: false,
         });
     }
@@ -80,7 +80,7 @@ fn judge_body(
         Ok(progress) => finish(tally, head, used, progress.count),
         Err(Stop::Cut(progress)) => finish(tally, head, used, progress.count),
         Err(Stop::Full) => Err(Rejected {
-            reason: Reason::Room, // for the codewords
+            refusal: Reason::Room.number() as u32, // for the codewords
             written: true, // the curves, and the codewords that have room
         }),
     }
@@ -102,7 +102,7 @@ pub fn judge(
 {
     if !audio_tally::is_sound(identity, tally) {
         return Err(Rejected {
-            reason: Reason::Unsound,
+            refusal: Reason::Unsound.number() as u32,
             written: false,
         });
     }
@@ -110,7 +110,7 @@ pub fn judge(
     match audio_head::read_head(packet, identity, mode_count, tables.modes) {
         Ok((head, from)) => judge_body(tally, identity, head, from, tables, packet, curves, words),
         Err(refusal) => Err(Rejected {
-            reason: refusal.reason,
+            refusal: refusal.reason.number() as u32,
             written: false,
         }),
     }

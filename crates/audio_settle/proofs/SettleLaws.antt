@@ -18,7 +18,6 @@ use Rattle.audio.specs.declared.AudioAnswer.{AudioAnswer}
 use Rattle.audio.specs.declared.Window.{Window}
 use Rattle.audio.specs.Head.{window}
 use Rattle.audio.specs.Call.{Accepted, refused, Left, answer_of, answered, room_of, left_of}
-use Rattle.bits.specs.Reasons.{number}
 use Rattle.audio_settle.specs.declared.Judged.{Judged}
 use Rattle.audio_settle.specs.declared.Rejected.{Rejected}
 use Rattle.audio_settle.specs.Inner.Judged.{curves_by, words_by, JudgedIs, ZeroFrom, answer_by, accepted_left, early_left, refused_left, settled}
@@ -75,14 +74,14 @@ module _ (i : Identity) (t : Tally) (curves words : List ℕ) (curves_end words_
   unfolding settled
   settle_accepted e a = rw e a
 
-  module _ {r : Result Judged Rejected} {z : Rejected} (e : r ≡ Err z) {n : ℕ} (m : n ≡ number z.reason) where
-    pub settle_refused : z.written ≡ true → l ≡ refused_left n t curves words → l ≡ settled i t r curves words curves_end words_end
+  module _ {r : Result Judged Rejected} {z : Rejected} (e : r ≡ Err z) where
+    pub settle_refused : z.written ≡ true → l ≡ refused_left z.refusal t curves words → l ≡ settled i t r curves words curves_end words_end
     unfolding settled
-    settle_refused f a = rw (e, f, ← m) a
+    settle_refused f a = rw (e, f) a
 
-    pub settle_early : z.written ≡ false → l ≡ early_left n t curves words curves_end words_end → l ≡ settled i t r curves words curves_end words_end
+    pub settle_early : z.written ≡ false → l ≡ early_left z.refusal t curves words curves_end words_end → l ≡ settled i t r curves words curves_end words_end
     unfolding settled
-    settle_early f a = rw (e, f, ← m) a
+    settle_early f a = rw (e, f) a
 
 -- WHAT IS LEFT IS WHAT THE CALL'S DEFINITION SAYS, where both outputs held nothing from a place on
 module _ (i : Identity) (c : Setup) (t : Tally) (entry list : List ℕ) (curves_end words_end : ℕ) (zc : ZeroFrom curves_end entry) (zw : ZeroFrom words_end list) where
@@ -107,7 +106,7 @@ module _ (i : Identity) (c : Setup) (t : Tally) (entry list : List ℕ) (curves_
   settled_is (bad w) {r = Ok a} j = absurd (ok_not_err j.answer)
   settled_is (bad w) {r = Err z} {exit} {list'} j = pick z.written refl
     where
-      same : number z.reason ≡ w.number
+      same : z.refusal ≡ w.number
       same = err_is j.answer
 
       pick : (b : Bool) → z.written ≡ b → settled i t (Err z) exit list' curves_end words_end ≡ refused_left w.number t entry list

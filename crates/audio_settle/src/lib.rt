@@ -10,7 +10,6 @@ ghost use Rattle.audio_settle.specs.Inner.Judged.{answer_by, accepted_left, earl
 
 use audio::{AudioAnswer, AudioLeft, Head, Tally, Window};
 use audio_head::points::window;
-use bits::refusal::Reason;
 use clear::clear_between;
 use identification::Identity;
 use reading::buffers::clear;
@@ -29,11 +28,11 @@ pub struct Judged {
     pub tally: Tally,
 }
 
-// A packet that is sent back: why, and whether anything was written to the outputs before. No reason tells that: 17 is found before anything is written and
-// after.
+// A packet that is sent back: the number of the refusal, as C is answered, and whether anything was written to the outputs before. No number tells that: 17 is
+// found before anything is written and after.
 #[derive(Clone, Copy)]
 pub struct Rejected {
-    pub reason: Reason,
+    pub refusal: u32,
     pub written: bool,
 }
 
@@ -136,7 +135,7 @@ fn accept(
     }
 }
 
-// What judging came to, as the call leaves it.
+// What judging came to, as the call leaves it. As `refuse` does, it takes any number of a refusal.
 pub fn settle(
     identity: Identity,
     tally: Tally,
@@ -153,7 +152,7 @@ pub fn settle(
     match judged {
         Ok(packet) => accept(identity, packet, curves, words, curves_end, words_end),
         Err(rejected) => {
-            let refusal = rejected.reason.number() as u32;
+            let refusal = rejected.refusal;
             if rejected.written {
                 refuse(refusal, tally, curves, words)
             } else {

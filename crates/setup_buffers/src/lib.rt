@@ -9,7 +9,6 @@ ghost use Rattle.setup_buffers.specs.Inner.Blank.{LeftBlank};
 ghost use Rattle.setup_buffers.specs.Inner.Settled.{settled};
 
 use bits::Cursor;
-use bits::refusal::Refusal;
 use limits::Limits;
 use reading::buffers;
 use setup::lent::{LentTables, LentTablesMut};
@@ -85,16 +84,16 @@ pub fn clear(tables: &mut LentTablesMut<'_>)
 }
 
 // 0 where the packet was read through: the tables stay as they are. Else the number of the refusal, as C is answered, and every table
-// is all zero.
-pub fn settle(answer: Result<Cursor, Refusal>, tables: &mut LentTablesMut<'_>) -> u32
+// is all zero. Any number is taken, not 01's alone: a caller may have its own.
+pub fn settle(answer: Result<Cursor, u8>, tables: &mut LentTablesMut<'_>) -> u32
     ensures left { left result (held_mut tables.new) ≡ settled answer (held_mut tables.old) }
     ensures lent { StaysLent tables.old tables.new }
 {
     match answer {
         Ok(_) => 0,
-        Err(refusal) => {
+        Err(number) => {
             clear(tables);
-            refusal.reason.number() as u32
+            number as u32
         }
     }
 }

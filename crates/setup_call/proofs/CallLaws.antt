@@ -36,8 +36,11 @@ call_whole limits i s t = go (is_sound limits.channels i) (has_room limits t)
     go true true = setup_whole limits i.channels s
 
 -- what an answer leaves, once the packet was judged and read
-pub settled_call : (limits : Limits) (i : Identity) (s : List ℕ) (t : Tables) {v : Tables} (answer : Result Cursor Refusal) → ReadInto (checked_part limits i s t) answer (WrittenOut t v) → SameLengths v t
-    → settled answer v ≡ setup_call limits i s t
-unfolding settled setup_call answered
-settled_call limits i s t (Ok c) l same = let a = read_into_ok l refl in rw (call_whole limits i s t, a.1) (ap (left 0) a.2)
-settled_call limits i s t (Err z) l same = rw (call_whole limits i s t, read_into_bad l refl) (ap (left (number z.reason)) (same_cleared same))
+module _ (limits : Limits) (i : Identity) (s : List ℕ) (t : Tables) {v : Tables} {answer : Result Cursor Refusal} (l : ReadInto (checked_part limits i s t) answer (WrittenOut t v)) where
+  pub settled_read : {c : Cursor} → answer ≡ Ok c → settled (Ok c) v ≡ setup_call limits i s t
+  unfolding settled setup_call answered
+  settled_read q = let a = read_into_ok l q in rw (call_whole limits i s t, a.1) (ap (left 0) a.2)
+
+  pub settled_refused : {z : Refusal} {n : ℕ} → answer ≡ Err z → n ≡ number z.reason → SameLengths v t → settled (Err n) v ≡ setup_call limits i s t
+  unfolding settled setup_call answered
+  settled_refused q e same = rw (call_whole limits i s t, read_into_bad l q) (λ j. left (e j) (same_cleared same j))

@@ -28,6 +28,8 @@ pub fn read_setup(
     ensures accepted_sound { AcceptedSound limits identity packet.now (held_mut tables.old) }
     ensures lent { StaysLent tables.old tables.new }
 {
-    let answer = read_checked(packet, identity, limits, tables);
-    settle(answer, tables)
+    match read_checked(packet, identity, limits, tables) {
+        Ok(next) => settle(Ok(next), tables),
+        Err(refusal) => settle(Err(refusal.reason.number()), tables),
+    }
 }

@@ -5,7 +5,7 @@ use borrow.Author.Rules.{rules}
 use Rattle.audio_judge.proofs.finish.Goals as goal
 
 pub returns-in-None : goal.returns-in-None
-returns-in-None c = (λ stop. finish_refused _ c.count.ensures _ _ _ stop (search rules), refl)
+returns-in-None c = (λ stop. finish_refused _ c.count.ensures _ _ _ stop c.number.ensures (search rules), refl)
 
 pub returns-in-Some : goal.returns-in-Some
 returns-in-Some c = (λ stop. finish_value _ c.count.ensures _ _ _ stop c.in-Some.is, refl)

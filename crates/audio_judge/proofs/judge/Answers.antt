@@ -6,7 +6,7 @@ use Rattle.audio_judge.proofs.judge.Goals as goal
 
 pub returns-then-not-is_sound : goal.returns-then-not-is_sound
 returns-then-not-is_sound c =
-    judged_unsound _ _ c.requires _ _ _ _ c.is_sound.ensures (ap not c.if-not-is_sound.true)
+    judged_unsound _ _ c.requires _ _ _ _ c.is_sound.ensures (ap not c.if-not-is_sound.true) c.number.ensures
 
 pub read_head-requires : goal.read_head-requires
 read_head-requires c = modes_asked _ _ c.requires c.get-mode_count.ensures
@@ -18,7 +18,7 @@ judge_body-requires c =
 pub returns-in-Err : goal.returns-in-Err
 returns-in-Err c =
     judged_head_refused _ _ c.requires c.args.packet.now c.get-mode_count.ensures _ c.read_head.ensures
-    c.args.tally c.args.curves.now c.args.words.now c.is_sound.ensures (ap not c.if-not-is_sound.false) c.in-Err.is
+    c.args.tally c.args.curves.now c.args.words.now c.is_sound.ensures (ap not c.if-not-is_sound.false) c.in-Err.is c.number-in-Err.ensures
 
 pub returns-in-Ok : goal.returns-in-Ok
 returns-in-Ok c =

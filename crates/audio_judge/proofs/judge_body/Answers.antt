@@ -7,7 +7,7 @@ pub curve_bytes-requires : goal.curve_bytes-requires
 curve_bytes-requires c = sizes_asked _ _ c.requires.0 _ _ _ c.requires.1
 
 pub returns-then-curves-curve_bytes : goal.returns-then-curves-curve_bytes
-returns-then-curves-curve_bytes c = judged_no_room _ _ c.requires.0 _ _ _ c.requires.1 _ _ _ c.curve_bytes.ensures c.if-curves-curve_bytes.true
+returns-then-curves-curve_bytes c = judged_no_room _ _ c.requires.0 _ _ _ c.requires.1 _ _ _ c.curve_bytes.ensures c.if-curves-curve_bytes.true c.number.ensures
 
 pub mapping-mapping-requires : goal.mapping-mapping-requires
 mapping-mapping-requires c = mode_asked _ _ c.requires.0 _ _ _ c.requires.1
@@ -29,4 +29,4 @@ returns-in-Err-Cut c =
 pub returns-in-Err-Full : goal.returns-in-Err-Full
 returns-in-Err-Full c =
     judged_full _ _ c.requires.0 _ _ _ c.requires.1 _ _ _ c.curve_bytes.ensures c.if-curves-curve_bytes.false c.mapping-mapping.ensures c.read_body-body.ensures
-    (search rules)
+    (search rules) c.number-in-Err-Full.ensures

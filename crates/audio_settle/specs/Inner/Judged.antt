@@ -4,7 +4,6 @@ use Rattle.std.proofs.lemmas.List.Edits.{sets}
 use Rattle.reading.specs.Least.{one}
 use Rattle.reading.specs.Outcome.{Outcome, ok, bad}
 use Rattle.reading.specs.Pad.{pad}
-use Rattle.bits.specs.Reasons.{number}
 use Rattle.identification.specs.declared.Identity.{Identity}
 use Rattle.setup.specs.Content.{Setup}
 use Rattle.requests.specs.Refusing.{came_to}
@@ -28,7 +27,7 @@ accepted_by h used words samples t = record { head = h; used = used; words = wor
 -- an answer with the number of its refusal
 abbrev pub numbered : Result Judged Rejected → Result Judged ℕ
 numbered (Ok r) = Ok r
-numbered (Err z) = Err (number z.reason)
+numbered (Err z) = Err z.refusal
 
 -- whether anything was written to the outputs; a refusal may come before that
 abbrev pub was_written : Result Judged Rejected → Bool
@@ -115,4 +114,4 @@ early_left n t curves words curves_end words_end =
 unfoldable pub settled : Identity → Tally → Result Judged Rejected → List ℕ → List ℕ → ℕ → ℕ → Left
 settled i t (Ok r) curves words curves_end words_end = accepted_left i r curves words curves_end words_end
 settled i t (Err z) curves words curves_end words_end =
-    cond z.written (refused_left (number z.reason) t curves words) (early_left (number z.reason) t curves words curves_end words_end)
+    cond z.written (refused_left z.refusal t curves words) (early_left z.refusal t curves words curves_end words_end)

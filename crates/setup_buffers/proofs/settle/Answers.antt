@@ -6,4 +6,4 @@ pub returns-in-Ok-clause-left : goal.returns-in-Ok-clause-left
 returns-in-Ok-clause-left c = search settled_next
 
 pub returns-in-Err-clause-left : goal.returns-in-Err-clause-left
-returns-in-Err-clause-left c = settled_refused _ _ c.in-Err.is c.number.ensures c.clear.ensures.after
+returns-in-Err-clause-left c = settled_refused _ _ c.in-Err.is c.clear.ensures.after
