@@ -15,6 +15,9 @@ ghost use Rattle.torchvalley.specs.Answers.{answer_of, no_identity};
 use identification::Identity;
 use limits::Limits;
 
+// The ten lists of the tables, as the calls take them: to be read, and to be written. A caller names them here and needs no crate beside this one.
+pub use setup::lent::{LentTables, LentTablesMut};
+
 // What an identification packet comes to. No Result: it is laid out for C.
 #[repr(C)]
 #[derive(Clone, Copy)]
