@@ -7,7 +7,7 @@ ghost use Rattle.audio.specs.Claims.{AudioClaims};
 
 use audio::{AudioAnswer, AudioLeft, Tally};
 use identification::Identity;
-use setup::lent::LentTables;
+use torchvalley::LentTables;
 
 // Reads an audio packet, under 01's limits; the tally is brought up to date where it lies. Accepted, the answer's refusal is 0, `curves` has channels times n/2
 // bytes and `words` the codewords of the residues, zeros behind them. Else the answer is the number of the refusal alone, both outputs are all zero and the

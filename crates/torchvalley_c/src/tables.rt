@@ -10,8 +10,8 @@ ghost use Rattle.limits.specs.Standard.{standard};
 ghost use Rattle.torchvalley.specs.Codeword.{codeword_answer};
 
 use identification::Identity;
-use setup::lent::{LentTables, LentTablesMut};
 use torchvalley::tables::CodewordAnswer;
+use torchvalley::{LentTables, LentTablesMut};
 
 // Reads a setup packet into the lent tables, under 01's limits. 0 where it is accepted: the tables hold its content, and zeros behind it. Else the
 // number of the refusal, and every table is all zero.
