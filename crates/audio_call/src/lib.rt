@@ -1,6 +1,9 @@
 // THE AUDIO CALL, twice: for tables that are known to be sound, as a caller has them from its own setup; and for any tables, which are judged first.
 #![tactic(auto)]
 
+#[cfg(test)]
+mod cases;
+
 ghost use Rattle.std.specs.Prelude.{◌≤◌, ◌≡◌};
 ghost use Rattle.limits.specs.Standard.{standard};
 ghost use Rattle.setup.specs.Handed.{held};

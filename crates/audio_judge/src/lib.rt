@@ -1,13 +1,14 @@
 // An audio packet judged: the head, then room, floors, residues and the tally, in 01's order.
 #![tactic(auto)]
 
-ghost use Rattle.std.specs.Prelude.{ℕ, true, ◌≡◌};
+ghost use Rattle.std.specs.Prelude.{ℕ, true, ◌≡◌, IfErr};
 ghost use Rattle.bits.specs.Inner.Cursors.{position};
 ghost use Rattle.setup.specs.Handed.{held};
 ghost use Rattle.setup.specs.Inner.Decode.{decode_setup};
 ghost use Rattle.audio.specs.Tally.{counted};
 ghost use Rattle.audio.specs.Call.{accepted, room_of};
 ghost use Rattle.audio_judge.specs.Inner.Ready.{Ready};
+ghost use Rattle.audio_judge.specs.Inner.Reasons.{HasReason};
 ghost use Rattle.audio_settle.specs.Inner.Judged.{numbered, was_written, finished_by, after_head, HeadIs, JudgedIs};
 
 use audio::{Head, Tally};
@@ -23,7 +24,8 @@ use setup::lent::LentTables;
 
 // The samples of a packet that was read: the last thing that is judged (01, refusal 19).
 fn finish(tally: Tally, head: Head, used: [u8; 255], words: usize) -> Result<Judged, Rejected>
-    ensures { ((stop : ℕ) → numbered result ≡ finished_by (counted tally head.blocksize stop) head used words) × (was_written result ≡ true) }
+    ensures finished { ((stop : ℕ) → numbered result ≡ finished_by (counted tally head.blocksize stop) head used words) × (was_written result ≡ true) }
+    ensures reason { IfErr result (λ x. HasReason x.refusal) }
 {
     match audio_tally::count(tally, head.blocksize) {
         Some((after, samples)) => Ok(Judged {
@@ -52,9 +54,10 @@ fn judge_body(
     words: &mut [u32],
 ) -> Result<Judged, Rejected>
     requires { Ready identity (held tables) × HeadIs identity (decode_setup (held tables)) packet.now head (position from) }
-    ensures { JudgedIs identity.channels (decode_setup (held tables.entry))
+    ensures judged { JudgedIs identity.channels (decode_setup (held tables.entry))
         (after_head identity (decode_setup (held tables.entry)) tally packet.now head (position from) (room_of curves.old words.old))
         result curves.old curves.new words.old words.new }
+    ensures reason { IfErr result (λ x. HasReason x.refusal) }
 {
     if curves.len() < curve_bytes(identity.channels, head.blocksize) {
         return Err(Rejected {
@@ -96,9 +99,10 @@ pub fn judge(
     words: &mut [u32],
 ) -> Result<Judged, Rejected>
     requires { Ready identity (held tables) }
-    ensures { JudgedIs identity.channels (decode_setup (held tables.entry))
+    ensures judged { JudgedIs identity.channels (decode_setup (held tables.entry))
         (accepted identity tally (room_of curves.old words.old) packet.now (decode_setup (held tables.entry)))
         result curves.old curves.new words.old words.new }
+    ensures reason { IfErr result (λ x. HasReason x.refusal) }
 {
     if !audio_tally::is_sound(identity, tally) {
         return Err(Rejected {

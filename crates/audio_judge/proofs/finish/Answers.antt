@@ -4,8 +4,8 @@ use Rattle.audio_judge.proofs.JudgeLaws.{finish_refused, finish_value}
 use borrow.Author.Rules.{rules}
 use Rattle.audio_judge.proofs.finish.Goals as goal
 
-pub returns-in-None : goal.returns-in-None
-returns-in-None c = (λ stop. finish_refused _ c.count.ensures _ _ _ stop c.number.ensures (search rules), refl)
+pub returns-in-None-clause-finished : goal.returns-in-None-clause-finished
+returns-in-None-clause-finished c = (λ stop. finish_refused _ c.count.ensures _ _ _ stop c.number.ensures (search rules), refl)
 
-pub returns-in-Some : goal.returns-in-Some
-returns-in-Some c = (λ stop. finish_value _ c.count.ensures _ _ _ stop c.in-Some.is, refl)
+pub returns-in-Some-clause-finished : goal.returns-in-Some-clause-finished
+returns-in-Some-clause-finished c = (λ stop. finish_value _ c.count.ensures _ _ _ stop c.in-Some.is, refl)
